@@ -1,0 +1,135 @@
+//! Identifiers of units, runs, persons and the parts of a unit.
+ghost use Rattle.std.specs.Prelude.{◌≡◌, List, ℕ, IfOk, IfSome, IfNone, IsTrue, string_bytes, false, IfErr};
+ghost use Rattle.std.specs.Str.{IsUtf8, bytes_eq};
+ghost use Rattle.std.specs.List.{list_all};
+ghost use Rattle.std.specs.Hash as fed;
+ghost use Rattle.std.specs.Cmp.Rules.{comparing, hashing};
+ghost use Rattle.std.proofs.Common.{rules};
+ghost use Rattle.ld_base.specs.Identifier.{IsIdentifier, has_identifier_form, begins_well, begins_identifier, continues_identifier};
+
+use crate::memory::NoMemory;
+use std::alloc::Global;
+use std::hash::{Hash, Hasher};
+use std::marker::Model;
+
+/// An identifier, seen by contracts as its bytes.
+#[derive(Drop)]
+pub struct Id {
+    text: String,
+}
+
+impl Model for Id {
+    ghost Value = { List ℕ };
+
+    ghost view = { λ s. string_bytes s.text };
+}
+
+impl Id {
+    /// The identifier of these bytes. `Ok(None)` exactly where the bytes are no identifier.
+    pub fn read(alloc: Global, bytes: &[u8]) -> Result<Option<Id>, NoMemory>
+        ensures some { IfOk result (λ o. IfSome o (λ id. (id ≡ bytes.now))) }
+        ensures form { IfOk result (λ o. IfSome o (λ _. IsIdentifier bytes.now)) }
+        ensures none { IfOk result (λ o. IfNone o (has_identifier_form bytes.now ≡ false)) }
+    {
+        if !has_form(bytes) {
+            return Ok(None);
+        }
+        match str::from_utf8(bytes) {
+            Ok(text) => Ok(Some(Id {
+                text: String::from_str(alloc, text)?,
+            })),
+            Err(_) => unreachable!(),
+        }
+    }
+
+    /// The identifier's text.
+    pub fn as_str(&self) -> &str
+        ensures bytes { result.now ≡ self.now }
+        ensures utf8 { IsUtf8 result.now }
+    {
+        self.text.as_str()
+    }
+
+    /// The same identifier once more.
+    pub fn copy(&self) -> Result<Id, NoMemory>
+        ensures { IfOk result (λ id. id ≡ self.now) }
+    {
+        let text = self.text.clone()?;
+        Ok(Id { text })
+    }
+}
+
+impl PartialEq for Id {
+    ghost eq = { bytes_eq };
+
+    ghost laws = { Prim.search (comparing, rules) };
+
+    fn eq(&self, other: &Id) -> bool {
+        self.text == other.text
+    }
+}
+
+impl Eq for Id {
+    ghost laws = { Prim.search (comparing, rules) };
+}
+
+impl Hash for Id {
+    ghost hash_input = { fed.str };
+
+    ghost respects_eq = { Prim.search (hashing, rules) };
+
+    fn hash<H: Hasher>(&self, state: &mut H) {
+        self.text.hash(state)
+    }
+}
+
+/// Whether the bytes have the form of an identifier.
+fn has_form(bytes: &[u8]) -> bool
+    ensures { result ≡ has_identifier_form bytes.now }
+{
+    if !begins_form(bytes) {
+        return false;
+    }
+    if bytes.len() > 64 {
+        return false;
+    }
+    all_continue(bytes)
+}
+
+/// Whether an identifier may go on with each of the bytes.
+fn all_continue(bytes: &[u8]) -> bool
+    ensures { result ≡ list_all continues_identifier bytes.now }
+{
+    for b in bytes {
+        if !continues(*b) {
+            return false;
+        }
+    }
+    true
+}
+
+/// Whether there is a first byte and an identifier may begin with it.
+fn begins_form(bytes: &[u8]) -> bool
+    ensures { result ≡ begins_well bytes.now }
+{
+    let [first, ..] = bytes else {
+        return false;
+    };
+    begins(*first)
+}
+
+/// Whether an identifier may begin with this character.
+#[tactic(auto, unfolding(crate::specs::Identifier::begins_identifier))]
+fn begins(b: u8) -> bool
+    ensures { result ≡ begins_identifier b }
+{
+    b.is_ascii_alphabetic() || b == b'_'
+}
+
+/// Whether an identifier may go on with this character.
+#[tactic(auto, unfolding(crate::specs::Identifier::continues_identifier))]
+fn continues(b: u8) -> bool
+    ensures { result ≡ continues_identifier b }
+{
+    b.is_ascii_alphanumeric() || b == b'_' || b == b'-' || b == b'.'
+}

@@ -1,0 +1,12 @@
+//! What every other crate stands on: numbers of the parts of a unit, texts, identifiers, lists, the
+//! count of steps, and the three objects of the outside (shelf, source, sink) with their versions
+//! over memory and over the real machine.
+#![tactic(auto)]
+
+pub mod bytes;
+pub mod id;
+pub mod items;
+pub mod memory;
+pub mod numbers;
+pub mod steps;
+pub mod text;

@@ -1,0 +1,29 @@
+//! The numbers by which a run speaks of the parts of its unit, each counted from 0.
+
+/// A role, in document order.
+#[derive(Clone, Copy, Debug, PartialEq, Eq, PartialOrd, Ord, Hash)]
+pub struct RoleNo(pub u32);
+
+/// A play, act, role-part, activity, structure, environment, learning object, service or item, all
+/// in one numbering.
+#[derive(Clone, Copy, Debug, PartialEq, Eq, PartialOrd, Ord, Hash)]
+pub struct ThingNo(pub u32);
+
+/// A property, in document order.
+#[derive(Clone, Copy, Debug, PartialEq, Eq, PartialOrd, Ord, Hash)]
+pub struct PropNo(pub u32);
+
+/// A rule, in the order in which a sweep visits them.
+#[derive(Clone, Copy, Debug, PartialEq, Eq, PartialOrd, Ord, Hash)]
+pub struct RuleNo(pub u32);
+
+/// A person, in the order of enrolment.
+#[derive(Clone, Copy, Debug, PartialEq, Eq, PartialOrd, Ord, Hash)]
+pub struct PersonNo(pub u32);
+
+/// What one firing did beside its writes: writes that did not fit, and notices appended.
+#[derive(Clone, Copy, Debug, PartialEq, Eq)]
+pub struct Fired {
+    pub rejected: u32,
+    pub sent: u32,
+}
