@@ -8,5 +8,6 @@ pub mod id;
 pub mod items;
 pub mod memory;
 pub mod numbers;
+pub mod plain_text;
 pub mod steps;
 pub mod text;
