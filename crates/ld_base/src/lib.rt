@@ -8,5 +8,8 @@ pub mod id;
 pub mod items;
 pub mod memory;
 pub mod numbers;
+pub mod shelf;
+pub mod sink;
+pub mod source;
 pub mod steps;
 pub mod text;
