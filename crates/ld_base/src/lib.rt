@@ -9,5 +9,8 @@ pub mod items;
 pub mod memory;
 pub mod numbers;
 pub mod plain_text;
+pub mod shelf;
+pub mod sink;
+pub mod source;
 pub mod steps;
 pub mod text;
