@@ -5,5 +5,6 @@
 pub mod activity;
 pub mod cell;
 pub mod method;
+pub mod names;
 pub mod role;
 pub mod unit;

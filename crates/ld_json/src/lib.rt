@@ -1,0 +1,8 @@
+//! Documents in JSON whose parts know their places, and the faults that stand at these places.
+#![tactic(auto)]
+
+pub mod code;
+pub mod doc;
+pub mod file;
+pub mod node;
+pub mod print;
