@@ -1,0 +1,7 @@
+//! Values of the seven datatypes of a property: reading them from texts, testing them against
+//! restrictions, and printing them.
+#![tactic(auto)]
+
+mod digits;
+pub mod moment;
+pub mod value;
