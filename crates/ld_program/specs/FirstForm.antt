@@ -190,17 +190,18 @@ abbrev pub tree_of : Option (List ℕ) → Option Data
 tree_of None = None
 tree_of (Some bytes) = provided (nat_le (length bytes) 4194304) bytes >>= json_of
 
-abbrev pub is_absent : Option (List ℕ) → Bool
-is_absent None = true
-is_absent (Some _) = false
+-- Going on only where there is no file.
+abbrev pub none_there : Option (List ℕ) → Option Bool
+none_there None = Some true
+none_there (Some _) = None
 
 -- The valid unit of the folder, or none where the folder has not this form.
 unfoldable pub unit_in : Files → List ℕ → Option Course
 unit_in files folder = do
   roles ← tree_of (files folder (codes "roles.json")) >>= roles_of
-  _ ← provided (is_absent (files folder (codes "properties.json"))) tt
-  _ ← provided (is_absent (files folder (codes "environments.json"))) tt
+  _ ← none_there (files folder (codes "properties.json"))
+  _ ← none_there (files folder (codes "environments.json"))
   activities ← tree_of (files folder (codes "activities.json")) >>= activities_of
   unit ← tree_of (files folder (codes "unit.json")) >>= unit_of roles activities
-  _ ← provided (is_absent (files folder (codes "conditions.json"))) tt
+  _ ← none_there (files folder (codes "conditions.json"))
   provided (is_valid unit) unit
