@@ -1,3 +1,4 @@
 pub mod Identifier
 pub mod Roomy
 pub mod Outside
+pub mod Maybe

@@ -6,3 +6,4 @@ pub mod Print
 pub mod Reads
 pub mod Steps
 pub mod TreeCode
+pub mod Json

@@ -1,3 +1,11 @@
+pub mod Answers
+pub mod Firing
 pub mod FirstForm
 pub mod Json
 pub mod Maybe
+pub mod Reply
+pub mod Step
+pub mod Tests
+pub mod Tree
+pub mod World
+pub mod StateView

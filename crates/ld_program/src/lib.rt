@@ -1,2 +1,4 @@
-//! The top call.
+//! The engine behind the command `ld`: from the documents and the lines of commands to the replies.
 #![tactic(auto)]
+
+pub mod state;
