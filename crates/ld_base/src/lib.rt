@@ -13,3 +13,4 @@ pub mod sink;
 pub mod source;
 pub mod steps;
 pub mod text;
+pub mod write;
