@@ -1,7 +1,7 @@
 -- Bytes that are added or taken piece by piece, where they are told.
 use Rattle.std.proofs.Common.{ℕ, List, [], ◌++◌, ◌+◌, ◌≡◌, Option, Some, None, take, drop, refl, ap, sym, ◌∙◌, append_assoc, append-nil}
 use Rattle.std.proofs.Math.Seq.{take-add}
-use Rattle.std.proofs.lemmas.List.{take-append-drop}
+use Rattle.std.proofs.lemmas.List.{take-append-drop, drop-drop}
 use Rattle.ld_base.specs.Outside.{then_piece, piece_then, AddsPrefix}
 
 pub then_piece-nil : (held : Option (List ℕ)) → then_piece held [] ≡ held
@@ -28,3 +28,7 @@ then_piece-take held bytes done n =
 -- The first bytes are a beginning of them all.
 pub AddsPrefix-take : (held : Option (List ℕ)) (bytes : List ℕ) (n : ℕ) → AddsPrefix held bytes (then_piece held (take n bytes))
 AddsPrefix-take held bytes n = (take n bytes, drop n bytes, sym (take-append-drop n bytes), refl)
+
+-- What is left from a place on: the next bytes, and those behind them.
+pub take-then-drop : (bytes : List ℕ) (start n : ℕ) → take n (drop start bytes) ++ drop (start + n) bytes ≡ drop start bytes
+take-then-drop bytes start n = ap (λ rest. take n (drop start bytes) ++ rest) (sym (drop-drop n start bytes)) ∙ take-append-drop n (drop start bytes)

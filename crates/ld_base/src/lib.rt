@@ -4,9 +4,12 @@
 #![tactic(auto)]
 
 pub mod bytes;
+mod calls;
+pub mod file;
 pub mod id;
 pub mod items;
 pub mod memory;
+pub mod memory_source;
 pub mod numbers;
 pub mod shelf;
 pub mod sink;
