@@ -9,6 +9,8 @@ pub mod file;
 pub mod id;
 pub mod items;
 pub mod memory;
+pub mod memory_shelf;
+pub mod memory_sink;
 pub mod memory_source;
 pub mod numbers;
 pub mod shelf;
