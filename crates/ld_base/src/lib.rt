@@ -6,6 +6,7 @@
 pub mod bytes;
 mod calls;
 pub mod file;
+pub mod folder_shelf;
 pub mod id;
 pub mod items;
 pub mod memory;
@@ -16,6 +17,8 @@ pub mod numbers;
 pub mod shelf;
 pub mod sink;
 pub mod source;
+pub mod stdin_source;
+pub mod stdout_sink;
 pub mod steps;
 pub mod text;
 pub mod write;
