@@ -1,24 +1,32 @@
 //! Real folders as a shelf.
-ghost use Rattle.std.specs.Prelude.{◌≡◌, ◌≤◌, None, IfOk, IfSome, length};
+ghost use Rattle.std.specs.Prelude.{◌≡◌, ℕ, ◌≤◌, None, IfOk, IfSome, length};
 ghost use Rattle.ld_base.specs.Outside.{Rose};
 
 use crate::shelf::{FILE_LIMIT, Shelf, ShelfRefusal};
 use std::alloc::Global;
 use std::fs;
 use std::io::{ErrorKind, Read};
+use std::marker::Model;
 use std::rt::Files;
 
-/// The folders of the machine, named by paths. It tells nothing of what they hold.
+/// The folders of the machine, named by paths. It tells nothing of what they hold; contracts see the
+/// count of faults.
 #[derive(Drop)]
 pub struct FolderShelf<'a, R: Files> {
     rt: &'a R,
     faults: u64,
 }
 
+impl<'a, R: Files> Model for FolderShelf<'a, R> {
+    ghost Value = { ℕ };
+
+    ghost view = { λ s. s.faults };
+}
+
 impl<'a, R: Files> FolderShelf<'a, R> {
     /// A shelf over the files that `rt` reaches.
     pub fn new(rt: &'a R) -> FolderShelf<'a, R>
-        ensures { result.faults ≡ 0 }
+        ensures { result ≡ 0 }
     {
         FolderShelf { rt, faults: 0 }
     }
@@ -27,7 +35,7 @@ impl<'a, R: Files> FolderShelf<'a, R> {
 impl<R: Files> Shelf for FolderShelf<'_, R> {
     ghost files = { λ _. None };
 
-    ghost faults = { λ s. s.faults };
+    ghost faults = { λ count. count };
 
     /// Reads the file at the path `folder/file`. A file or a folder that is not there is no such
     /// file; every other error of the system is a failure and raises the count of faults.

@@ -6,7 +6,7 @@ abbrev pub invariant-loop-done : goal.invariant-loop-done
 invariant-loop-done g l = record {
   within : l.done ≤ length l.bytes;
   bytes : g.K.Sink.written l.sink ≡ then_piece (g.K.Sink.written l.fn.sink) (take l.done l.bytes);
-  counts : g.K.Sink.faults l.fn.sink ≤ g.K.Sink.faults l.sink
+  counts : g.K.Sink.faults l.fn.sink ≤ g.K.Sink.faults l.sink;
 }
 
 abbrev pub decreases-loop-done : goal.decreases-loop-done
