@@ -1,4 +1,6 @@
+pub mod Access
 pub mod Codes
+pub mod Fault
 pub mod Files
 pub mod Node
 pub mod Places

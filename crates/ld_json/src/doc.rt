@@ -73,7 +73,7 @@ impl Doc {
     pub fn root(&self, file: FileNo) -> Node<'_>
         ensures { result ≡ record { file = file; place = []; tree = self.now } }
     {
-        Node::whole(&self.tree, file)
+        Node::of_document(&self.tree, file)
     }
 
     /// Appends the document as JSON with no white space and its members in byte order. Where memory

@@ -3,6 +3,8 @@
 
 pub mod code;
 pub mod doc;
+pub mod fault;
 pub mod file;
 pub mod node;
+pub mod place;
 pub mod print;

@@ -1,0 +1,4 @@
+pub mod Elements
+pub mod Escapes
+pub mod Listed
+pub mod Sole

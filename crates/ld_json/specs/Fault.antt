@@ -1,0 +1,35 @@
+-- What a refusal says: which file, which place in it, and why.
+use Rattle.std.specs.Prelude.{◌≡◌, ℕ, List, ◌∷◌}
+use Rattle.ld_json.specs.declared.code.Code.{Code}
+use Rattle.ld_json.specs.declared.file.FileNo.{FileNo}
+use Rattle.ld_json.specs.declared.fault.Fault.{Fault}
+use Rattle.ld_json.specs.declared.fault.ReadFault.{ReadFault}
+use Rattle.ld_json.specs.declared.fault.ReadFault.TheVariants.{Refused, NoMemory}
+use Rattle.ld_json.specs.Node.{Placed}
+
+pub record Told : Type 0 where
+  pub file : FileNo
+  pub place : List ℕ
+  pub code : Code
+
+-- The fault of this code at the node.
+abbrev pub fault_at : Placed → Code → Told
+fault_at node code = record { file = node.file; place = node.place; code = code }
+
+-- What the fault says.
+abbrev pub told : Fault → Told
+told fault = record { file = fault.file; place = fault.place.bytes; code = fault.code }
+
+-- The error says just this. Want of memory says nothing.
+abbrev pub Says : Told → ReadFault → Type 0
+Says fault (Refused refused) = told refused ≡ fault
+Says fault NoMemory = Unit {0}
+
+-- The error says that the node has the fault of this code. Want of memory says nothing.
+abbrev pub SaysFault : Placed → Code → ReadFault → Type 0
+SaysFault node code error = Says (fault_at node code) error
+
+-- The error says the first of these faults, so there is one. Want of memory says nothing.
+abbrev pub SaysFirst : List Told → ReadFault → Type 0
+SaysFirst faults (Refused refused) = (rest : List Told) × (faults ≡ told refused ∷ rest)
+SaysFirst faults NoMemory = Unit {0}

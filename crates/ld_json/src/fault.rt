@@ -1,0 +1,56 @@
+//! What is wrong with a unit: a file, a place in it and a code.
+ghost use Rattle.std.specs.Prelude.{◌≡◌};
+
+use crate::code::Code;
+use crate::file::FileNo;
+use ld_base::memory::NoMemory;
+use ld_base::text::Text;
+use std::alloc::{AllocError, AllocFailed};
+
+/// The fault at one place of a file. The place is a JSON pointer, empty for the whole document.
+#[derive(Drop)]
+pub struct Fault {
+    pub file: FileNo,
+    pub place: Text,
+    pub code: Code,
+}
+
+/// Why a unit was not read: its first fault, or want of memory.
+#[derive(Drop)]
+pub enum ReadFault {
+    Refused(Fault),
+    NoMemory,
+}
+
+impl From<NoMemory> for ReadFault {
+    ghost use Rattle.std.specs.Prelude.{◌≡◌};
+    ghost use Rattle.ld_json.specs.declared.fault.ReadFault.TheVariants as read_fault;
+
+    ghost from_gives = { λ _ error. error ≡ read_fault.NoMemory };
+
+    fn from(_error: NoMemory) -> ReadFault {
+        ReadFault::NoMemory
+    }
+}
+
+impl From<AllocError> for ReadFault {
+    ghost use Rattle.std.specs.Prelude.{◌≡◌};
+    ghost use Rattle.ld_json.specs.declared.fault.ReadFault.TheVariants as read_fault;
+
+    ghost from_gives = { λ _ error. error ≡ read_fault.NoMemory };
+
+    fn from(_error: AllocError) -> ReadFault {
+        ReadFault::NoMemory
+    }
+}
+
+impl<T: Drop> From<AllocFailed<T>> for ReadFault {
+    ghost use Rattle.std.specs.Prelude.{◌≡◌};
+    ghost use Rattle.ld_json.specs.declared.fault.ReadFault.TheVariants as read_fault;
+
+    ghost from_gives = { λ _ error. error ≡ read_fault.NoMemory };
+
+    fn from(_error: AllocFailed<T>) -> ReadFault {
+        ReadFault::NoMemory
+    }
+}
