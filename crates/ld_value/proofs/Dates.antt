@@ -1,5 +1,5 @@
 -- A day of a year from 1 on is in the calendar of this crate where it is in jiff's.
-use Rattle.std.proofs.Common.{◌≡◌, ◌+◌, ◌*◌, ℕ, Bool, true, false, ◌&&◌, cond, nat_le, refl, sym, arith, ℤ, pos, neg_ℤ, ◌≤ℤ◌, ◌<◌, ◌≤◌, Option, Some, None, w8, w16, w32, w64, to_z, of_z, FitsSigned, to_z-of_z, ◌∙◌}
+use Rattle.std.proofs.Common.{◌≡◌, ℕ, Bool, true, false, ◌&&◌, cond, refl, arith, ℤ, pos, ◌<◌, ◌≤◌, Some, None, w8, w16, w32, w64, to_z, of_z, FitsSigned, to_z-of_z, ◌∙◌}
 use Rattle.std.proofs.lemmas.Bool.Decides.{nat_tests}
 use Rattle.std.proofs.lemmas.Int.{ints, to_z_pos}
 use Rattle.std.specs.Int.{is_in_range}
@@ -7,7 +7,7 @@ use Rattle.jiff_core.specs.declared.civil.date.Date.{Date}
 use Rattle.jiff_core.specs.Date.{epoch_day, IsYmd}
 use Rattle.jiff_core.proofs.SignedLemmas.{signed_arith}
 use Rattle.jiff_core.specs.Calendar.{IsDate, IsEpochDay, IsBetween, IsYear, days_in_month, days_from_civil}
-use Rattle.ld_value.specs.Calendar.{day_of, is_date}
+use Rattle.ld_value.specs.Calendar.{day_of}
 
 if_none : {X : Type 0} (b : Bool) (x : X) → ¬ (b ≡ true) → None ≡ cond b (Some x) None
 if_none true x h = absurd (h refl)

@@ -1,8 +1,8 @@
 -- The number that digits write, one digit after the other.
 use Rattle.std.proofs.Common.{◌≡◌, ℕ, List, [], ◌∷◌, ◌++◌, ◌+◌, ◌-◌, ◌*◌, ◌<◌, ◌≤◌, ◌^◌, true, refl, arith, length, take, get_or, zero, suc}
 use Rattle.std.specs.Str.{all_ascii_digits}
-use Rattle.std.specs.Str.Parse.{digits_value, digits_value_after, AllDigits}
-use Rattle.std.specs.Char.{is_ascii_digit, digit_value}
+use Rattle.std.specs.Str.Parse.{digits_value, digits_value_after}
+use Rattle.std.specs.Char.{digit_value}
 use Rattle.std.specs.Int.{IsInRange}
 use Rattle.std.proofs.lemmas.Str.Parse.{IsNumeralModel, numerals_by_value, tells_all_ascii_digits, digit_at, digits_value_short}
 use Rattle.std.proofs.lemmas.Grind.{common_steps}

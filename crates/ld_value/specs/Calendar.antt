@@ -16,12 +16,14 @@ follows [] (b ∷ bs) = false
 follows (p ∷ ps) [] = false
 follows (p ∷ ps) (b ∷ bs) = stands_for p b && follows ps bs
 
+abbrev pub moment_pattern : List ℕ
+moment_pattern = codes "0000-00-00T00:00:00Z"
+
 -- The text has the form of a moment.
 unfoldable pub has_moment_form : List ℕ → Bool
-has_moment_form text = follows (codes "0000-00-00T00:00:00Z") text
+has_moment_form text = follows moment_pattern text
 
--- The number that the text writes in its bytes from the place `from` up to the place `end`, places
--- counted from 0.
+-- The number that the text writes in `count` digits from the place `from` on, places counted from 0.
 abbrev pub part : ℕ → ℕ → List ℕ → ℕ
 part from count text = digits_value 10 (take count (drop from text))
 

@@ -1,5 +1,5 @@
 -- What a value means, apart from how the program holds it.
-use Rattle.std.specs.Prelude.{◌≡◌, ℕ, List, Bool, true, false, ℤ, ◌==◌}
+use Rattle.std.specs.Prelude.{ℕ, List, Bool, true, false, ℤ, ◌==◌}
 use Rattle.std.specs.Str.{bytes_eq}
 use Rattle.std.specs.Ordering.{int_eq}
 use Rattle.ld_value.specs.declared.value.Value.{Value}

@@ -1,4 +1,4 @@
-use Rattle.std.proofs.Common.{◌≡◌, ◌<◌, ◌^◌, sym, ◌∙◌, arith, Fits, w64}
+use Rattle.std.proofs.Common.{arith}
 use Rattle.std.proofs.lemmas.Grind.{common_steps}
 use Rattle.ld_value.proofs.Numerals.{digit_in, digits_value-take_next, room_for_next, digits_value_bound}
 use Rattle.ld_value.proofs.digits.number.Goals as goal
