@@ -45,33 +45,39 @@ three_words (a ∷ b ∷ c ∷ []) = do
   Some (first, second, third)
 three_words _ = None
 
-abbrev pub create_line : Moment → (List ℕ × List ℕ) → Line
-create_line moment w = Create moment w.0 w.1
+-- `create RUN UNIT`
+unfoldable pub create_of : Moment → List (List ℕ) → Option Line
+create_of moment words = two_words words >>= λ w. Some (Create moment w.0 w.1)
 
-abbrev pub enrol_line : Moment → (List ℕ × List ℕ) → Line
-enrol_line moment w = OfRun moment w.0 (Enrol w.1)
+-- `enrol RUN PERSON`
+unfoldable pub enrol_of : Moment → List (List ℕ) → Option Line
+enrol_of moment words = two_words words >>= λ w. Some (OfRun moment w.0 (Enrol w.1))
 
-abbrev pub assign_line : Moment → (List ℕ × List ℕ × List ℕ) → Line
-assign_line moment w = OfRun moment w.0 (Assign w.1 w.2)
+-- `assign RUN PERSON ROLE`
+unfoldable pub assign_of : Moment → List (List ℕ) → Option Line
+assign_of moment words = three_words words >>= λ w. Some (OfRun moment w.0 (Assign w.1 w.2))
 
-abbrev pub start_line : Moment → List ℕ → Line
-start_line moment run = OfRun moment run Start
+-- `start RUN`
+unfoldable pub start_of : Moment → List (List ℕ) → Option Line
+start_of moment words = one_word words >>= λ run. Some (OfRun moment run Start)
 
-abbrev pub complete_line : Moment → (List ℕ × List ℕ × List ℕ) → Line
-complete_line moment w = OfRun moment w.0 (Complete w.1 w.2)
+-- `complete RUN PERSON ACTIVITY`
+unfoldable pub complete_of : Moment → List (List ℕ) → Option Line
+complete_of moment words = three_words words >>= λ w. Some (OfRun moment w.0 (Complete w.1 w.2))
 
-abbrev pub tree_line : Moment → (List ℕ × List ℕ) → Line
-tree_line moment w = OfRun moment w.0 (Tree w.1)
+-- `tree RUN PERSON`
+unfoldable pub tree_of : Moment → List (List ℕ) → Option Line
+tree_of moment words = two_words words >>= λ w. Some (OfRun moment w.0 (Tree w.1))
 
 -- The command of a verb with these words.
 unfoldable pub verb_line : Moment → List ℕ → List (List ℕ) → Option Line
 verb_line moment verb words =
-  if bytes_eq verb (codes "create") then two_words words >>= (λ w. Some (create_line moment w)) else
-  if bytes_eq verb (codes "enrol") then two_words words >>= (λ w. Some (enrol_line moment w)) else
-  if bytes_eq verb (codes "assign") then three_words words >>= (λ w. Some (assign_line moment w)) else
-  if bytes_eq verb (codes "start") then one_word words >>= (λ run. Some (start_line moment run)) else
-  if bytes_eq verb (codes "complete") then three_words words >>= (λ w. Some (complete_line moment w)) else
-  if bytes_eq verb (codes "tree") then two_words words >>= (λ w. Some (tree_line moment w)) else
+  if bytes_eq verb (codes "create") then create_of moment words else
+  if bytes_eq verb (codes "enrol") then enrol_of moment words else
+  if bytes_eq verb (codes "assign") then assign_of moment words else
+  if bytes_eq verb (codes "start") then start_of moment words else
+  if bytes_eq verb (codes "complete") then complete_of moment words else
+  if bytes_eq verb (codes "tree") then tree_of moment words else
   None
 
 abbrev pub moment_in : List ℕ → Option Moment

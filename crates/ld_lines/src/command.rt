@@ -1,6 +1,8 @@
 //! Command lines: what each asks for.
 use ld_base::id::Id;
+use ld_base::memory::NoMemory;
 use ld_value::moment::Moment;
+use thiserror::Error;
 
 /// What a line asks of one run.
 #[derive(Drop)]
@@ -28,4 +30,26 @@ pub enum Line {
         run: Id,
         command: RunCommand,
     },
+}
+
+/// Why bytes gave no command.
+#[derive(Clone, Copy, Debug, PartialEq, Eq, Error)]
+pub enum LineFault {
+    /// The bytes are no command line.
+    #[error("the line is no command")]
+    BadLine,
+    /// Memory is wanting.
+    #[error("memory is wanting")]
+    NoMemory,
+}
+
+impl From<NoMemory> for LineFault {
+    ghost use Rattle.std.specs.Prelude.{◌≡◌};
+    ghost use Rattle.ld_lines.specs.declared.command.LineFault.TheVariants.{NoMemory as Wanting};
+
+    ghost from_gives = { λ _ e. e ≡ Wanting };
+
+    fn from(_want: NoMemory) -> LineFault {
+        LineFault::NoMemory
+    }
 }
