@@ -3,7 +3,7 @@ ghost use Rattle.std.specs.Prelude.{◌≡◌, map, Some, None, IfOk, Err};
 ghost use Rattle.serde_json.specs.View.{view, items_view};
 ghost use Rattle.ld_json.specs.Json.{json_of};
 ghost use Rattle.ld_lines.specs.Commands.{texts_of, identifier_in, one_word, two_words, three_words, verb_line, line_in, command_of, words_in, create_of, enrol_of, assign_of, start_of, complete_of, tree_of, moment_in};
-ghost use Rattle.ld_lines.specs.Reading.{Gives};
+ghost use Rattle.ld_lines.specs.Gives.{Gives};
 
 use crate::command::{Line, LineFault, RunCommand};
 use ld_base::id::Id;

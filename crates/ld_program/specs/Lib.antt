@@ -9,3 +9,6 @@ pub mod Tests
 pub mod Tree
 pub mod World
 pub mod StateView
+pub mod Endings
+pub mod Words
+pub mod WorldView

@@ -1,4 +1,7 @@
 //! The engine behind the command `ld`: from the documents and the lines of commands to the replies.
 #![tactic(auto)]
 
+pub mod ending;
 pub mod state;
+pub mod words;
+pub mod world;
