@@ -1,4 +1,5 @@
 pub mod Elements
 pub mod Escapes
+pub mod First
 pub mod Listed
 pub mod Sole
