@@ -8,3 +8,4 @@ pub mod Print
 pub mod Reads
 pub mod Steps
 pub mod TreeCode
+pub mod Walk
