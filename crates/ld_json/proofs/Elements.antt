@@ -1,5 +1,5 @@
 -- The nodes of an array's elements, one by one.
-use Rattle.std.proofs.Common.{◌≡◌, ℕ, zero, suc, ◌+◌, ◌<◌, List, [], ◌∷◌, length, get_or, slice_get, Option, Some, None, IsSome, option_map, map, refl, sym, ap, ◌∙◌, add-zero, arith}
+use Rattle.std.proofs.Common.{◌≡◌, ℕ, zero, suc, ◌+◌, ◌<◌, List, [], ◌∷◌, length, drop, get_or, slice_get, Option, Some, None, IsSome, option_map, map, refl, sym, ap, ◌∙◌, add-zero, add-one, arith}
 use Rattle.std.proofs.lemmas.Option.{slice_get-get_or}
 use Rattle.std.proofs.lemmas.List.{length-map}
 use Rattle.serde_json.specs.Data.{Data, null, boolean, number, string, array, object, Items, no_items, item}
@@ -46,3 +46,9 @@ some_under f (Some x) y is = refl
 pub at_within : (node : Placed) (index : ℕ) → index < length (item_nodes node) → IsSome (at index node.tree)
 at_within node index within =
     some_under (item_node node index) (at index node.tree) (get_or (item_nodes node) index node) (sym (get_item_nodes node index) ∙ slice_get-get_or (item_nodes node) index node within)
+
+-- What is left of a list from an element on.
+pub drop_at : {A : Type 0} (xs : List A) (index : ℕ) (x : A) → slice_get xs index ≡ Some x → drop index xs ≡ x ∷ drop (index + 1) xs
+drop_at [] index x is = cc
+drop_at (y ∷ ys) zero x is = let same : y ≡ x = cc in ap (λ z. z ∷ ys) same
+drop_at (y ∷ ys) (suc index) x is = rw (add-one (suc index)) (drop_at ys index x is ∙ rw add-one)

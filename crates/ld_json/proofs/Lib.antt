@@ -1,5 +1,6 @@
 pub mod Elements
 pub mod Escapes
+pub mod First
 pub mod Listed
 pub mod Sole
 pub mod Json

@@ -1,5 +1,5 @@
 -- What a refusal says: which file, which place in it, and why.
-use Rattle.std.specs.Prelude.{◌≡◌, ℕ, List, ◌∷◌}
+use Rattle.std.specs.Prelude.{◌≡◌, ℕ, List, [], ◌∷◌, Option, Some, None}
 use Rattle.ld_json.specs.declared.code.Code.{Code}
 use Rattle.ld_json.specs.declared.file.FileNo.{FileNo}
 use Rattle.ld_json.specs.declared.fault.Fault.{Fault}
@@ -29,7 +29,12 @@ Says fault NoMemory = Unit {0}
 abbrev pub SaysFault : Placed → Code → ReadFault → Type 0
 SaysFault node code error = Says (fault_at node code) error
 
+-- The head of the list.
+abbrev pub first_of : List Told → Option Told
+first_of [] = None
+first_of (fault ∷ _) = Some fault
+
 -- The error says the first of these faults, so there is one. Want of memory says nothing.
 abbrev pub SaysFirst : List Told → ReadFault → Type 0
-SaysFirst faults (Refused refused) = (rest : List Told) × (faults ≡ told refused ∷ rest)
+SaysFirst faults (Refused refused) = first_of faults ≡ Some (told refused)
 SaysFirst faults NoMemory = Unit {0}

@@ -9,3 +9,4 @@ pub mod Reads
 pub mod Steps
 pub mod TreeCode
 pub mod Json
+pub mod Walk

@@ -16,3 +16,8 @@ member_place place name = place ++ 47 ∷ escaped name
 -- The place of an element, counted from 0, of the array at the place.
 abbrev pub item_place : List ℕ → ℕ → List ℕ
 item_place place index = place ++ 47 ∷ decimal index
+
+-- How a place is printed: as it is, and that of the whole document as a dot.
+abbrev pub printed_place : List ℕ → List ℕ
+printed_place [] = 46 ∷ []
+printed_place (b ∷ rest) = b ∷ rest

@@ -1,5 +1,6 @@
 //! What is wrong with a unit: a file, a place in it and a code.
 ghost use Rattle.std.specs.Prelude.{◌≡◌};
+ghost use Rattle.ld_json.specs.Places.{printed_place};
 
 use crate::code::Code;
 use crate::file::FileNo;
@@ -13,6 +14,19 @@ pub struct Fault {
     pub file: FileNo,
     pub place: Text,
     pub code: Code,
+}
+
+impl Fault {
+    /// The place as it is printed: `.` for the whole document.
+    pub fn place_text(&self) -> &str
+        ensures { result.now ≡ printed_place self.now.place.bytes }
+    {
+        let place = self.place.as_str();
+        if place.is_empty() {
+            return ".";
+        }
+        place
+    }
 }
 
 /// Why a unit was not read: its first fault, or want of memory.

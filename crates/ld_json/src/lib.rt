@@ -3,6 +3,7 @@
 
 pub mod code;
 pub mod doc;
+pub mod docs;
 pub mod fault;
 pub mod file;
 pub mod node;

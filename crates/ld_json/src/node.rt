@@ -102,6 +102,7 @@ impl<'a> Node<'a> {
     /// The text that the node is. `wrong-shape` exactly where it is none.
     pub fn text(&self, alloc: Global) -> Result<&'a str, ReadFault>
         ensures value { IfOk result (λ text. as_str self.now.tree ≡ Some text.now) }
+        ensures faultless { OnOk result (text_faults self.now ≡ []) }
         ensures first { IfErr result (SaysFirst (text_faults self.now)) }
     {
         match self.tree.as_str() {
@@ -114,6 +115,7 @@ impl<'a> Node<'a> {
     /// without a sign.
     pub fn whole(&self, alloc: Global) -> Result<u64, ReadFault>
         ensures value { IfOk result (λ number. whole_of self.now.tree ≡ Some number) }
+        ensures faultless { OnOk result (whole_faults self.now ≡ []) }
         ensures first { IfErr result (SaysFirst (whole_faults self.now)) }
     {
         match self.tree.as_u64() {
@@ -125,6 +127,7 @@ impl<'a> Node<'a> {
     /// The flag that the node is. `wrong-shape` exactly where it is neither true nor false.
     pub fn flag(&self, alloc: Global) -> Result<bool, ReadFault>
         ensures value { IfOk result (λ flag. as_bool self.now.tree ≡ Some flag) }
+        ensures faultless { OnOk result (flag_faults self.now ≡ []) }
         ensures first { IfErr result (SaysFirst (flag_faults self.now)) }
     {
         match self.tree.as_bool() {
@@ -140,6 +143,7 @@ impl<'a> Node<'a> {
         ensures value { IfOk result (λ name. sole_of self.now.tree ≡ Some name.now) }
         ensures object { OnOk result (IsObject self.now) }
         ensures there { IfOk result (λ name. IsSome (get name.now self.now.tree)) }
+        ensures faultless { OnOk result (sole_faults self.now ≡ []) }
         ensures first { IfErr result (SaysFirst (sole_faults self.now)) }
     {
         let Some(members) = self.tree.as_object() else {
@@ -172,6 +176,7 @@ impl<'a> Node<'a> {
     pub fn member<'b>(&'b self, alloc: Global, name: &'b str) -> Result<Node<'b>, ReadFault>
         requires { IsObject self.now }
         ensures value { IfOk result (λ node. option_map (member_node self.now name.now) (get name.now self.now.tree) ≡ Some node) }
+        ensures faultless { OnOk result (member_faults name.now self.now ≡ []) }
         ensures first { IfErr result (SaysFirst (member_faults name.now self.now)) }
     {
         match self.optional(name) {
@@ -216,6 +221,7 @@ impl<'a> Node<'a> {
     pub fn count(&self, alloc: Global) -> Result<usize, ReadFault>
         ensures array { OnOk result (IsArray self.now) }
         ensures value { IfOk result (λ count. count ≡ length (item_nodes self.now)) }
+        ensures faultless { OnOk result (list_faults self.now ≡ []) }
         ensures first { IfErr result (SaysFirst (list_faults self.now)) }
     {
         match self.tree.as_array() {
