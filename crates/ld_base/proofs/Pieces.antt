@@ -1,7 +1,7 @@
 -- Bytes that are added or taken piece by piece, where they are told.
-use Rattle.std.proofs.Common.{ℕ, List, [], ◌++◌, ◌+◌, ◌≡◌, Option, Some, None, take, drop, refl, ap, sym, ◌∙◌, append_assoc, append-nil}
+use Rattle.std.proofs.Common.{ℕ, List, [], ◌++◌, ◌+◌, ◌-◌, length, ◌≡◌, Option, Some, None, take, drop, refl, ap, sym, ◌∙◌, append_assoc, append-nil}
 use Rattle.std.proofs.Math.Seq.{take-add}
-use Rattle.std.proofs.lemmas.List.{take-append-drop, drop-drop}
+use Rattle.std.proofs.lemmas.List.{take-append-drop, drop-drop, take_rest}
 use Rattle.ld_base.specs.Outside.{then_piece, piece_then, AddsPrefix}
 
 pub then_piece-nil : (held : Option (List ℕ)) → then_piece held [] ≡ held
@@ -20,10 +20,10 @@ pub piece_then-append : (held : Option (List ℕ)) (a b : List ℕ) → piece_th
 piece_then-append None a b = refl
 piece_then-append (Some rest) a b = ap Some (sym (append_assoc a b rest))
 
--- What a loop has written after one more piece.
-pub then_piece-take : (held : Option (List ℕ)) (bytes : List ℕ) (done n : ℕ) → then_piece (then_piece held (take done bytes)) (take n (drop done bytes)) ≡ then_piece held (take (done + n) bytes)
-then_piece-take held bytes done n =
-    then_piece-append held (take done bytes) (take n (drop done bytes)) ∙ ap (then_piece held) (sym (take-add done n bytes))
+-- After one more piece the loop of `write_all` has written more of the bytes.
+pub written_more : (held now new : Option (List ℕ)) (bytes : List ℕ) (done n : ℕ) → now ≡ then_piece held (take done bytes) → new ≡ then_piece now (take n (take (length bytes - done) (drop done bytes))) → new ≡ then_piece held (take (done + n) bytes)
+written_more held now new bytes done n was is =
+    rw (is, was, take_rest, then_piece-append, ← take-add done n bytes) refl
 
 -- The first bytes are a beginning of them all.
 pub AddsPrefix-take : (held : Option (List ℕ)) (bytes : List ℕ) (n : ℕ) → AddsPrefix held bytes (then_piece held (take n bytes))

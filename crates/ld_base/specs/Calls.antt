@@ -1,5 +1,5 @@
 -- Calls on an object of the outside that is kept in memory: which of them fail.
-use Rattle.std.specs.Prelude.{ℕ, List, Bool, if◌then◌else◌, ◌==◌, ◌+◌, ◌-◌, ◌^◌, min, cond}
+use Rattle.std.specs.Prelude.{ℕ, List, Bool, if◌then◌else◌, ◌==◌, ◌+◌, ◌-◌, ◌^◌, min}
 use Rattle.std.specs.List.{list_any}
 
 -- The numbers of the calls that are to fail, counted from 1; how many calls were made; how many failed.

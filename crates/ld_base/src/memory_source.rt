@@ -31,9 +31,7 @@ impl MemorySource {
     /// numbers, counted from 1, fail.
     pub fn new(bytes: Bytes, piece: usize, failing: CallList) -> MemorySource
         requires { 0 < piece }
-        ensures left { result.left ≡ bytes }
-        ensures piece { result.piece ≡ piece }
-        ensures calls { result.calls ≡ record { failing = failing; made = 0; faults = 0 } }
+        ensures { result ≡ record { left = bytes; piece = piece; calls = record { failing = failing; made = 0; faults = 0 } } }
     {
         MemorySource {
             bytes,

@@ -1,8 +1,5 @@
-use Rattle.std.proofs.Common.{ℕ, arith, length-drop}
-use Rattle.std.proofs.lemmas.Grind.{common_steps}
-use Rattle.std.proofs.lemmas.List.{take_rest}
 use Rattle.std.proofs.lemmas.Result.{err_from_is_err_and}
-use Rattle.ld_base.proofs.Pieces.{then_piece-nil, then_piece-take, AddsPrefix-take}
+use Rattle.ld_base.proofs.Pieces.{then_piece-nil, AddsPrefix-take}
 use Rattle.ld_base.proofs.write.write_all.Goals as goal
 
 pub returns-in_err-count-clause-err : goal.returns-in_err-count-clause-err
@@ -12,11 +9,5 @@ returns-in_err-count-clause-err g c =
 
 pub returns-then-count-eq0-clause-err : goal.returns-then-count-eq0-clause-err
 returns-then-count-eq0-clause-err g c =
-    rw (c.in_ok-count.ensures.bytes, c.if-count-eq0.true, then_piece-nil, c.loop-done.invariant.bytes) (AddsPrefix-take _ _ c.loop-done.done)
-
-pub loop-done-preserved : goal.loop-done-preserved
-loop-done-preserved g c = record {
-  within = let taken = rw take_rest at c.in_ok-count.ensures.within in omega (arith, length-drop {A = ℕ});
-  bytes = rw (c.in_ok-count.ensures.bytes, take_rest, c.loop-done.invariant.bytes) (then_piece-take _ c.args.bytes.now c.loop-done.done c.in_ok-count.count);
-  counts = grind (arith, common_steps);
-}
+    rw (c.in_ok-count.ensures.bytes, c.if-count-eq0.true, then_piece-nil, c.loop-done.invariant.bytes)
+    (AddsPrefix-take _ _ c.loop-done.done)
