@@ -1,0 +1,4 @@
+pub mod Ranges
+pub mod Feeds
+pub mod Pieces
+pub mod Cuts

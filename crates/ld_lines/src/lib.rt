@@ -1,0 +1,9 @@
+//! The lines of a source: what a line feed ends, less blank lines.
+#![tactic(auto)]
+
+mod buffer;
+mod cut;
+pub mod lines;
+pub mod next;
+mod reader;
+pub mod stop;

@@ -1,0 +1,155 @@
+//! The bytes of a source, cut into pieces.
+ghost use Rattle.std.specs.Prelude.{◌≡◌, ◌≤◌, ◌<◌, ◌+◌, ◌-◌, ◌^◌, ℕ, List, [], ◌∷◌, ◌++◌, Bool, true, false, IfOk, IfSome, OnErr, OnOk, length, take, drop};
+ghost use Rattle.ld_base.specs.Outside.{Rose, piece_then};
+ghost use Rattle.ld_lines.specs.Lines.{HasNoFeed, is_blank};
+ghost use Rattle.ld_lines.specs.Reading.{Reading, IsEnd, HandsOut};
+ghost use Rattle.ld_lines.specs.Cutting.{Cutting, FeedAt, Fetches, CutsOff, answer_of_cut};
+ghost use Rattle.std.specs.List.{list_all};
+
+use crate::buffer::{Buffer, LINE_LIMIT};
+use crate::cut::Cut;
+use crate::stop::LineStop;
+use ld_base::memory::NoMemory;
+use ld_base::source::Source;
+use memchr::memchr;
+use std::alloc::Global;
+use std::marker::Model;
+
+/// The most bytes that are taken in all: 2^40.
+pub const INPUT_LIMIT: u64 = 1_099_511_627_776;
+
+/// A buffer that is filled from a source, with the number of bytes that were taken.
+#[derive(Drop)]
+pub(crate) struct Reader {
+    buffer: Buffer,
+    taken: u64,
+    ended: bool,
+}
+
+impl Model for Reader {
+    ghost Value = { Cutting };
+
+    ghost view = { λ r. record { line = r.buffer.line; reading = record { held = r.buffer.held; taken = r.taken; ended = r.ended } } };
+
+    ghost invariant = { λ r. (r.taken ≤ 2 ^ 40) × (r.ended ≡ true → r.buffer.held ≡ []) };
+}
+
+impl Reader {
+    /// A reader that has taken nothing, with the whole room of its buffer.
+    pub(crate) fn new(alloc: Global) -> Result<Reader, NoMemory>
+        ensures held { IfOk result (λ r. r.reading.held ≡ []) }
+        ensures taken { IfOk result (λ r. r.reading.taken ≡ 0) }
+        ensures ended { IfOk result (λ r. r.reading.ended ≡ false) }
+    {
+        let buffer = Buffer::new(alloc)?;
+        Ok(Reader {
+            buffer,
+            taken: 0,
+            ended: false,
+        })
+    }
+
+    /// The piece that was cut off last, if it was whole.
+    pub(crate) fn line(&self) -> &[u8]
+        ensures { result.now ≡ self.now.line }
+    {
+        self.buffer.line()
+    }
+
+    /// Takes bytes behind those that are held, and gives their number. 0 means that none is left.
+    ///
+    /// # Errors
+    /// `ReadFault` only where the source's count of faults rose, `InputTooLong` where the limit of
+    /// all bytes is reached. Nothing is taken then.
+    fn fetch<S: Source>(&mut self, source: &mut S) -> Result<usize, LineStop>
+        requires open { self.old.reading.ended ≡ false }
+        requires room { length self.old.reading.held ≤ 65536 }
+        ensures fetches { Fetches self.old.reading (S.left source.old) self.new.reading (S.left source.new) }
+        ensures count { IfOk result (λ n. self.new.reading.taken ≡ self.old.reading.taken + n) }
+        ensures end { IfOk result (λ n. n ≡ 0 → IsEnd (S.left source.new)) }
+        ensures limit { self.new.reading.taken ≤ 2 ^ 40 }
+        ensures err { OnErr result (self.new.reading ≡ self.old.reading) }
+        ensures read_fault { result ≡ Err LineStop.ReadFault → Rose (S.faults source.old) (S.faults source.new) }
+        ensures too_long { result ≡ Err LineStop.InputTooLong → self.new.reading.taken ≡ 2 ^ 40 }
+        ensures counts { S.faults source.old ≤ S.faults source.new }
+        ensures after_limit { self.old.reading.taken ≡ 2 ^ 40 → source.new ≡ source.old }
+    {
+        if self.taken >= INPUT_LIMIT {
+            return Err(LineStop::InputTooLong);
+        }
+        let most = (INPUT_LIMIT - self.taken) as usize;
+        match self.buffer.fill(source, most) {
+            Ok(count) => {
+                self.taken += count as u64;
+                Ok(count)
+            }
+            Err(_) => Err(LineStop::ReadFault),
+        }
+    }
+
+    /// The place of the first line feed among the held bytes, whose first `seen` hold none.
+    fn feed(&self, seen: usize) -> Option<usize>
+        requires clear { HasNoFeed (take seen self.now.reading.held) }
+        requires within { seen ≤ length self.now.reading.held }
+        ensures { FeedAt self.now.reading.held result }
+    {
+        find_feed(self.buffer.held(), seen)
+    }
+
+    /// The number of bytes that are held.
+    fn len(&self) -> usize
+        ensures { result ≡ length self.now.reading.held }
+    {
+        self.buffer.held().len()
+    }
+
+    /// Cuts off the first `at` bytes, and passes the byte behind them.
+    fn cut(&mut self, at: usize)
+        requires { at < length self.old.reading.held }
+        ensures line { self.new.line ≡ take at self.old.reading.held }
+        ensures held { self.new.reading.held ≡ drop (at + 1) self.old.reading.held }
+        ensures taken { self.new.reading.taken ≡ self.old.reading.taken }
+        ensures ended { self.new.reading.ended ≡ false }
+    {
+        self.buffer.cut(at);
+    }
+
+    /// Cuts off what is held: the source told its end.
+    fn finish(&mut self)
+        ensures line { self.new.line ≡ self.old.reading.held }
+        ensures held { self.new.reading.held ≡ [] }
+        ensures taken { self.new.reading.taken ≡ self.old.reading.taken }
+        ensures ended { self.new.reading.ended ≡ true }
+    {
+        self.buffer.cut_all();
+        self.ended = true;
+    }
+
+    /// Lets go of what is held.
+    fn clear(&mut self)
+        ensures held { self.new.reading.held ≡ [] }
+        ensures taken { self.new.reading.taken ≡ self.old.reading.taken }
+        ensures ended { self.new.reading.ended ≡ self.old.reading.ended }
+    {
+        self.buffer.clear();
+    }
+}
+
+/// The place of the first line feed among the bytes, whose first `seen` hold none.
+fn find_feed(bytes: &[u8], seen: usize) -> Option<usize>
+    requires clear { HasNoFeed (take seen bytes.now) }
+    requires within { seen ≤ length bytes.now }
+    ensures { FeedAt bytes.now result }
+{
+    match memchr(b'\n', &bytes[seen..]) {
+        Some(at) => Some(seen + at),
+        None => None,
+    }
+}
+
+/// Whether the bytes are spaces, tabs and carriage returns alone.
+fn are_blank(bytes: &[u8]) -> bool
+    ensures { result ≡ list_all is_blank bytes.now }
+{
+    bytes.iter().all(|b| *b == b' ' || *b == b'\t' || *b == b'\r')
+}
