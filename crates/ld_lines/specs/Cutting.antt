@@ -43,8 +43,9 @@ CutsOf bytes NoLine new = (bytes ≡ []) × (new.ended ≡ true)
 CutsOf bytes Fault new = HasNoFeed bytes × (new.ended ≡ false)
 CutsOf bytes TooLong new = HasNoFeed bytes × (new.ended ≡ false)
 
--- What the cut of one piece does.
+-- What the cut of one piece does. Behind an end that was told it answers nothing else.
 pub record CutsOff (old : Reading) (before : Option (List ℕ)) (answer : Answer) (new : Reading) (now : Option (List ℕ)) : Type 0 where
+  pub after_end : old.ended ≡ true → answer ≡ NoLine
   pub piece : List ℕ
   pub takes : Takes old before piece new now
   pub cuts_of : CutsOf (old.held ++ piece) answer new

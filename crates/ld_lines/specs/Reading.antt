@@ -72,6 +72,7 @@ Progresses old TooLong new = Unit {0}
 -- What one call does: `before` and `now` are what the source had left before it and has left after it.
 pub record HandsOut (old : Reading) (before : Option (List ℕ)) (answer : Answer) (new : Reading) (now : Option (List ℕ)) : Type 0 where
   pub says : Says old before answer new now
+  pub after_end : old.ended ≡ true → answer ≡ NoLine
   pub piece : List ℕ
   pub takes : Takes old before piece new now
   pub says_of : SaysOf (old.held ++ piece) answer new

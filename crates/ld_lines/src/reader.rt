@@ -3,7 +3,7 @@ ghost use Rattle.std.specs.Prelude.{◌≡◌, ◌≤◌, ◌<◌, ◌+◌, ◌-
 ghost use Rattle.ld_base.specs.Outside.{Rose, piece_then};
 ghost use Rattle.ld_lines.specs.Lines.{HasNoFeed, is_blank};
 ghost use Rattle.ld_lines.specs.Reading.{Reading, IsEnd, HandsOut};
-ghost use Rattle.ld_lines.specs.Cutting.{Cutting, FeedAt, Fetches, CutsOff, answer_of_cut};
+ghost use Rattle.ld_lines.specs.Cutting.{Cutting, FeedAt, Fetches, CutsOf, CutsOff, answer_of_cut};
 ghost use Rattle.std.specs.List.{list_all};
 
 use crate::buffer::{Buffer, LINE_LIMIT};
@@ -62,7 +62,7 @@ impl Reader {
     /// `ReadFault` only where the source's count of faults rose, `InputTooLong` where the limit of
     /// all bytes is reached. Nothing is taken then.
     fn fetch<S: Source>(&mut self, source: &mut S) -> Result<usize, LineStop>
-        requires open { self.old.reading.ended ≡ false }
+        requires not_ended { self.old.reading.ended ≡ false }
         requires room { length self.old.reading.held ≤ 65536 }
         ensures fetches { Fetches self.old.reading (S.left source.old) self.new.reading (S.left source.new) }
         ensures count { IfOk result (λ n. self.new.reading.taken ≡ self.old.reading.taken + n) }
@@ -85,6 +85,96 @@ impl Reader {
             }
             Err(_) => Err(LineStop::ReadFault),
         }
+    }
+
+    /// Cuts off the first piece: up to its line feed, or to the end of the source.
+    ///
+    /// # Errors
+    /// `ReadFault` only where the source's count of faults rose, `InputTooLong` where the limit of
+    /// all bytes is reached. No line feed is among the bytes that are held and were taken then.
+    fn next_piece<S: Source>(&mut self, source: &mut S) -> Result<Cut, LineStop>
+        ensures cuts { CutsOff self.old.reading (S.left source.old) (answer_of_cut self.new.line result) self.new.reading (S.left source.new) }
+        ensures limit { self.new.reading.taken ≤ 2 ^ 40 }
+        ensures read_fault { result ≡ Err LineStop.ReadFault → Rose (S.faults source.old) (S.faults source.new) }
+        ensures too_long { result ≡ Err LineStop.InputTooLong → self.new.reading.taken ≡ 2 ^ 40 }
+        ensures counts { S.faults source.old ≤ S.faults source.new }
+        ensures after_end { self.old.reading.ended ≡ true → source.new ≡ source.old }
+        ensures after_limit { self.old.reading.taken ≡ 2 ^ 40 → source.new ≡ source.old }
+    {
+        if self.ended {
+            return Ok(Cut::End);
+        }
+        let mut seen = 0;
+        loop {
+            if let Some(at) = self.feed(seen) {
+                return Ok(self.cut_first(at));
+            }
+            seen = self.len();
+            if seen > LINE_LIMIT {
+                return self.pass_rest(source);
+            }
+            if self.fetch(source)? == 0 {
+                return Ok(self.cut_last());
+            }
+        }
+    }
+
+    /// Passes over the rest of a piece that is longer than a line may be.
+    ///
+    /// # Errors
+    /// As `next_piece`.
+    fn pass_rest<S: Source>(&mut self, source: &mut S) -> Result<Cut, LineStop>
+        requires not_ended { self.old.reading.ended ≡ false }
+        requires clear { HasNoFeed self.old.reading.held }
+        requires long { 65536 < length self.old.reading.held }
+        ensures cuts { CutsOff self.old.reading (S.left source.old) (answer_of_cut self.new.line result) self.new.reading (S.left source.new) }
+        ensures limit { self.new.reading.taken ≤ 2 ^ 40 }
+        ensures read_fault { result ≡ Err LineStop.ReadFault → Rose (S.faults source.old) (S.faults source.new) }
+        ensures too_long { result ≡ Err LineStop.InputTooLong → self.new.reading.taken ≡ 2 ^ 40 }
+        ensures counts { S.faults source.old ≤ S.faults source.new }
+        ensures after_limit { self.old.reading.taken ≡ 2 ^ 40 → source.new ≡ source.old }
+    {
+        loop {
+            self.clear();
+            if self.fetch(source)? == 0 {
+                self.finish();
+                return Ok(Cut::Over);
+            }
+            if let Some(at) = self.feed(0) {
+                self.cut(at);
+                return Ok(Cut::Over);
+            }
+        }
+    }
+
+    /// Cuts off the first `at` bytes, which a line feed ends.
+    fn cut_first(&mut self, at: usize) -> Cut
+        requires not_ended { self.old.reading.ended ≡ false }
+        requires feed { FeedAt self.old.reading.held (Some at) }
+        ensures cuts { CutsOf self.old.reading.held (answer_of_cut self.new.line (Ok result)) self.new.reading }
+        ensures taken { self.new.reading.taken ≡ self.old.reading.taken }
+        ensures not_ended { self.new.reading.ended ≡ false }
+    {
+        self.cut(at);
+        if at > LINE_LIMIT {
+            return Cut::Over;
+        }
+        Cut::Whole
+    }
+
+    /// Cuts off what is held, which the end of the source ends.
+    fn cut_last(&mut self) -> Cut
+        requires clear { HasNoFeed self.old.reading.held }
+        requires room { length self.old.reading.held ≤ 65536 }
+        ensures cuts { CutsOf self.old.reading.held (answer_of_cut self.new.line (Ok result)) self.new.reading }
+        ensures taken { self.new.reading.taken ≡ self.old.reading.taken }
+    {
+        let some = self.len() > 0;
+        self.finish();
+        if some {
+            return Cut::Whole;
+        }
+        Cut::End
     }
 
     /// The place of the first line feed among the held bytes, whose first `seen` hold none.
