@@ -1,9 +1,9 @@
 -- Takes, one after the other, and the pieces that are cut off what was taken.
-use Rattle.std.proofs.Common.{◌≡◌, ℕ, ◌+◌, ◌<◌, ◌≤◌, ◌^◌, List, [], ◌∷◌, ◌++◌, length, take, drop, Bool, true, false, Option, Some, None, IfSome, refl, sym, ap, subst, ◌∙◌, arith, append_assoc, append-nil, length-append, inl, inr, ⊎_elim}
+use Rattle.std.proofs.Common.{◌≡◌, ℕ, ◌+◌, ◌<◌, List, [], ◌∷◌, ◌++◌, length, take, drop, Bool, true, false, Option, Some, None, refl, sym, ap, subst, ◌∙◌, arith, append_assoc, append-nil, length-append, inl, inr, ⊎_elim}
 use Rattle.std.proofs.lemmas.Bool.{both_ways, cases_Bool}
 use Rattle.ld_base.specs.Outside.{piece_then}
-use Rattle.ld_lines.specs.Lines.{HasNoFeed, without_blank, lines_of, ended_lines_of, is_passed_over, lines_from, line_then}
-use Rattle.ld_lines.specs.Reading.{Reading, IsEnd, KnowsEnd, Takes, Leaves, Answer, WholeLine, OverLine, NoLine, Fault, TooLong}
+use Rattle.ld_lines.specs.Lines.{HasNoFeed, without_blank, lines_of, ended_lines_of}
+use Rattle.ld_lines.specs.Reading.{Reading, KnowsEnd, Takes, Leaves, Answer, WholeLine, OverLine}
 use Rattle.ld_lines.specs.Cutting.{Ends, FeedAt, Fetches, CutsOf, CutsOff}
 use Rattle.ld_lines.proofs.Feeds.{HasNoFeed-append}
 use Rattle.ld_lines.proofs.Pieces.{lines_of-ended, ended_lines_of-ended, lines_of-last, lines_of-nil}
@@ -134,6 +134,10 @@ pub Ends-shorter : (bytes piece : List ℕ) (r : Reading) → Ends bytes piece r
 Ends-shorter bytes piece r (clear, inl p) = omega (arith, ap length p.0, length-append piece (10 ∷ r.held))
 Ends-shorter bytes piece r (clear, inr p) = omega (arith, ap length p.0, ap length p.1)
 
+pub CutsOff-progress : {old new : Reading} {before now : Option (List ℕ)} {line : List ℕ} → CutsOff old before (WholeLine line) new now → length new.held + old.taken < length old.held + new.taken
+CutsOff-progress {old} {new} {before} {now} {line} cut =
+    omega (arith, cut.takes.counted, length-append old.held cut.piece, Ends-shorter (old.held ++ cut.piece) line new cut.cuts_of.0)
+
 pub Leaves-none : (r : Reading) → Leaves r.held [] r
 Leaves-none r = record { every = λ more none. refl; by_feed = λ more going. refl }
 
@@ -150,6 +154,9 @@ Leaves-piece bytes piece r (clear, inr p) = record {
     by_feed = λ more going. absurd (both_ways r.ended going p.2);
   }
 
+pub not_ended : (b d : Bool) → (b ≡ true → d ≡ true) → d ≡ false → b ≡ false
+not_ended b d stays going = ⊎_elim (λ e. absurd (both_ways d going (stays e))) (λ e. e) (cases_Bool b)
+
 pub Leaves-more : {r s : Reading} {x y : Option (List ℕ)} (bytes piece : List ℕ) (lines later : List (List ℕ)) → Leaves bytes lines r → Takes r x piece s y → Leaves (r.held ++ piece) later s → Leaves (bytes ++ piece) (lines ++ later) s
 Leaves-more {r} {s} bytes piece lines later p takes q = record {
     every = λ more none.
@@ -160,11 +167,8 @@ Leaves-more {r} {s} bytes piece lines later p takes q = record {
             ∙ sym (append_assoc lines later (lines_of (s.held ++ more)));
     by_feed = λ more going.
         ap ended_lines_of (append_assoc bytes piece more)
-            ∙ p.by_feed (piece ++ more) (still_open r.ended s.ended takes.stays_ended going)
+            ∙ p.by_feed (piece ++ more) (not_ended r.ended s.ended takes.stays_ended going)
             ∙ ap (λ xs. lines ++ ended_lines_of xs) (sym (append_assoc r.held piece more))
             ∙ ap (λ xs. lines ++ xs) (q.by_feed more going)
             ∙ sym (append_assoc lines later (ended_lines_of (s.held ++ more)));
   }
-  where
-    still_open : (b d : Bool) → (b ≡ true → d ≡ true) → d ≡ false → b ≡ false
-    still_open b d stays going = ⊎_elim (λ e. absurd (both_ways d going (stays e))) (λ e. e) (cases_Bool b)

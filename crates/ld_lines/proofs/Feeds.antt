@@ -1,6 +1,5 @@
 -- Where the first line feed stands.
-use Rattle.std.proofs.Common.{◌≡◌, ℕ, ◌+◌, ◌<◌, ◌≤◌, List, ◌∷◌, ◌++◌, length, take, drop, get_or, false, ◌||◌, Option, Some, None, sym, ap, ◌∙◌, arith, refl, length-drop, take-add}
-use Rattle.std.specs.List.{list_any}
+use Rattle.std.proofs.Common.{◌≡◌, ℕ, ◌+◌, ◌<◌, ◌≤◌, List, ◌∷◌, ◌++◌, length, take, drop, get_or, Some, None, sym, ap, ◌∙◌, arith, refl, length-drop, take-add}
 use Rattle.std.proofs.lemmas.Bool.{false_from_ne_true, eqb-true}
 use Rattle.std.proofs.lemmas.List.{get_or_default, take-append-drop, get_or-drop, get_or-take, drop_more, take_all, length-take-le}
 use Rattle.std.proofs.lemmas.List.Folds.{list_any-append, list_any_none}

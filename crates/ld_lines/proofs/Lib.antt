@@ -2,3 +2,4 @@ pub mod Ranges
 pub mod Feeds
 pub mod Pieces
 pub mod Cuts
+pub mod Handing

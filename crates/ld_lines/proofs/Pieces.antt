@@ -1,8 +1,8 @@
 -- The pieces of bytes that begin with a piece that is known.
-use Rattle.std.proofs.Common.{◌≡◌, ℕ, ◌<◌, List, [], ◌∷◌, ◌++◌, length, Bool, true, false, not, cond, ◌||◌, refl, sym, ap, ◌∙◌, arith, filter}
+use Rattle.std.proofs.Common.{◌≡◌, ℕ, ◌<◌, List, [], ◌∷◌, ◌++◌, length, true, false, not, refl, ap, ◌∙◌, arith}
 use Rattle.std.proofs.lemmas.Bool.{or_parts}
 use Rattle.std.proofs.lemmas.List.Elements.{filter-append}
-use Rattle.ld_lines.specs.Lines.{HasNoFeed, is_feed, pieces_of, ended_pieces_of, onto_first, onto_ended, without_blank, lines_of, ended_lines_of, is_passed_over}
+use Rattle.ld_lines.specs.Lines.{HasNoFeed, is_feed, pieces_of, ended_pieces_of, without_blank, lines_of, ended_lines_of, is_passed_over}
 
 -- a piece that a line feed ends
 pieces_of-ended : (piece rest : List ℕ) → HasNoFeed piece → pieces_of (piece ++ 10 ∷ rest) ≡ piece ∷ pieces_of rest

@@ -1,5 +1,5 @@
 -- How pieces are cut off, whatever bytes they hold.
-use Rattle.std.specs.Prelude.{ℕ, List, [], ◌∷◌, ◌++◌, length, take, drop, Bool, true, false, Option, Result, Ok, Err, MatchOption, ◌≡◌, ◌⊎◌, ◌≤◌, ◌<◌, ◌+◌}
+use Rattle.std.specs.Prelude.{ℕ, List, [], ◌∷◌, ◌++◌, length, take, drop, true, false, Option, Result, Ok, Err, MatchOption, ◌≡◌, ◌⊎◌, ◌≤◌, ◌<◌, ◌+◌}
 use Rattle.ld_lines.specs.Lines.{HasNoFeed}
 use Rattle.ld_lines.specs.Reading.{Reading, Takes, Answer, WholeLine, OverLine, NoLine, Fault, TooLong}
 use Rattle.ld_lines.specs.declared.cut.Cut.{Cut}

@@ -87,6 +87,31 @@ impl Reader {
         }
     }
 
+    /// Cuts off the next line, and passes over the blank ones before it. It stands in the buffer as
+    /// its line where it is whole.
+    ///
+    /// # Errors
+    /// As `Lines::next`.
+    pub(crate) fn advance<S: Source>(&mut self, source: &mut S) -> Result<Cut, LineStop>
+        ensures hands_out { HandsOut self.old.reading (S.left source.old) (answer_of_cut self.new.line result) self.new.reading (S.left source.new) }
+        ensures read_fault { result ≡ Err LineStop.ReadFault → Rose (S.faults source.old) (S.faults source.new) }
+        ensures counts { S.faults source.old ≤ S.faults source.new }
+        ensures after_end { self.old.reading.ended ≡ true → source.new ≡ source.old }
+        ensures after_limit { self.old.reading.taken ≡ 2 ^ 40 → source.new ≡ source.old }
+    {
+        loop {
+            match self.next_piece(source)? {
+                Cut::Whole => {
+                    if !are_blank(self.line()) {
+                        return Ok(Cut::Whole);
+                    }
+                }
+                Cut::Over => return Ok(Cut::Over),
+                Cut::End => return Ok(Cut::End),
+            }
+        }
+    }
+
     /// Cuts off the first piece: up to its line feed, or to the end of the source.
     ///
     /// # Errors

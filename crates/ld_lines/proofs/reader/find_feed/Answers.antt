@@ -1,4 +1,3 @@
-use Rattle.std.proofs.Common.{drop}
 use Rattle.std.proofs.lemmas.List.{take_rest}
 use Rattle.ld_lines.proofs.Feeds.{FeedAt-none, FeedAt-some}
 use Rattle.ld_lines.proofs.reader.find_feed.Goals as goal

@@ -1,4 +1,4 @@
-use Rattle.std.proofs.Common.{◌≡◌, ◌+◌, ◌-◌, ◌∙◌, ap, sym, ◌++◌, take, length, slice_range, arith}
+use Rattle.std.proofs.Common.{◌≡◌, ◌+◌, ◌-◌, ◌∙◌, ap, ◌++◌, slice_range, arith}
 use Rattle.std.proofs.lemmas.List.Edits.{length-between}
 use Rattle.ld_lines.proofs.Ranges.{slice_range_join, slice_range_front}
 use Rattle.ld_lines.proofs.buffer.Buffer.fill.Goals as goal

@@ -1,4 +1,4 @@
-use Rattle.std.proofs.Common.{◌≡◌, ◌≤◌, ◌-◌, ◌^◌, ℕ, length, take}
+use Rattle.std.proofs.Common.{◌≡◌, ◌≤◌, ◌-◌, ◌^◌, length, take}
 use Rattle.ld_lines.specs.Lines.{HasNoFeed}
 use Rattle.ld_lines.specs.Cutting.{Fetches}
 use Rattle.ld_lines.proofs.reader.Reader.next_piece.Given as goal

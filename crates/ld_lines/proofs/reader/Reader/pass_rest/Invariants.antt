@@ -1,4 +1,4 @@
-use Rattle.std.proofs.Common.{◌≡◌, ◌≤◌, ◌-◌, ◌^◌, ℕ}
+use Rattle.std.proofs.Common.{◌≡◌, ◌≤◌, ◌-◌, ◌^◌}
 use Rattle.ld_lines.proofs.Cuts.{Passing}
 use Rattle.ld_lines.proofs.reader.Reader.pass_rest.Given as goal
 
