@@ -3,16 +3,17 @@ use Rattle.std.proofs.Common.{◌≡◌, ℕ, ◌+◌, ◌<◌, List, [], ◌∷
 use Rattle.std.proofs.lemmas.Bool.{both_ways, cases_Bool}
 use Rattle.ld_base.specs.Outside.{piece_then}
 use Rattle.ld_lines.specs.Lines.{HasNoFeed, without_blank, lines_of, ended_lines_of}
-use Rattle.ld_lines.specs.Reading.{Reading, KnowsEnd, Takes, Leaves, Answer, WholeLine, OverLine}
+use Rattle.ld_lines.specs.Reading.{Reading, KnowsEnd, Takes, Leaves}
+use Rattle.ld_lines.specs.Answer.{Answer, WholeLine, OverLine, NoLine, Fault, TooLong}
 use Rattle.ld_lines.specs.Cutting.{Ends, FeedAt, Fetches, CutsOf, CutsOff}
 use Rattle.ld_lines.proofs.Feeds.{HasNoFeed-append}
 use Rattle.ld_lines.proofs.Pieces.{lines_of-ended, ended_lines_of-ended, lines_of-last, lines_of-nil}
 
-piece_then-nil : (left : Option (List ℕ)) → left ≡ piece_then [] left
+pub piece_then-nil : (left : Option (List ℕ)) → left ≡ piece_then [] left
 piece_then-nil None = refl
 piece_then-nil (Some rest) = refl
 
-piece_then-more : (xs ys : List ℕ) (left : Option (List ℕ)) → piece_then xs (piece_then ys left) ≡ piece_then (xs ++ ys) left
+pub piece_then-more : (xs ys : List ℕ) (left : Option (List ℕ)) → piece_then xs (piece_then ys left) ≡ piece_then (xs ++ ys) left
 piece_then-more xs ys None = refl
 piece_then-more xs ys (Some rest) = ap Some (sym (append_assoc xs ys rest))
 

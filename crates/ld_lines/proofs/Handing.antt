@@ -3,8 +3,9 @@ use Rattle.std.proofs.Common.{◌≡◌, ℕ, ◌+◌, ◌<◌, ◌≤◌, ◌^�
 use Rattle.std.proofs.lemmas.Bool.{and_left, and_right, lt-leb, le-leb}
 use Rattle.std.specs.List.{list_all}
 use Rattle.ld_lines.specs.Lines.{lines_of, ended_lines_of, is_passed_over, is_blank, lines_from, line_then, HasNoFeed}
-use Rattle.ld_lines.specs.Reading.{Reading, IsEnd, KnowsEnd, Takes, Leaves, Answer, WholeLine, OverLine, NoLine, Fault, TooLong, HandsOut}
-use Rattle.ld_lines.specs.Cutting.{CutsOff, answer_of_cut}
+use Rattle.ld_lines.specs.Reading.{Reading, IsEnd, KnowsEnd, Takes, Leaves}
+use Rattle.ld_lines.specs.Answer.{Answer, WholeLine, OverLine, NoLine, Fault, TooLong, HandsOut}
+use Rattle.ld_lines.specs.Cutting.{CutsOff, StopsAt, answer_of_cut}
 use Rattle.ld_lines.specs.declared.stop.LineStop.{LineStop}
 use Rattle.ld_lines.specs.declared.stop.LineStop.TheVariants.{ReadFault, InputTooLong}
 use Rattle.ld_lines.proofs.Pieces.{lines_of-nil, ended_lines_of-none, without_blank-kept, without_blank-passed}
@@ -89,11 +90,11 @@ HandsOut-whole {old} {mid} {new} {before} {between} {now} {line} passed cut some
     let one = subst (λ lines. Leaves (mid.held ++ cut.piece) lines new) (without_blank-kept line kept) (Leaves-piece (mid.held ++ cut.piece) line new ends) in
     let leaves = more answer passed cut (line ∷ []) one in
     record {
-      says = lines_from-line now (taken answer passed cut) leaves (knows_end answer passed cut (λ e. cc));
+      lines = lines_from-line now (taken answer passed cut) leaves (knows_end answer passed cut (λ e. cc));
       after_end = after_end answer passed cut;
       piece = passed.piece ++ cut.piece;
       takes = taken answer passed cut;
-      says_of = ((cut.cuts_of.1, kept), leaves);
+      bytes = ((cut.cuts_of.1, kept), leaves);
       progress = progress answer passed cut (Ends-shorter (mid.held ++ cut.piece) line new ends);
       limit = limit;
     }
@@ -106,11 +107,11 @@ HandsOut-over {old} {mid} {new} {before} {between} {now} passed cut limit =
     let one = subst (λ lines. Leaves (mid.held ++ cut.piece) lines new) (without_blank-kept long (too_long long over)) (Leaves-piece (mid.held ++ cut.piece) long new ends) in
     let leaves = more OverLine passed cut (long ∷ []) one in
     record {
-      says = (long, over, lines_from-line now (taken OverLine passed cut) leaves (knows_end OverLine passed cut (λ e. cc)));
+      lines = (long, over, lines_from-line now (taken OverLine passed cut) leaves (knows_end OverLine passed cut (λ e. cc)));
       after_end = after_end OverLine passed cut;
       piece = passed.piece ++ cut.piece;
       takes = taken OverLine passed cut;
-      says_of = (long, over, leaves);
+      bytes = (long, over, leaves);
       progress = progress OverLine passed cut (Ends-shorter (mid.held ++ cut.piece) long new ends);
       limit = limit;
     }
@@ -118,44 +119,44 @@ HandsOut-over {old} {mid} {new} {before} {between} {now} passed cut limit =
 pub HandsOut-none : {old mid new : Reading} {before between now : Option (List ℕ)} → Passed old before mid between → CutsOff mid between NoLine new now → new.taken ≤ 2 ^ 40 → HandsOut old before NoLine new now
 HandsOut-none {old} {mid} {new} {before} {between} {now} passed cut limit =
     let nothing : mid.held ++ cut.piece ≡ [] = cut.cuts_of.0 in
-    let told : new.ended ≡ true = cut.cuts_of.1 in
+    let told : new.ended ≡ true = cut.cuts_of.2 in
     let none : lines_of (old.held ++ (passed.piece ++ cut.piece)) ≡ [] =
         ap lines_of (sym (append_assoc old.held passed.piece cut.piece))
             ∙ passed.leaves.every cut.piece cut.takes.none_after_end
             ∙ ap lines_of nothing
             ∙ lines_of-nil in
     record {
-      says = λ knows. let end = (taken NoLine passed cut).knows_end knows told in (end, lines_from-nil now (taken NoLine passed cut) none end);
+      lines = λ knows. let end = (taken NoLine passed cut).knows_end knows told in (end, lines_from-nil now (taken NoLine passed cut) none end);
       after_end = after_end NoLine passed cut;
       piece = passed.piece ++ cut.piece;
       takes = taken NoLine passed cut;
-      says_of = (none, told);
+      bytes = (none, cut.cuts_of.1, told);
       progress = tt;
       limit = limit;
     }
 
-pub HandsOut-fault : {old mid new : Reading} {before between now : Option (List ℕ)} → Passed old before mid between → CutsOff mid between Fault new now → new.taken ≤ 2 ^ 40 → HandsOut old before Fault new now
-HandsOut-fault {old} {mid} {new} {before} {between} {now} passed cut limit = record {
-    says = tt;
+HandsOut-fault : {old mid new : Reading} {before between now : Option (List ℕ)} → Passed old before mid between → CutsOff mid between Fault new now → new.taken < 2 ^ 40 → HandsOut old before Fault new now
+HandsOut-fault {old} {mid} {new} {before} {between} {now} passed cut below = record {
+    lines = tt;
     after_end = after_end Fault passed cut;
     piece = passed.piece ++ cut.piece;
     takes = taken Fault passed cut;
-    says_of = (ended_none Fault passed cut cut.cuts_of.0 cut.cuts_of.1, cut.cuts_of.1);
-    progress = tt;
-    limit = limit;
-  }
-
-pub HandsOut-too_long : {old mid new : Reading} {before between now : Option (List ℕ)} → Passed old before mid between → CutsOff mid between TooLong new now → new.taken ≡ 2 ^ 40 → HandsOut old before TooLong new now
-HandsOut-too_long {old} {mid} {new} {before} {between} {now} passed cut full = record {
-    says = full;
-    after_end = after_end TooLong passed cut;
-    piece = passed.piece ++ cut.piece;
-    takes = taken TooLong passed cut;
-    says_of = (ended_none TooLong passed cut cut.cuts_of.0 cut.cuts_of.1, cut.cuts_of.1);
+    bytes = (ended_none Fault passed cut cut.cuts_of.0 cut.cuts_of.1, cut.cuts_of.1, below);
     progress = tt;
     limit = omega arith;
   }
 
-pub HandsOut-stop : {old mid new : Reading} {before between now : Option (List ℕ)} (line : List ℕ) (stop : LineStop) → Passed old before mid between → CutsOff mid between (answer_of_cut line (Err stop)) new now → new.taken ≤ 2 ^ 40 → (stop ≡ InputTooLong → new.taken ≡ 2 ^ 40) → HandsOut old before (answer_of_cut line (Err stop)) new now
-HandsOut-stop line ReadFault passed cut limit full = HandsOut-fault passed cut limit
-HandsOut-stop line InputTooLong passed cut limit full = HandsOut-too_long passed cut (full refl)
+HandsOut-too_long : {old mid new : Reading} {before between now : Option (List ℕ)} → Passed old before mid between → CutsOff mid between TooLong new now → new.taken ≡ 2 ^ 40 → HandsOut old before TooLong new now
+HandsOut-too_long {old} {mid} {new} {before} {between} {now} passed cut full = record {
+    lines = tt;
+    after_end = after_end TooLong passed cut;
+    piece = passed.piece ++ cut.piece;
+    takes = taken TooLong passed cut;
+    bytes = (ended_none TooLong passed cut cut.cuts_of.0 cut.cuts_of.1, cut.cuts_of.1, full);
+    progress = tt;
+    limit = omega arith;
+  }
+
+pub HandsOut-stop : {old mid new : Reading} {before between now : Option (List ℕ)} (line : List ℕ) (stop : LineStop) → Passed old before mid between → CutsOff mid between (answer_of_cut line (Err stop)) new now → StopsAt stop new.taken → HandsOut old before (answer_of_cut line (Err stop)) new now
+HandsOut-stop line ReadFault passed cut below = HandsOut-fault passed cut below
+HandsOut-stop line InputTooLong passed cut full = HandsOut-too_long passed cut full

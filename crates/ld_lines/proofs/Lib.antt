@@ -3,3 +3,4 @@ pub mod Feeds
 pub mod Pieces
 pub mod Cuts
 pub mod Handing
+pub mod Handed

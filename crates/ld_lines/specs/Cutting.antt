@@ -1,7 +1,8 @@
 -- How pieces are cut off, whatever bytes they hold.
-use Rattle.std.specs.Prelude.{ℕ, List, [], ◌∷◌, ◌++◌, length, take, drop, true, false, Option, Result, Ok, Err, MatchOption, ◌≡◌, ◌⊎◌, ◌≤◌, ◌<◌, ◌+◌}
+use Rattle.std.specs.Prelude.{ℕ, List, [], ◌∷◌, ◌++◌, length, take, drop, true, false, Option, Result, Ok, Err, MatchOption, ◌≡◌, ◌⊎◌, ◌≤◌, ◌<◌, ◌+◌, ◌^◌}
 use Rattle.ld_lines.specs.Lines.{HasNoFeed}
-use Rattle.ld_lines.specs.Reading.{Reading, Takes, Answer, WholeLine, OverLine, NoLine, Fault, TooLong}
+use Rattle.ld_lines.specs.Reading.{Reading, Takes}
+use Rattle.ld_lines.specs.Answer.{Answer, WholeLine, OverLine, NoLine, Fault, TooLong}
 use Rattle.ld_lines.specs.declared.cut.Cut.{Cut}
 use Rattle.ld_lines.specs.declared.cut.Cut.TheVariants.{Whole, Over, End}
 use Rattle.ld_lines.specs.declared.stop.LineStop.{LineStop}
@@ -19,6 +20,11 @@ answer_of_cut line (Ok Over) = OverLine
 answer_of_cut line (Ok End) = NoLine
 answer_of_cut line (Err ReadFault) = Fault
 answer_of_cut line (Err InputTooLong) = TooLong
+
+-- How many bytes were taken in all where reading stops.
+abbrev pub StopsAt : LineStop → ℕ → Type 0
+StopsAt ReadFault taken = taken < 2 ^ 40
+StopsAt InputTooLong taken = taken ≡ 2 ^ 40
 
 -- The first line feed is at this place, if there is one.
 abbrev pub FeedAt : List ℕ → Option ℕ → Type 0
@@ -39,7 +45,7 @@ pub record Fetches (old : Reading) (before : Option (List ℕ)) (new : Reading) 
 abbrev pub CutsOf : List ℕ → Answer → Reading → Type 0
 CutsOf bytes (WholeLine line) new = Ends bytes line new × (length line ≤ 65536)
 CutsOf bytes OverLine new = (long : List ℕ) × Ends bytes long new × (65536 < length long)
-CutsOf bytes NoLine new = (bytes ≡ []) × (new.ended ≡ true)
+CutsOf bytes NoLine new = (bytes ≡ []) × (new.held ≡ []) × (new.ended ≡ true)
 CutsOf bytes Fault new = HasNoFeed bytes × (new.ended ≡ false)
 CutsOf bytes TooLong new = HasNoFeed bytes × (new.ended ≡ false)
 

@@ -1,7 +1,7 @@
 //! The lines of a source.
 ghost use Rattle.std.specs.Prelude.{◌≡◌, ◌≤◌, ◌^◌, ℕ, [], true, false, IfOk, Err};
 ghost use Rattle.ld_base.specs.Outside.{Rose};
-ghost use Rattle.ld_lines.specs.Reading.{Reading, HandsOut};
+ghost use Rattle.ld_lines.specs.Reading.{Reading};
 
 use crate::cut::Cut;
 use crate::next::Next;
@@ -32,7 +32,7 @@ impl Lines {
     ghost use mathlib.Core.Option.{none};
     ghost use denote.Follow.{follows_so};
     ghost use Rattle.ld_base.specs.Outside.{Rose};
-    ghost use Rattle.ld_lines.specs.Reading.{HandsOut};
+    ghost use Rattle.ld_lines.specs.Answer.{HandsOut};
     ghost use Rattle.ld_lines.specs.Next.{answer_of};
     ghost use Rattle.ld_lines.specs.contracts.lines.Lines.{the_row};
 

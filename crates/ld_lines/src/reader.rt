@@ -1,9 +1,10 @@
 //! The bytes of a source, cut into pieces.
-ghost use Rattle.std.specs.Prelude.{◌≡◌, ◌≤◌, ◌<◌, ◌+◌, ◌-◌, ◌^◌, ℕ, List, [], ◌∷◌, ◌++◌, Bool, true, false, IfOk, IfSome, OnErr, OnOk, length, take, drop};
+ghost use Rattle.std.specs.Prelude.{◌≡◌, ◌≤◌, ◌<◌, ◌+◌, ◌-◌, ◌^◌, ℕ, List, [], ◌∷◌, ◌++◌, Bool, true, false, IfOk, IfErr, OnErr, length, take, drop};
 ghost use Rattle.ld_base.specs.Outside.{Rose, piece_then};
 ghost use Rattle.ld_lines.specs.Lines.{HasNoFeed, is_blank};
-ghost use Rattle.ld_lines.specs.Reading.{Reading, IsEnd, HandsOut};
-ghost use Rattle.ld_lines.specs.Cutting.{Cutting, FeedAt, Fetches, CutsOf, CutsOff, answer_of_cut};
+ghost use Rattle.ld_lines.specs.Reading.{IsEnd};
+ghost use Rattle.ld_lines.specs.Answer.{HandsOut};
+ghost use Rattle.ld_lines.specs.Cutting.{Cutting, FeedAt, Fetches, CutsOf, CutsOff, StopsAt, answer_of_cut};
 ghost use Rattle.std.specs.List.{list_all};
 
 use crate::buffer::{Buffer, LINE_LIMIT};
@@ -70,7 +71,7 @@ impl Reader {
         ensures limit { self.new.reading.taken ≤ 2 ^ 40 }
         ensures err { OnErr result (self.new.reading ≡ self.old.reading) }
         ensures read_fault { result ≡ Err LineStop.ReadFault → Rose (S.faults source.old) (S.faults source.new) }
-        ensures too_long { result ≡ Err LineStop.InputTooLong → self.new.reading.taken ≡ 2 ^ 40 }
+        ensures stops { IfErr result (λ stop. StopsAt stop self.new.reading.taken) }
         ensures counts { S.faults source.old ≤ S.faults source.new }
         ensures after_limit { self.old.reading.taken ≡ 2 ^ 40 → source.new ≡ source.old }
     {
@@ -121,7 +122,7 @@ impl Reader {
         ensures cuts { CutsOff self.old.reading (S.left source.old) (answer_of_cut self.new.line result) self.new.reading (S.left source.new) }
         ensures limit { self.new.reading.taken ≤ 2 ^ 40 }
         ensures read_fault { result ≡ Err LineStop.ReadFault → Rose (S.faults source.old) (S.faults source.new) }
-        ensures too_long { result ≡ Err LineStop.InputTooLong → self.new.reading.taken ≡ 2 ^ 40 }
+        ensures stops { IfErr result (λ stop. StopsAt stop self.new.reading.taken) }
         ensures counts { S.faults source.old ≤ S.faults source.new }
         ensures after_end { self.old.reading.ended ≡ true → source.new ≡ source.old }
         ensures after_limit { self.old.reading.taken ≡ 2 ^ 40 → source.new ≡ source.old }
@@ -155,7 +156,7 @@ impl Reader {
         ensures cuts { CutsOff self.old.reading (S.left source.old) (answer_of_cut self.new.line result) self.new.reading (S.left source.new) }
         ensures limit { self.new.reading.taken ≤ 2 ^ 40 }
         ensures read_fault { result ≡ Err LineStop.ReadFault → Rose (S.faults source.old) (S.faults source.new) }
-        ensures too_long { result ≡ Err LineStop.InputTooLong → self.new.reading.taken ≡ 2 ^ 40 }
+        ensures stops { IfErr result (λ stop. StopsAt stop self.new.reading.taken) }
         ensures counts { S.faults source.old ≤ S.faults source.new }
         ensures after_limit { self.old.reading.taken ≡ 2 ^ 40 → source.new ≡ source.old }
     {

@@ -8,8 +8,7 @@ pub returns-in_err-next_piece-clause-hands_out : goal.returns-in_err-next_piece-
 returns-in_err-next_piece-clause-hands_out g c =
     let p = err_from_is_err_and c.from_residual.result c.from_residual.ensures.1 in
     let stop = c.in_err-next_piece in
-    rw (p.1, p.2) (HandsOut-stop c.next_piece.new.self.line stop.field-0.0 c.loop-self.invariant.0 stop.ensures.cuts c.next_piece.ensures.limit
-        (λ e. c.next_piece.ensures.too_long (stop.was ∙ ap Err e)))
+    rw (p.1, p.2) (HandsOut-stop c.next_piece.new.self.line stop.field-0.0 c.loop-self.invariant.0 stop.ensures.cuts stop.ensures.stops)
 
 pub returns-then-not-are_blank-clause-hands_out : goal.returns-then-not-are_blank-clause-hands_out
 returns-then-not-are_blank-clause-hands_out g c =
