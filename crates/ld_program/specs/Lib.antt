@@ -12,3 +12,5 @@ pub mod StateView
 pub mod Endings
 pub mod Words
 pub mod WorldView
+pub mod Answering
+pub mod Replay

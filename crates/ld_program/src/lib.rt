@@ -2,6 +2,7 @@
 #![tactic(auto)]
 
 pub mod ending;
+pub mod replay;
 pub mod state;
 pub mod words;
 pub mod world;

@@ -43,6 +43,15 @@ impl World {
         let _ = line;
         say_no_memory(out)
     }
+
+    /// Answers a line that is no command line.
+    pub fn answer_bad_line(&mut self, out: &mut Text)
+        requires { 128 ≤ room_of out.old }
+        ensures answers { AnswersLine (world_of self.old) None out.new.bytes (world_of self.new) }
+        ensures room { 128 ≤ room_of out.new }
+    {
+        say_no_memory(out)
+    }
 }
 
 /// Says that memory is wanting.
