@@ -1,2 +1,4 @@
 //! The top call.
 #![tactic(auto)]
+
+pub mod reader;

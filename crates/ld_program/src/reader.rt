@@ -1,0 +1,6 @@
+//! Reading the documents of a folder into a unit.
+mod activities;
+mod lists;
+mod methods;
+mod roles;
+mod values;
