@@ -3,4 +3,6 @@ mod activities;
 mod lists;
 mod methods;
 mod roles;
+mod trees;
+mod units;
 mod values;

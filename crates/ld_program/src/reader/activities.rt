@@ -2,13 +2,13 @@
 ghost use Rattle.std.specs.Prelude.{◌≡◌, IfOk};
 ghost use Rattle.serde_json.specs.Find.{get, as_bool};
 ghost use Rattle.serde_json.specs.View.{view};
-ghost use Rattle.ld_program.specs.FirstForm.{activity_of, choice_of, completion_of, item_of};
+ghost use Rattle.ld_program.specs.FirstForm.{activities_of, activity_of, choice_of, completion_of, item_of};
 ghost use Rattle.ld_program.specs.Maybe.{◌>>=◌ as ◌then◌};
 
 use crate::reader::lists::{Part, optional_list_at};
 use crate::reader::values::{href_at, identifier_at, only, title_at};
 use ld_base::memory::NoMemory;
-use ld_model::activity::{Activity, Completion, Item};
+use ld_model::activity::{Activity, ActivityList, Completion, Item};
 use serde_json::Value;
 use std::alloc::Global;
 
@@ -77,4 +77,15 @@ fn completion_at(node: &Value, name: &str) -> Option<Completion>
         return None;
     }
     Some(Completion::UserChoice)
+}
+
+/// The activities of the document `activities.json`.
+#[tactic(auto, unfolding(crate::specs::FirstForm::activities_of, crate::specs::FirstForm::only))]
+pub(super) fn read_activities(alloc: Global, node: &Value) -> Result<Option<ActivityList>, NoMemory>
+    ensures { IfOk result (λ activities. activities ≡ activities_of (view node.now)) }
+{
+    let Some(_) = only(node, &["activities"]) else {
+        return Ok(None);
+    };
+    optional_list_at::<Activity>(alloc, node, "activities")
 }

@@ -2,13 +2,13 @@
 ghost use Rattle.std.specs.Prelude.{◌≡◌, IfOk};
 ghost use Rattle.serde_json.specs.Find.{get, as_str};
 ghost use Rattle.serde_json.specs.View.{view};
-ghost use Rattle.ld_program.specs.FirstForm.{role_of, role_kind_of};
+ghost use Rattle.ld_program.specs.FirstForm.{role_of, role_kind_of, roles_of};
 ghost use Rattle.ld_program.specs.Maybe.{◌>>=◌ as ◌then◌};
 
-use crate::reader::lists::Part;
+use crate::reader::lists::{Part, read_list};
 use crate::reader::values::{identifier_at, only, text_at, title_at};
 use ld_base::memory::NoMemory;
-use ld_model::role::{Role, RoleKind};
+use ld_model::role::{Role, RoleKind, RoleList};
 use serde_json::Value;
 use std::alloc::Global;
 
@@ -46,4 +46,24 @@ fn kind_at(node: &Value, name: &str) -> Option<RoleKind>
         "staff" => Some(RoleKind::Staff),
         _ => None,
     }
+}
+
+/// The roles of the document `roles.json`, of which there has to be one.
+#[tactic(auto, unfolding(crate::specs::FirstForm::roles_of, crate::specs::FirstForm::only))]
+pub(super) fn read_roles(alloc: Global, node: &Value) -> Result<Option<RoleList>, NoMemory>
+    ensures { IfOk result (λ roles. roles ≡ roles_of (view node.now)) }
+{
+    let Some(_) = only(node, &["roles"]) else {
+        return Ok(None);
+    };
+    let Some(member) = node.get("roles") else {
+        return Ok(None);
+    };
+    let Some(roles) = read_list::<Role>(alloc, member)? else {
+        return Ok(None);
+    };
+    if roles.is_empty() {
+        return Ok(None);
+    }
+    Ok(Some(roles))
 }
