@@ -1,3 +1,4 @@
 pub mod FirstForm
 pub mod Json
 pub mod Maybe
+pub mod InFolder

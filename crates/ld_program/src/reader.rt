@@ -1,8 +1,10 @@
 //! Reading the documents of a folder into a unit.
 mod activities;
+mod files;
 mod lists;
 mod methods;
 mod roles;
+pub mod stop;
 mod trees;
 mod units;
 mod values;
