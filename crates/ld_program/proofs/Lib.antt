@@ -1,1 +1,4 @@
+pub mod Differing
+pub mod Flattened
 pub mod JsonTrees
+pub mod PartIdentifiers

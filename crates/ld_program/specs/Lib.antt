@@ -1,4 +1,6 @@
 pub mod FirstForm
+pub mod Identifiers
+pub mod InFolder
 pub mod Json
 pub mod Maybe
-pub mod InFolder
+pub mod References

@@ -13,7 +13,12 @@ use serde_json::Value;
 use std::alloc::Global;
 
 /// The tree of the document, where there is one that is not too big and is JSON.
-pub(super) fn tree_in<H: Shelf>(alloc: Global, shelf: &mut H, folder: &str, file: FileNo) -> Result<Option<Value>, FolderStop>
+pub(super) fn tree_in<H: Shelf>(
+    alloc: Global,
+    shelf: &mut H,
+    folder: &str,
+    file: FileNo,
+) -> Result<Option<Value>, FolderStop>
     ensures tree { IfOk result (λ tree. (files : Files) → H.files shelf.old ≡ Some files → option_map view tree ≡ tree_of (files folder.now (file_name file))) }
     ensures fault { result ≡ Err FolderStop.ShelfFault → Rose (H.faults shelf.old) (H.faults shelf.new) }
     ensures counts { H.faults shelf.old ≤ H.faults shelf.new }
@@ -30,7 +35,12 @@ pub(super) fn tree_in<H: Shelf>(alloc: Global, shelf: &mut H, folder: &str, file
 }
 
 /// Whether there is no such document.
-pub(super) fn is_absent<H: Shelf>(alloc: Global, shelf: &mut H, folder: &str, file: FileNo) -> Result<bool, FolderStop>
+pub(super) fn is_absent<H: Shelf>(
+    alloc: Global,
+    shelf: &mut H,
+    folder: &str,
+    file: FileNo,
+) -> Result<bool, FolderStop>
     ensures absent { IfOk result (λ absent. (files : Files) → H.files shelf.old ≡ Some files → absent ≡ is_some (none_there (files folder.now (file_name file)))) }
     ensures fault { result ≡ Err FolderStop.ShelfFault → Rose (H.faults shelf.old) (H.faults shelf.new) }
     ensures counts { H.faults shelf.old ≤ H.faults shelf.new }

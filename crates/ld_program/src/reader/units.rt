@@ -16,7 +16,12 @@ use std::alloc::Global;
 
 /// The unit of the document `unit.json`, with the roles and activities of the other two.
 #[tactic(auto, unfolding(crate::specs::FirstForm::unit_of, crate::specs::FirstForm::only))]
-pub(super) fn read_unit(alloc: Global, roles: RoleList, activities: ActivityList, node: &Value) -> Result<Option<Unit>, NoMemory>
+pub(super) fn read_unit(
+    alloc: Global,
+    roles: RoleList,
+    activities: ActivityList,
+    node: &Value,
+) -> Result<Option<Unit>, NoMemory>
     ensures { IfOk result (λ unit. unit ≡ unit_of roles activities (view node.now)) }
 {
     let Some(_) = only(node, &["format", "identifier", "level", "title", "method"]) else {
