@@ -1,6 +1,7 @@
 //! Reading the documents of a folder into a unit.
 mod activities;
 mod files;
+pub mod folder;
 mod identifiers;
 mod lists;
 mod methods;
