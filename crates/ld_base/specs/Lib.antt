@@ -1,3 +1,6 @@
 pub mod Identifier
 pub mod Roomy
 pub mod Outside
+pub mod Calls
+pub mod Files
+pub mod Memory
