@@ -1,6 +1,8 @@
 pub mod Answers
 pub mod Firing
 pub mod FirstForm
+pub mod Identifiers
+pub mod InFolder
 pub mod Json
 pub mod Maybe
 pub mod Reply
@@ -14,3 +16,4 @@ pub mod Words
 pub mod WorldView
 pub mod Answering
 pub mod Replay
+pub mod References

@@ -6,3 +6,4 @@ pub mod replay;
 pub mod state;
 pub mod words;
 pub mod world;
+pub mod reader;

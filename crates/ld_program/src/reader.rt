@@ -1,0 +1,13 @@
+//! Reading the documents of a folder into a unit.
+mod activities;
+mod files;
+pub mod folder;
+mod identifiers;
+mod lists;
+mod methods;
+mod roles;
+pub mod stop;
+mod trees;
+mod units;
+pub mod validity;
+mod values;
