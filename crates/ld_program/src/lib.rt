@@ -2,8 +2,9 @@
 #![tactic(auto)]
 
 pub mod ending;
+pub mod reader;
 pub mod replay;
 pub mod state;
+pub mod top;
 pub mod words;
 pub mod world;
-pub mod reader;

@@ -1,9 +1,11 @@
 //! Answering the lines of a source, one after the other.
-ghost use Rattle.std.specs.Prelude.{◌≡◌, ◌≤◌, ◌<◌, ℕ, [], false, true, Err, Ok, Option, List, None, ◌^◌};
+ghost use Rattle.std.specs.Prelude.{◌≡◌, ◌≤◌, ◌<◌, ℕ, [], ◌∷◌, false, true, Err, Ok, Option, List, None, ◌^◌};
 ghost use Rattle.ld_base.specs.Outside.{Rose, then_piece};
 ghost use Rattle.ld_base.specs.Roomy.{room_of};
 ghost use Rattle.ld_lines.specs.Answer.{Answer, HandsOut};
 ghost use Rattle.ld_program.specs.Answering.{AnswersWhat, AnsweredAll, AnsweredTaken, IsEndOfLines};
+ghost use Rattle.ld_program.specs.Endings.{IsReplayEnding};
+ghost use Rattle.ld_program.specs.World.{first_world};
 ghost use Rattle.ld_program.specs.WorldView.{world_of};
 
 use crate::ending::Ending;
@@ -15,6 +17,7 @@ use ld_base::write::write_all;
 use ld_lines::lines::Lines;
 use ld_lines::next::Next;
 use ld_lines::stop::LineStop;
+use ld_model::unit::Unit;
 use std::alloc::Global;
 
 /// Asks for the next line and answers it into `out`. True where there was one, false at the end.
@@ -78,3 +81,35 @@ fn answer_lines<S: Source, K: Sink>(
         }
     }
 }
+
+/// Answers the lines of the source from the world of the unit on. Where memory is wanting nothing
+/// was taken and nothing was written.
+pub fn replay<S: Source, K: Sink>(
+    alloc: Global,
+    unit: Unit,
+    source: &mut S,
+    sink: &mut K,
+) -> Ending
+    ensures done { result ≡ Ending.Done → AnsweredAll (first_world (unit ∷ [])) (S.left source.old) (S.left source.new) (K.written sink.old) (K.written sink.new) }
+    ensures read { result ≡ Ending.ReadFault → AnsweredTaken (λ n. n < 2 ^ 40) (first_world (unit ∷ [])) (S.left source.old) (S.left source.new) (K.written sink.old) (K.written sink.new) }
+    ensures long { result ≡ Ending.InputTooLong → AnsweredTaken (λ n. n ≡ 2 ^ 40) (first_world (unit ∷ [])) (S.left source.old) (S.left source.new) (K.written sink.old) (K.written sink.new) }
+    ensures no_memory { result ≡ Ending.NoMemory → (source.new ≡ source.old) × (sink.new ≡ sink.old) }
+    ensures read_cause { result ≡ Ending.ReadFault → Rose (S.faults source.old) (S.faults source.new) }
+    ensures write_cause { result ≡ Ending.WriteFault → Rose (K.faults sink.old) (K.faults sink.new) }
+    ensures source_counts { S.faults source.old ≤ S.faults source.new }
+    ensures sink_counts { K.faults sink.old ≤ K.faults sink.new }
+    ensures endings { IsReplayEnding result }
+{
+    let mut world = World::new(unit);
+    let Ok(mut lines) = Lines::new(alloc) else {
+        return Ending::NoMemory;
+    };
+    let Ok(mut out) = Text::with_room(alloc, REPLY_ROOM) else {
+        return Ending::NoMemory;
+    };
+    answer_lines(alloc, &mut lines, source, sink, &mut world, &mut out)
+}
+
+/// The room that is taken for replies before the first line is asked for, in bytes. Every refusal
+/// fits into it.
+const REPLY_ROOM: usize = 4096;
