@@ -9,3 +9,4 @@ pub mod Tests
 pub mod Tree
 pub mod World
 pub mod StateView
+pub mod PlanView

@@ -1,4 +1,8 @@
 //! The engine behind the command `ld`: from the documents and the lines of commands to the replies.
 #![tactic(auto)]
 
+pub mod number;
+pub mod plan;
+pub mod rules;
 pub mod state;
+pub mod things;
