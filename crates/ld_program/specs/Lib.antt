@@ -10,3 +10,4 @@ pub mod Tree
 pub mod World
 pub mod StateView
 pub mod PlanView
+pub mod LookupView

@@ -24,9 +24,10 @@ AddsEntries old new added = map entry_of new ≡ map entry_of old ++ added
 abbrev pub AddsRules : List CodeRule → List CodeRule → List Rule → Type 0
 AddsRules old new added = map rule_of new ≡ map rule_of old ++ added
 
--- The lists of the plan are those of the unit, and each of their numbers fits 32 bits.
+-- The lists of the plan are those of the unit, and the numbers of the unit's parts fit 32 bits.
 pub record IsPlanOf (unit : Course) (plan : Plan) : Type 0 where
   pub things : map entry_of plan.things.items ≡ things_of unit
   pub rules : map rule_of plan.rules.items ≡ rules_of unit
   pub few_things : length plan.things.items < 2 ^ 32
   pub few_rules : length plan.rules.items < 2 ^ 32
+  pub few_activities : length unit.activities < 2 ^ 32

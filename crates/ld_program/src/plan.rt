@@ -1,10 +1,14 @@
 //! The plan of a unit: its things and its rules as lists, made once and used by all its runs.
-ghost use Rattle.std.specs.Prelude.{IfOk};
-ghost use Rattle.ld_program.specs.PlanView.{IsPlanOf};
+ghost use Rattle.std.specs.Prelude.{◌≡◌, ◌<◌, ◌^◌, map, length, IfOk};
+ghost use Rattle.std.specs.Str.{bytes_eq};
+ghost use Rattle.ld_model.specs.Counting.{number_where};
+ghost use Rattle.ld_model.specs.Rules.{same_rule};
+ghost use Rattle.ld_program.specs.PlanView.{IsPlanOf, entry_of, rule_of};
 
 use crate::number::number;
 use crate::rules::{Rule, list_rules};
 use crate::things::{ThingEntry, list_things};
+use ld_base::id::Id;
 use ld_base::memory::NoMemory;
 use ld_model::unit::Unit;
 use std::alloc::Global;
@@ -17,7 +21,7 @@ pub struct Plan {
 }
 
 impl Plan {
-    /// The plan of the unit. It has fewer than 2^32 things and rules, or else there is no memory.
+    /// The plan of the unit. The numbers of the unit's parts fit 32 bits, or else there is no memory.
     pub fn of(alloc: Global, unit: &Unit) -> Result<Plan, NoMemory>
         ensures { IfOk result (IsPlanOf unit.now) }
     {
@@ -25,6 +29,33 @@ impl Plan {
         let rules = list_rules(alloc, unit)?;
         number(things.len())?;
         number(rules.len())?;
+        number(unit.activities.len())?;
         Ok(Plan { things, rules })
+    }
+
+    /// The number of the thing of this identifier.
+    pub fn thing_number(&self, id: &Id) -> Option<u32>
+        requires { length self.now.things.items < 2 ^ 32 }
+        ensures { result ≡ number_where (λ entry. bytes_eq entry.identifier id.now) (map entry_of self.now.things.items) }
+    {
+        for (t, thing) in self.things.iter().enumerate() {
+            if thing.identifier == *id {
+                return Some(t as u32);
+            }
+        }
+        None
+    }
+
+    /// The number of the rule.
+    pub fn rule_number(&self, rule: Rule) -> Option<u32>
+        requires { length self.now.rules.items < 2 ^ 32 }
+        ensures { result ≡ number_where (same_rule (rule_of rule)) (map rule_of self.now.rules.items) }
+    {
+        for (number, known) in self.rules.iter().enumerate() {
+            if rule.is(*known) {
+                return Some(number as u32);
+            }
+        }
+        None
     }
 }

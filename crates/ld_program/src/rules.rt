@@ -1,7 +1,7 @@
 //! The rules of a unit as one list, in which their places are their numbers.
 ghost use Rattle.std.specs.Prelude.{◌≡◌, map, IfOk, OnOk};
 ghost use Rattle.ld_model.specs.Counting.{each_numbered};
-ghost use Rattle.ld_model.specs.Rules.{activity_rule, part_rule, act_rules, play_rules, rules_of, opens_act, completes_activity, completes_part};
+ghost use Rattle.ld_model.specs.Rules.{activity_rule, part_rule, act_rules, play_rules, rules_of, same_rule, opens_act, completes_activity, completes_part};
 ghost use Rattle.ld_program.specs.PlanView.{rule_of, AddsRules};
 
 use crate::number::number;
@@ -20,6 +20,15 @@ pub enum Rule {
     OpensAct(u32, u32),
     /// The role-part of the act of the play is completed.
     CompletesPart(u32, u32, u32),
+}
+
+impl Rule {
+    /// Whether the two are one rule.
+    pub fn is(self, other: Rule) -> bool
+        ensures { result ≡ same_rule (rule_of self) (rule_of other) }
+    {
+        self == other
+    }
 }
 
 /// The rules of the unit in the order in which a sweep visits them.
