@@ -1,6 +1,8 @@
 -- What the code's plan of a unit stands for: the unit's things and its rules.
-use Rattle.std.specs.Prelude.{List, map, ◌++◌, ◌≡◌, ◌<◌, ◌^◌, length}
-use Rattle.ld_model.specs.Rules.{Rule, completes_activity, opens_act, completes_part, rules_of}
+use Rattle.std.specs.Prelude.{ℕ, List, Option, map, ◌++◌, ◌≡◌, ◌<◌, ◌^◌, length}
+use Rattle.std.specs.Str.{bytes_eq}
+use Rattle.ld_model.specs.Counting.{number_where}
+use Rattle.ld_model.specs.Rules.{Rule, completes_activity, opens_act, completes_part, rules_of, same_rule}
 use Rattle.ld_model.specs.Things.{Entry, things_of}
 use Rattle.ld_model.specs.declared.unit.Unit.{Unit as Course}
 use Rattle.ld_program.specs.declared.plan.Plan.{Plan}
@@ -15,6 +17,14 @@ abbrev pub rule_of : CodeRule → Rule
 rule_of (CompletesActivity a) = completes_activity a
 rule_of (OpensAct p a) = opens_act p a
 rule_of (CompletesPart p a r) = completes_part p a r
+
+-- The number of the thing of this identifier in the plan.
+abbrev pub thing_in : Plan → List ℕ → Option ℕ
+thing_in plan id = number_where (λ entry. bytes_eq entry.identifier id) (map entry_of plan.things.items)
+
+-- The number of the rule in the plan.
+abbrev pub number_in : Plan → Rule → Option ℕ
+number_in plan rule = number_where (same_rule rule) (map rule_of plan.rules.items)
 
 -- The new list is the old one with these entries behind it.
 abbrev pub AddsEntries : List ThingEntry → List ThingEntry → List Entry → Type 0

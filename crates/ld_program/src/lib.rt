@@ -7,3 +7,4 @@ pub mod plan;
 pub mod rules;
 pub mod state;
 pub mod things;
+pub mod verdict;

@@ -1,9 +1,6 @@
 //! The plan of a unit: its things and its rules as lists, made once and used by all its runs.
 ghost use Rattle.std.specs.Prelude.{◌≡◌, ◌<◌, ◌^◌, map, length, IfOk};
-ghost use Rattle.std.specs.Str.{bytes_eq};
-ghost use Rattle.ld_model.specs.Counting.{number_where};
-ghost use Rattle.ld_model.specs.Rules.{same_rule};
-ghost use Rattle.ld_program.specs.PlanView.{IsPlanOf, entry_of, rule_of};
+ghost use Rattle.ld_program.specs.PlanView.{IsPlanOf, rule_of, number_in, thing_in};
 
 use crate::number::number;
 use crate::rules::{Rule, list_rules};
@@ -36,7 +33,7 @@ impl Plan {
     /// The number of the thing of this identifier.
     pub fn thing_number(&self, id: &Id) -> Option<u32>
         requires { length self.now.things.items < 2 ^ 32 }
-        ensures { result ≡ number_where (λ entry. bytes_eq entry.identifier id.now) (map entry_of self.now.things.items) }
+        ensures { result ≡ thing_in self.now id.now }
     {
         for (t, thing) in self.things.iter().enumerate() {
             if thing.identifier == *id {
@@ -49,7 +46,7 @@ impl Plan {
     /// The number of the rule.
     pub fn rule_number(&self, rule: Rule) -> Option<u32>
         requires { length self.now.rules.items < 2 ^ 32 }
-        ensures { result ≡ number_where (same_rule (rule_of rule)) (map rule_of self.now.rules.items) }
+        ensures { result ≡ number_in self.now (rule_of rule) }
     {
         for (number, known) in self.rules.iter().enumerate() {
             if rule.is(*known) {
