@@ -1,2 +1,4 @@
 pub mod Cells
 pub mod Ranges
+pub mod Copied
+pub mod Held

@@ -1,6 +1,7 @@
 //! The engine behind the command `ld`: from the documents and the lines of commands to the replies.
 #![tactic(auto)]
 
+pub mod copies;
 pub mod lookup;
 pub mod number;
 pub mod plan;
