@@ -4,3 +4,6 @@ pub mod Differing
 pub mod Flattened
 pub mod JsonTrees
 pub mod PartIdentifiers
+pub mod Ranges
+pub mod Copied
+pub mod Held

@@ -17,3 +17,5 @@ pub mod WorldView
 pub mod Answering
 pub mod Replay
 pub mod References
+pub mod PlanView
+pub mod LookupView
