@@ -19,3 +19,5 @@ pub mod Replay
 pub mod References
 pub mod PlanView
 pub mod LookupView
+pub mod Stepping
+pub mod Turn

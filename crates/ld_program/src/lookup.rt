@@ -1,9 +1,9 @@
 //! Numbers by identifiers, and who is a member of a role, found by going through the lists.
 //!
 //! This is the plain program with which faster ones are compared: it may be slow on a large unit.
-ghost use Rattle.std.specs.Prelude.{◌≡◌, Some, ◌<◌, ◌^◌, length};
+ghost use Rattle.std.specs.Prelude.{◌≡◌, Some, IfSome, ◌<◌, ◌^◌, length};
 ghost use Rattle.std.specs.List.{list_any, flat_map};
-ghost use Rattle.ld_model.specs.Members.{role_number, activity_number, person_number, holds_role, is_member, is_member_of, has_member, is_mine};
+ghost use Rattle.ld_model.specs.Members.{role_number, activity_number, person_number, holds_role, is_member, is_member_at, is_member_of, has_member, is_mine};
 ghost use Rattle.ld_model.specs.Rules.{rule_number};
 ghost use Rattle.ld_model.specs.Things.{thing_number};
 ghost use Rattle.ld_program.specs.LookupView.{HasFewPersons, makes_mine};
@@ -30,7 +30,8 @@ pub fn role_number(unit: &Unit, id: &Id) -> Option<usize>
 
 /// The number of the person of this name.
 pub fn person_number(state: &State, name: &Id) -> Option<usize>
-    ensures { result ≡ person_number (state_of state.now) name.now }
+    ensures number { result ≡ person_number (state_of state.now) name.now }
+    ensures within { IfSome result (λ p. p < length state.now.persons.items) }
 {
     for (p, person) in state.persons.iter().enumerate() {
         if person.name == *name {
@@ -82,6 +83,16 @@ pub fn is_member_of(unit: &Unit, state: &State, role: &Id, person: u32) -> bool
     match role_number(unit, role) {
         Some(number) => is_member(state, number, person),
         None => false,
+    }
+}
+
+/// Whether the person of this number holds the role of this identifier.
+pub fn holds_by_name(unit: &Unit, state: &State, person: usize, role: &Id) -> bool
+    ensures { result ≡ is_member_at (state_of state.now) (role_number unit.now role.now) person }
+{
+    match (state.persons.get(person), role_number(unit, role)) {
+        (Some(person), Some(role)) => holds_role(person, role),
+        _ => false,
     }
 }
 

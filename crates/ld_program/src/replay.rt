@@ -100,7 +100,9 @@ pub fn replay<S: Source, K: Sink>(
     ensures sink_counts { K.faults sink.old ≤ K.faults sink.new }
     ensures endings { IsReplayEnding result }
 {
-    let mut world = World::new(unit);
+    let Ok(mut world) = World::new(alloc, unit) else {
+        return Ending::NoMemory;
+    };
     let Ok(mut lines) = Lines::new(alloc) else {
         return Ending::NoMemory;
     };
