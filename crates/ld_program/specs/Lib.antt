@@ -11,3 +11,4 @@ pub mod World
 pub mod StateView
 pub mod PlanView
 pub mod LookupView
+pub mod FiringView

@@ -2,6 +2,7 @@
 #![tactic(auto)]
 
 pub mod copies;
+pub mod firing;
 pub mod lookup;
 pub mod number;
 pub mod plan;

@@ -1,0 +1,78 @@
+//! The firing of sites, a sweep over all sites, and the settling of a run.
+//!
+//! This is the plain program with which faster ones are compared: each sweep tests every site anew,
+//! so it may be slow on a large unit.
+ghost use Rattle.std.specs.Prelude.{◌≡◌, Some, OnOk, IfOk, slice_get};
+ghost use Rattle.std.specs.List.{fold};
+ghost use Rattle.std.specs.Option.{option_map};
+ghost use Rattle.ld_model.specs.Rules.{rules_of, sites_of_rule, person_site};
+ghost use Rattle.ld_program.specs.Firing.{mark_says, mark_of, open_thing, open_act, effect, site_visit, sweep, settling};
+ghost use Rattle.ld_program.specs.FiringView.{tally_of, settling_of};
+ghost use Rattle.ld_program.specs.LookupView.{HasFewPersons};
+ghost use Rattle.ld_program.specs.PlanView.{IsPlanOf, rule_of};
+ghost use Rattle.ld_program.specs.StateView.{state_of, cell_in};
+
+use crate::number::number;
+use crate::plan::Plan;
+use crate::rules::Rule;
+use crate::state::State;
+use crate::verdict::{act_at, site_test};
+use ld_base::memory::NoMemory;
+use ld_base::numbers::{PersonNo, RuleNo, ThingNo};
+use ld_model::cell::{CellName, Owner};
+use ld_model::unit::Unit;
+use ld_value::value::Value;
+
+/// What has fired in a sweep: firings, rejected writes and notices sent.
+#[derive(Clone, Copy, Debug, PartialEq, Eq)]
+pub struct Counts {
+    pub fired: u64,
+    pub rejected: u64,
+    pub sent: u64,
+}
+
+/// What the sweeps of a settling did: how many of them fired, and what has fired in them.
+#[derive(Clone, Copy, Debug, PartialEq, Eq)]
+pub struct Sums {
+    pub turns: u32,
+    pub fired: u64,
+    pub rejected: u64,
+    pub sent: u64,
+}
+
+/// Whether the mark of the rule, for the owner, holds this answer.
+fn mark_says(state: &State, rule: u32, owner: Owner, verdict: bool) -> bool
+    ensures { result ≡ mark_says (cell_in state.now (mark_of (record { rule = rule; owner = owner }))) verdict }
+{
+    match state.written.get(&CellName::Mark(RuleNo(rule), owner)) {
+        Some(Some(Value::Bool(answer))) => *answer == verdict,
+        Some(_) => false,
+        None => !verdict,
+    }
+}
+
+/// Opens the thing of this number, which is an act: it keeps the moment.
+fn open_thing(state: &mut State, thing: u32) -> Result<(), NoMemory>
+    ensures { OnOk result (state_of state.new ≡ open_thing (state_of state.old) (Some thing)) }
+{
+    let alloc = *state.persons.allocator();
+    let now = state.value_in(alloc, CellName::Now)?;
+    state.put(CellName::ActOpened(ThingNo(thing)), now)
+}
+
+/// What a firing of the rule of this number does after the mark is set.
+fn effect(unit: &Unit, plan: &Plan, state: &mut State, rule: u32) -> Result<(), NoMemory>
+    requires { IsPlanOf unit.now plan.now }
+    ensures { OnOk result (state_of state.new ≡ effect unit.now (state_of state.old) (slice_get (rules_of unit.now) rule)) }
+{
+    let Some(Rule::OpensAct(play, act)) = plan.rules.get(rule as usize) else {
+        return Ok(());
+    };
+    let Some(act) = act_at(unit, *play, *act) else {
+        return Ok(());
+    };
+    match plan.thing_number(&act.identifier) {
+        Some(thing) => open_thing(state, thing),
+        None => Ok(()),
+    }
+}
