@@ -2,11 +2,11 @@
 //!
 //! This is the plain program with which faster ones are compared: each sweep tests every site anew,
 //! so it may be slow on a large unit.
-ghost use Rattle.std.specs.Prelude.{◌≡◌, Some, OnOk, IfOk, slice_get};
+ghost use Rattle.std.specs.Prelude.{◌≡◌, ◌+◌, Some, OnOk, IfOk, slice_get};
 ghost use Rattle.std.specs.List.{fold};
 ghost use Rattle.std.specs.Option.{option_map};
 ghost use Rattle.ld_model.specs.Rules.{rules_of, sites_of_rule, person_site};
-ghost use Rattle.ld_program.specs.Firing.{mark_says, mark_of, open_thing, open_act, effect, site_visit, sweep, settling};
+ghost use Rattle.ld_program.specs.Firing.{mark_says, mark_of, open_thing, effect, site_fired, site_visit, sweep, settling};
 ghost use Rattle.ld_program.specs.FiringView.{tally_of, settling_of};
 ghost use Rattle.ld_program.specs.LookupView.{HasFewPersons};
 ghost use Rattle.ld_program.specs.PlanView.{IsPlanOf, rule_of};
@@ -75,4 +75,51 @@ fn effect(unit: &Unit, plan: &Plan, state: &mut State, rule: u32) -> Result<(), 
         Some(thing) => open_thing(state, thing),
         None => Ok(()),
     }
+}
+
+/// Visits the site of the rule of this number and the owner, which fires where its test differs from
+/// its mark. After an error the state and the counts are not to be used.
+pub fn visit(
+    unit: &Unit,
+    plan: &Plan,
+    state: &mut State,
+    counts: &mut Counts,
+    rule: u32,
+    owner: Owner,
+) -> Result<(), NoMemory>
+    requires plan { IsPlanOf unit.now plan.now }
+    requires persons { HasFewPersons state.old }
+    ensures ok { OnOk result (tally_of state.new counts.new ≡ site_visit unit.now (tally_of state.old counts.old) (record { rule = rule; owner = owner })) }
+    ensures persons { OnOk result ((state_of state.new).persons ≡ (state_of state.old).persons) }
+{
+    let verdict = site_test(unit, plan, state, rule, owner);
+    if mark_says(state, rule, owner, verdict) {
+        return Ok(());
+    }
+    counts.fired = one_more(counts.fired)?;
+    fire(unit, plan, state, rule, owner, verdict)
+}
+
+/// One more, or else there is no memory: no machine counts so far.
+fn one_more(count: u64) -> Result<u64, NoMemory>
+    ensures { IfOk result (λ more. more ≡ count + 1) }
+{
+    count.checked_add(1).ok_or(NoMemory)
+}
+
+/// Sets the mark to the verdict, and then the effect follows.
+fn fire(
+    unit: &Unit,
+    plan: &Plan,
+    state: &mut State,
+    rule: u32,
+    owner: Owner,
+    verdict: bool,
+) -> Result<(), NoMemory>
+    requires { IsPlanOf unit.now plan.now }
+    ensures { OnOk result (state_of state.new ≡ site_fired unit.now (state_of state.old) (record { rule = rule; owner = owner }) verdict) }
+{
+    let mark = CellName::Mark(RuleNo(rule), owner);
+    state.put(mark, Some(Value::Bool(verdict)))?;
+    effect(unit, plan, state, rule)
 }
