@@ -2,9 +2,10 @@
 //!
 //! This is the plain program with which faster ones are compared: each sweep tests every site anew,
 //! so it may be slow on a large unit.
-ghost use Rattle.std.specs.Prelude.{◌≡◌, ◌+◌, Some, OnOk, IfOk, slice_get};
+ghost use Rattle.std.specs.Prelude.{◌≡◌, ◌+◌, Some, OnOk, IfOk, slice_get, map, length};
 ghost use Rattle.std.specs.List.{fold};
 ghost use Rattle.std.specs.Option.{option_map};
+ghost use Rattle.ld_model.specs.Counting.{numbers_below};
 ghost use Rattle.ld_model.specs.Rules.{rules_of, sites_of_rule, person_site};
 ghost use Rattle.ld_program.specs.Firing.{mark_says, mark_of, open_thing, effect, site_fired, site_visit, sweep, settling};
 ghost use Rattle.ld_program.specs.FiringView.{tally_of, settling_of};
@@ -122,4 +123,32 @@ fn fire(
     let mark = CellName::Mark(RuleNo(rule), owner);
     state.put(mark, Some(Value::Bool(verdict)))?;
     effect(unit, plan, state, rule)
+}
+
+/// Visits the sites of a person's rule, person by person.
+#[tactic(auto, using(crate::proofs::Ranges::range_more))]
+fn visit_persons(
+    unit: &Unit,
+    plan: &Plan,
+    state: &mut State,
+    counts: &mut Counts,
+    rule: u32,
+) -> Result<(), NoMemory>
+    requires plan { IsPlanOf unit.now plan.now }
+    requires persons { HasFewPersons state.old }
+    ensures ok { OnOk result (tally_of state.new counts.new ≡ fold (site_visit unit.now) (tally_of state.old counts.old) (map (person_site rule) (numbers_below (length state.old.persons.items)))) }
+    ensures persons { OnOk result ((state_of state.new).persons ≡ (state_of state.old).persons) }
+{
+    let persons = state.persons.len() as u32;
+    for person in 0..persons {
+        visit(
+            unit,
+            plan,
+            state,
+            counts,
+            rule,
+            Owner::Person(PersonNo(person)),
+        )?;
+    }
+    Ok(())
 }
