@@ -152,3 +152,43 @@ fn visit_persons(
     }
     Ok(())
 }
+
+/// Visits the sites of a rule, whose number is given.
+fn visit_rule(
+    unit: &Unit,
+    plan: &Plan,
+    state: &mut State,
+    counts: &mut Counts,
+    number: u32,
+    rule: Rule,
+) -> Result<(), NoMemory>
+    requires plan { IsPlanOf unit.now plan.now }
+    requires persons { HasFewPersons state.old }
+    ensures ok { OnOk result (tally_of state.new counts.new ≡ fold (site_visit unit.now) (tally_of state.old counts.old) (sites_of_rule (length state.old.persons.items) number (rule_of rule))) }
+    ensures persons { OnOk result ((state_of state.new).persons ≡ (state_of state.old).persons) }
+{
+    match rule {
+        Rule::CompletesActivity(_) => visit_persons(unit, plan, state, counts, number),
+        Rule::OpensAct(_, _) | Rule::CompletesPart(_, _, _) => {
+            visit(unit, plan, state, counts, number, Owner::Run)
+        }
+    }
+}
+
+/// Visits all sites in order, each in the state that the one before it left, and says what fired.
+/// After an error the state is not to be used.
+pub fn sweep(unit: &Unit, plan: &Plan, state: &mut State) -> Result<Counts, NoMemory>
+    requires { IsPlanOf unit.now plan.now }
+    ensures { IfOk result (λ counts. tally_of state.new counts ≡ sweep unit.now (state_of state.old)) }
+{
+    number(state.persons.len())?;
+    let mut counts = Counts {
+        fired: 0,
+        rejected: 0,
+        sent: 0,
+    };
+    for (number, rule) in plan.rules.iter().enumerate() {
+        visit_rule(unit, plan, state, &mut counts, number as u32, *rule)?;
+    }
+    Ok(counts)
+}
