@@ -192,3 +192,45 @@ pub fn sweep(unit: &Unit, plan: &Plan, state: &mut State) -> Result<Counts, NoMe
     }
     Ok(counts)
 }
+
+/// The number of sweeps of a settling that may fire.
+const TURN_BUDGET: u32 = 64;
+
+impl Sums {
+    /// The sums with those of one more sweep that fired. They fit, or else there is no memory.
+    fn plus(self, counts: Counts) -> Result<Sums, NoMemory>
+        ensures turns { IfOk result (λ sums. sums.turns ≡ self.turns + 1) }
+        ensures fired { IfOk result (λ sums. sums.fired ≡ self.fired + counts.fired) }
+        ensures rejected { IfOk result (λ sums. sums.rejected ≡ self.rejected + counts.rejected) }
+        ensures sent { IfOk result (λ sums. sums.sent ≡ self.sent + counts.sent) }
+    {
+        Ok(Sums {
+            turns: self.turns.checked_add(1).ok_or(NoMemory)?,
+            fired: self.fired.checked_add(counts.fired).ok_or(NoMemory)?,
+            rejected: self.rejected.checked_add(counts.rejected).ok_or(NoMemory)?,
+            sent: self.sent.checked_add(counts.sent).ok_or(NoMemory)?,
+        })
+    }
+}
+
+/// Sweeps until one fires nothing, and says what fired; None where more sweeps fire than the turn
+/// budget has. After None and after an error the state is not to be used.
+pub fn settle(unit: &Unit, plan: &Plan, state: &mut State) -> Result<Option<Sums>, NoMemory>
+    requires { IsPlanOf unit.now plan.now }
+    ensures { IfOk result (λ sums. settling unit.now (state_of state.old) ≡ option_map (settling_of state.new) sums) }
+{
+    let mut sums = Sums {
+        turns: 0,
+        fired: 0,
+        rejected: 0,
+        sent: 0,
+    };
+    for _turn in 0..TURN_BUDGET + 1 {
+        let counts = sweep(unit, plan, state)?;
+        if counts.fired == 0 {
+            return Ok(Some(sums));
+        }
+        sums = sums.plus(counts)?;
+    }
+    Ok(None)
+}
