@@ -21,3 +21,4 @@ pub mod PlanView
 pub mod LookupView
 pub mod Stepping
 pub mod Turn
+pub mod FiringView

@@ -10,6 +10,7 @@ pub mod words;
 pub mod world;
 pub mod causes;
 pub mod copies;
+pub mod firing;
 pub mod lookup;
 pub mod number;
 pub mod prepared;
