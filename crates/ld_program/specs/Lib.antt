@@ -19,3 +19,4 @@ pub mod Replay
 pub mod References
 pub mod PlanView
 pub mod LookupView
+pub mod TreeView

@@ -14,4 +14,5 @@ pub mod number;
 pub mod plan;
 pub mod rules;
 pub mod things;
+pub mod tree;
 pub mod verdict;
