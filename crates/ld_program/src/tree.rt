@@ -1,10 +1,12 @@
-//! The lines of a person's tree: each function here is one definition.
+//! The lines of a person's tree, and which activities are open: each function here is one definition.
+//!
+//! This is the plain program with which faster ones are compared: it may be slow on a large unit.
 ghost use Rattle.std.specs.Prelude.{◌≡◌, ◌<◌, ◌^◌, ◌∷◌, [], map, IfOk, OnOk, slice_get};
-ghost use Rattle.std.specs.List.{flat_map};
+ghost use Rattle.std.specs.List.{flat_map, list_any};
 ghost use Rattle.ld_model.specs.Counting.{each_numbered};
 ghost use Rattle.ld_program.specs.PlanView.{IsPlanOf};
 ghost use Rattle.ld_program.specs.StateView.{state_of};
-ghost use Rattle.ld_program.specs.Tree.{done_or_open, state_by, is_visible, item_line, item_lines, inner_lines, activity_line, activity_lines, target_lines, part_line, part_lines, act_line, act_lines, open_act_lines, play_line, play_lines, unit_line, tree_lines};
+ghost use Rattle.ld_program.specs.Tree.{done_or_open, state_by, is_visible, item_line, item_lines, inner_lines, activity_line, activity_lines, target_lines, part_line, part_lines, act_line, act_lines, open_act_lines, play_line, play_lines, unit_line, tree_lines, opens_activity, is_open};
 ghost use Rattle.ld_program.specs.TreeView.{line_view, AddsLines};
 
 use crate::lookup::{activity_number, is_member_of};
@@ -36,6 +38,15 @@ pub struct TreeLine<'a> {
     pub title: Option<&'a PlainText>,
 }
 
+impl<'a> TreeLine<'a> {
+    /// Whether the line shows the activity of this identifier as open.
+    fn opens(&self, activity: &Id) -> bool
+        ensures { result ≡ opens_activity activity.now (line_view self.now) }
+    {
+        self.word == "activity" && *self.identifier == *activity && self.note == "open"
+    }
+}
+
 /// The lines of the tree of the person of this number.
 pub fn tree_lines<'a>(
     alloc: Global,
@@ -57,6 +68,36 @@ pub fn tree_lines<'a>(
     lines.push(unit_line(unit))?;
     viewer.push_plays(unit.method.plays.as_slice(), &mut lines)?;
     Ok(lines)
+}
+
+/// Whether the activity of this identifier is open for the person of this number.
+///
+/// This body makes the lines and asks them. A later one walks the unit and prints nothing.
+pub fn is_open(
+    alloc: Global,
+    unit: &Unit,
+    plan: &Plan,
+    state: &State,
+    person: u32,
+    activity: &Id,
+) -> Result<bool, NoMemory>
+    requires { IsPlanOf unit.now plan.now }
+    ensures { IfOk result (λ says. says ≡ is_open unit.now (state_of state.now) person activity.now) }
+{
+    let lines = tree_lines(alloc, unit, plan, state, person)?;
+    Ok(show_open(lines.as_slice(), activity))
+}
+
+/// Whether one of the lines shows the activity of this identifier as open.
+fn show_open(lines: &[TreeLine], activity: &Id) -> bool
+    ensures { result ≡ list_any (opens_activity activity.now) (map line_view lines.now) }
+{
+    for line in lines {
+        if line.opens(activity) {
+            return true;
+        }
+    }
+    false
 }
 
 /// A person who looks at a unit in a state of its run.
