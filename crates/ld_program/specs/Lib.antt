@@ -22,3 +22,4 @@ pub mod LookupView
 pub mod Stepping
 pub mod Turn
 pub mod FiringView
+pub mod TreeView

@@ -17,4 +17,5 @@ pub mod prepared;
 pub mod plan;
 pub mod rules;
 pub mod things;
+pub mod tree;
 pub mod verdict;
