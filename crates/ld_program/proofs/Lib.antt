@@ -8,3 +8,4 @@ pub mod Ranges
 pub mod Copied
 pub mod Held
 pub mod Settled
+pub mod Worlds

@@ -1,4 +1,5 @@
 //! A unit with the plan of its things and rules.
+ghost use Rattle.std.specs.Prelude.{◌≡◌, IfOk};
 ghost use Rattle.ld_program.specs.PlanView.{IsPlanOf};
 
 use crate::plan::Plan;
@@ -16,7 +17,9 @@ pub struct PreparedUnit {
 
 impl PreparedUnit {
     /// The unit with its plan.
-    pub fn new(alloc: Global, unit: Unit) -> Result<PreparedUnit, NoMemory> {
+    pub fn new(alloc: Global, unit: Unit) -> Result<PreparedUnit, NoMemory>
+        ensures { IfOk result (λ prepared. prepared.unit ≡ unit) }
+    {
         let plan = Plan::of(alloc, &unit)?;
         Ok(PreparedUnit { unit, plan })
     }

@@ -54,7 +54,8 @@ pub fn push_done(
         } => push_ok(alloc, "complete", work, out),
         RunCommand::Tree { person } => {
             push_ok(alloc, "tree", work, out)?;
-            push_tree(alloc, prepared, state, person, out)
+            push_tree(alloc, prepared, state, person, out)?;
+            Ok(())
         }
     }
 }

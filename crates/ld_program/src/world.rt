@@ -4,9 +4,11 @@ ghost use Rattle.ld_base.specs.Roomy.{room_of, KeepsRoom};
 ghost use Rattle.ld_lines.specs.declared.command.Line.TheVariants as line;
 ghost use Rattle.ld_program.specs.Answers.{AnswersLine, line_of, block_for, no_memory_block};
 ghost use Rattle.ld_program.specs.Reply.{refusal_text};
-ghost use Rattle.ld_program.specs.Turn.{IsAnswered};
+ghost use Rattle.ld_program.specs.Turn.{IsAnswered, IsTold, IsToldOfRun, with_first_state};
 ghost use Rattle.ld_program.specs.World.{first_world};
-ghost use Rattle.ld_program.specs.WorldView.{world_of};
+ghost use Rattle.ld_program.specs.WorldView.{world_of, run_of};
+ghost use Rattle.std.specs.Option.{option_map};
+ghost use Rattle.ld_program.specs.StateView.{state_of};
 
 use crate::prepared::PreparedUnit;
 use crate::reply::{push_done, push_refusal};
@@ -109,7 +111,7 @@ impl World {
         if self.prepared.unit.identifier != *unit {
             return refuse(2, out);
         }
-        if self.run.is_some() {
+        if let Some(_) = &self.run {
             return refuse(3, out);
         }
         out.clear();
@@ -132,21 +134,74 @@ impl World {
         ensures err { OnErr result (world_of self.new ≡ world_of self.old) }
         ensures room { KeepsRoom out.old out.new }
     {
-        let Some(run) = &mut self.run else {
-            return refuse(4, out);
-        };
-        if run.name != *name {
-            return refuse(4, out);
-        }
-        match step_run(alloc, &self.prepared, &run.state, moment, command)? {
-            Stepped::Refused(cause) => refuse(cause, out),
-            Stepped::Done(state, work) => {
-                out.clear();
-                push_done(alloc, &self.prepared, &state, command, work, out)?;
-                out.push("\n")?;
-                run.state = state;
+        match self.reply(alloc, moment, name, command, out)? {
+            Some(state) => {
+                self.put_state(state);
                 Ok(())
             }
+            None => Ok(()),
+        }
+    }
+
+    /// Says what becomes of a command of the run of the name, and gives the run's new state where the
+    /// command is done.
+    fn reply(
+        &self,
+        alloc: Global,
+        moment: Moment,
+        name: &Id,
+        command: &RunCommand,
+        out: &mut Text,
+    ) -> Result<Option<State>, NoMemory>
+        ensures told { IfOk result (λ new. IsTold (world_of self.now) (line.OfRun moment name.now command.now) out.new.bytes (option_map state_of new)) }
+        ensures room { KeepsRoom out.old out.new }
+    {
+        let Some(run) = &self.run else {
+            refuse(4, out)?;
+            return Ok(None);
+        };
+        if run.name != *name {
+            refuse(4, out)?;
+            return Ok(None);
+        }
+        let new = reply_of_run(alloc, &self.prepared, run, moment, command, out)?;
+        Ok(new)
+    }
+
+    /// Gives the run the state.
+    fn put_state(&mut self, state: State)
+        ensures { world_of self.new ≡ with_first_state (world_of self.old) (state_of state) }
+    {
+        let Some(run) = self.run.take() else {
+            return;
+        };
+        let Run { name, state: _ } = run;
+        self.run = Some(Run { name, state });
+    }
+}
+
+/// Says what becomes of a command of the run, and gives its new state where the command is done.
+fn reply_of_run(
+    alloc: Global,
+    prepared: &PreparedUnit,
+    run: &Run,
+    moment: Moment,
+    command: &RunCommand,
+    out: &mut Text,
+) -> Result<Option<State>, NoMemory>
+    ensures told { IfOk result (λ new. IsToldOfRun (run_of prepared.now.unit run.now) moment.0 command.now out.new.bytes (option_map state_of new)) }
+    ensures room { KeepsRoom out.old out.new }
+{
+    match step_run(alloc, prepared, &run.state, moment, command)? {
+        Stepped::Refused(cause) => {
+            refuse(cause, out)?;
+            Ok(None)
+        }
+        Stepped::Done(state, work) => {
+            out.clear();
+            push_done(alloc, prepared, &state, command, work, out)?;
+            out.push("\n")?;
+            Ok(Some(state))
         }
     }
 }
