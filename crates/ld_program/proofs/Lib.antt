@@ -7,3 +7,4 @@ pub mod PartIdentifiers
 pub mod Ranges
 pub mod Copied
 pub mod Held
+pub mod Indents

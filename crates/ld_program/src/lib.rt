@@ -15,4 +15,5 @@ pub mod plan;
 pub mod rules;
 pub mod things;
 pub mod tree;
+pub mod tree_text;
 pub mod verdict;
