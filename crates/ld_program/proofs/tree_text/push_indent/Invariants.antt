@@ -6,4 +6,5 @@ use Rattle.ld_program.proofs.tree_text.push_indent.Given as goal
 abbrev pub invariant-loop-step : goal.invariant-loop-step
 invariant-loop-step l = record {
   bytes : l.out.bytes ++ indent (l.depth - l._step) ≡ l.fn.out.bytes ++ indent l.depth;
-  room : KeepsRoom l.fn.out l.out }
+  room : KeepsRoom l.fn.out l.out;
+}

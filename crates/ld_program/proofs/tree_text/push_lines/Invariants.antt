@@ -7,4 +7,5 @@ use Rattle.ld_program.proofs.tree_text.push_lines.Given as goal
 abbrev pub invariant-loop-line : goal.invariant-loop-line
 invariant-loop-line l = record {
   bytes : l.out.bytes ++ lines_text (map line_view (drop l.line-index l.lines)) ≡ l.fn.out.bytes ++ lines_text (map line_view l.lines);
-  room : KeepsRoom l.fn.out l.out }
+  room : KeepsRoom l.fn.out l.out;
+}
