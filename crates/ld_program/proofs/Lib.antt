@@ -9,3 +9,4 @@ pub mod Copied
 pub mod Held
 pub mod Settled
 pub mod Worlds
+pub mod Indents

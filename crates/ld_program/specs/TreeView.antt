@@ -1,5 +1,5 @@
 -- The tree lines that the code's lines stand for.
-use Rattle.std.specs.Prelude.{ℕ, List, map, ◌++◌, ◌≡◌, option_copied}
+use Rattle.std.specs.Prelude.{List, map, ◌++◌, ◌≡◌, option_copied}
 use Rattle.ld_program.specs.Tree.{TreeLine}
 use Rattle.ld_program.specs.declared.tree.TreeLine.{TreeLine as CodeLine}
 

@@ -9,6 +9,9 @@ ghost use Rattle.ld_program.specs.StateView.{state_of};
 ghost use Rattle.ld_program.specs.Tree.{done_or_open, state_by, is_visible, item_line, item_lines, inner_lines, activity_line, activity_lines, target_lines, part_line, part_lines, act_line, act_lines, open_act_lines, play_line, play_lines, unit_line, tree_lines, opens_activity, is_open};
 ghost use Rattle.ld_program.specs.TreeView.{line_view, AddsLines};
 
+#[cfg(test)]
+mod tests;
+
 use crate::lookup::{activity_number, is_member_of};
 use crate::number::number;
 use crate::plan::Plan;
