@@ -187,8 +187,8 @@ pub fn sweep(unit: &Unit, plan: &Plan, state: &mut State) -> Result<Counts, NoMe
         rejected: 0,
         sent: 0,
     };
-    for (number, rule) in plan.rules.iter().enumerate() {
-        visit_rule(unit, plan, state, &mut counts, number as u32, *rule)?;
+    for (index, rule) in plan.rules.iter().enumerate() {
+        visit_rule(unit, plan, state, &mut counts, index as u32, *rule)?;
     }
     Ok(counts)
 }
@@ -234,3 +234,6 @@ pub fn settle(unit: &Unit, plan: &Plan, state: &mut State) -> Result<Option<Sums
     }
     Ok(None)
 }
+
+#[cfg(test)]
+mod tests;
