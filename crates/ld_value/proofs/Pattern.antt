@@ -1,17 +1,18 @@
 -- Texts that follow a pattern.
-use Rattle.std.proofs.Common.{◌≡◌, ◌≢◌, ℕ, List, [], ◌∷◌, ◌+◌, ◌<◌, true, false, refl, sym, arith, length, take, drop, get_or, zero, suc, ◌&&◌, add-one, drop-cons, replicate, Bool}
+use Rattle.std.proofs.Common.{◌≡◌, ◌≢◌, ℕ, List, [], ◌∷◌, ◌+◌, ◌<◌, true, false, refl, sym, arith, length, take, drop, get_or, zero, suc, ◌&&◌, add-one, drop-cons, replicate, Bool, ◌==◌}
 use Rattle.std.proofs.lemmas.Grind.{common_steps}
+use Rattle.std.proofs.lemmas.Bool.Decides.{nat_tests}
 use Rattle.std.specs.Str.{all_ascii_digits}
 use Rattle.std.specs.Char.{is_ascii_digit}
 use Rattle.ld_value.specs.Calendar.{follows, stands_for, has_moment_form, moment_pattern}
 
-and_left : (a b : Bool) → a && b ≡ true → a ≡ true
+pub and_left : (a b : Bool) → a && b ≡ true → a ≡ true
 and_left a b h = grind arith
 
-and_right : (a b : Bool) → a && b ≡ true → b ≡ true
+pub and_right : (a b : Bool) → a && b ≡ true → b ≡ true
 and_right a b h = grind arith
 
-both : (a b : Bool) → a ≡ true → b ≡ true → a && b ≡ true
+pub both : (a b : Bool) → a ≡ true → b ≡ true → a && b ≡ true
 both a b h k = grind arith
 
 -- a text that follows a pattern is as long
@@ -63,3 +64,17 @@ length-moment bs h = sym (length-follows moment_pattern bs h)
 pub digits_of_moment : (bs : List ℕ) (from count : ℕ) → has_moment_form bs ≡ true → take count (drop from moment_pattern) ≡ replicate count 48 → all_ascii_digits (take count (drop from bs)) ≡ true
 unfolding has_moment_form
 digits_of_moment bs from count h zeros = digits_in_part moment_pattern bs from count h zeros
+
+-- where the pattern has a byte that stands for itself the text has it too
+own_byte : (p x : ℕ) → p == 48 ≡ false → stands_for p x ≡ true → x ≡ p
+own_byte p x h k = grind (arith, nat_tests)
+
+one_byte : (p : ℕ) (xs : List ℕ) → p == 48 ≡ false → follows (p ∷ []) xs ≡ true → xs ≡ p ∷ []
+one_byte p [] h k = absurd (cc)
+one_byte p (x ∷ []) h k = rw (own_byte p x h (and_left (stands_for p x) _ k)) refl
+one_byte p (x ∷ y ∷ zs) h k = absurd (let end = and_right (stands_for p x) _ k in cc)
+
+pub byte_of_moment : (bs : List ℕ) (p from : ℕ) → has_moment_form bs ≡ true → p == 48 ≡ false → take 1 (drop from moment_pattern) ≡ p ∷ [] → take 1 (drop from bs) ≡ p ∷ []
+unfolding has_moment_form
+byte_of_moment bs p from h plain there =
+    one_byte p _ plain (rw there at (follows-take (drop from moment_pattern) (drop from bs) 1 (follows-drop moment_pattern bs from h)))

@@ -1,9 +1,9 @@
 -- Moments and the texts that name them: `2024-02-29T23:59:59Z`. (docs/FORMATS.md, "Values")
-use Rattle.std.specs.Prelude.{ℕ, List, [], ◌∷◌, take, drop, Bool, true, false, ◌&&◌, ◌==◌, nat_le, if◌then◌else◌, ℤ, pos, ◌+ℤ◌, ◌*ℤ◌, ◌+◌, ◌*◌, Option, Some, None, codes}
+use Rattle.std.specs.Prelude.{zero, suc, ◌++◌, ◌/◌, ◌%◌, neg_ℤ, ◌-ℤ◌, int_le, unsigned_abs, ℕ, List, [], ◌∷◌, take, drop, Bool, true, false, ◌&&◌, ◌==◌, nat_le, if◌then◌else◌, ℤ, pos, ◌+ℤ◌, ◌*ℤ◌, ◌+◌, ◌*◌, Option, Some, None, codes}
 use Rattle.std.specs.Char.{is_ascii_digit}
 use Rattle.std.specs.Str.Parse.{digits_value}
-use Rattle.std.specs.Int.{is_in_range}
-use Rattle.jiff_core.specs.Calendar.{days_in_month, days_from_civil}
+use Rattle.std.specs.Int.{is_in_range, int_div_euclid, int_rem_euclid}
+use Rattle.jiff_core.specs.Calendar.{days_in_month, days_from_civil, IsBetween}
 
 -- In a pattern a `0` stands for any digit, and any other byte for itself.
 abbrev pub stands_for : ℕ → ℕ → Bool
@@ -55,3 +55,47 @@ named_second text = second_of (part 11 2 text) (part 14 2 text) (part 17 2 text)
 -- The moment that the text names by `YYYY-MM-DDTHH:MM:SSZ`.
 unfoldable pub moment_of : List ℕ → Option ℤ
 moment_of text = if has_moment_form text then moment_at (named_day text) (named_second text) else None
+
+-- The moment lies in the years 1 to 9999: from 0001-01-01T00:00:00Z to 9999-12-31T23:59:59Z.
+abbrev pub IsMoment : ℤ → Type 0
+IsMoment z = IsBetween (neg_ℤ (pos 62135596800)) (pos 253402300799) z
+
+-- The day number is of a day in those years.
+abbrev pub IsDay : ℤ → Type 0
+IsDay day = IsBetween (neg_ℤ (pos 719162)) (pos 2932896) day
+
+-- The last of the numbers from 1 to n that passes the test, and 0 where none does.
+abbrev pub last_passing : ℕ → (ℕ → Bool) → ℕ
+last_passing zero passes = 0
+last_passing (suc n) passes = if passes (suc n) then suc n else last_passing n passes
+
+-- The year of a day number: the last one, up to 9999, that begins on the day or before it.
+unfoldable pub year_of : ℤ → ℕ
+year_of day = last_passing 9999 (λ year. int_le (days_from_civil (pos year) 1 1) day)
+
+-- Its month: the last one of that year that begins on the day or before it.
+unfoldable pub month_of : ℤ → ℕ
+month_of day = last_passing 12 (λ month. int_le (days_from_civil (pos (year_of day)) month 1) day)
+
+-- Its place in that month, from 1 on.
+unfoldable pub day_of_month : ℤ → ℕ
+day_of_month day = unsigned_abs (day -ℤ days_from_civil (pos (year_of day)) (month_of day) 1) + 1
+
+-- The number in exactly `count` digits.
+abbrev pub in_digits : ℕ → ℕ → List ℕ
+in_digits zero n = []
+in_digits (suc count) n = in_digits count (n / 10) ++ (48 + n % 10) ∷ []
+
+-- `YYYY-MM-DDTHH:MM:SSZ` of a year, a month, a day, an hour, a minute and a second.
+abbrev pub moment_text : ℕ → ℕ → ℕ → ℕ → ℕ → ℕ → List ℕ
+moment_text year month day hour minute second =
+    in_digits 4 year ++ codes "-" ++ in_digits 2 month ++ codes "-" ++ in_digits 2 day ++ codes "T" ++ in_digits 2 hour ++ codes ":" ++ in_digits 2 minute ++ codes ":" ++ in_digits 2 second ++ codes "Z"
+
+-- The same of a day number and a second of that day.
+unfoldable pub day_and_second_text : ℤ → ℕ → List ℕ
+day_and_second_text day second =
+    moment_text (year_of day) (month_of day) (day_of_month day) (second / 3600) (second / 60 % 60) (second % 60)
+
+-- The text of a moment: of the day that it falls on, and of the second of that day.
+unfoldable pub text_of_moment : ℤ → List ℕ
+text_of_moment z = day_and_second_text (int_div_euclid z (pos 86400)) (unsigned_abs (int_rem_euclid z (pos 86400)))
