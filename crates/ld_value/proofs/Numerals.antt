@@ -48,3 +48,9 @@ room_for_next ds i h below short =
 
 pub digits_value-take_next : (ds : List ℕ) (i : ℕ) → all_ascii_digits ds ≡ true → i < length ds → digits_value 10 (take (i + 1) ds) ≡ 10 * digits_value 10 (take i ds) + (get_or ds i 0 - 48)
 digits_value-take_next ds i h below = rw (take_more ds i 0 below) (digits_value-next (take i ds) (get_or ds i 0) (digit_in ds i h below))
+
+-- a numeral's bound by its greatest length
+pub numeral_bound : (n len most : ℕ) → n < 10 ^ len → len ≤ most → n < 10 ^ most
+numeral_bound n len most h within =
+    let larger : 10 ^ len ≤ 10 ^ most = pow-le-pow_right {n = 10} (omega arith) {i = len} {j = most} within in
+    omega arith

@@ -60,6 +60,10 @@ moment_of text = if has_moment_form text then moment_at (named_day text) (named_
 abbrev pub IsMoment : ℤ → Type 0
 IsMoment z = IsBetween (neg_ℤ (pos 62135596800)) (pos 253402300799) z
 
+-- The same as a test.
+abbrev pub is_moment : ℤ → Bool
+is_moment z = int_le (neg_ℤ (pos 62135596800)) z && int_le z (pos 253402300799)
+
 -- The day number is of a day in those years.
 abbrev pub IsDay : ℤ → Type 0
 IsDay day = IsBetween (neg_ℤ (pos 719162)) (pos 2932896) day

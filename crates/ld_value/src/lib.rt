@@ -3,5 +3,10 @@
 #![tactic(auto)]
 
 mod digits;
+pub mod duration;
+pub mod fault;
+mod integer;
+pub mod kind;
+pub mod limits;
 pub mod moment;
 pub mod value;
