@@ -60,6 +60,16 @@ value_of Integer text = option_map number_datum (integer_of text)
 value_of Datetime text = option_map moment_datum (moment_of text)
 value_of Duration text = option_map span_datum (duration_of text)
 
+-- The values of the datatype take no memory.
+abbrev pub is_scalar : Kind → Bool
+is_scalar String = false
+is_scalar Text = false
+is_scalar Uri = false
+is_scalar Boolean = true
+is_scalar Integer = true
+is_scalar Datetime = true
+is_scalar Duration = true
+
 -- ---- from a value to its text
 
 -- How the value is printed.

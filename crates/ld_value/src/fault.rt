@@ -1,4 +1,6 @@
 //! What can keep a text from being read as a value.
+ghost use Rattle.std.specs.Prelude.{◌≡◌};
+
 use ld_base::memory::NoMemory;
 
 /// Why no value was read.
@@ -11,6 +13,10 @@ pub enum ValueFault {
 }
 
 impl From<NoMemory> for ValueFault {
+    ghost use Rattle.ld_value.specs.declared.fault.ValueFault.TheVariants.{NoMemory as WantOfMemory};
+
+    ghost from_gives = { λ _ fault. fault ≡ WantOfMemory };
+
     fn from(_error: NoMemory) -> ValueFault {
         ValueFault::NoMemory
     }

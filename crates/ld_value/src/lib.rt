@@ -5,8 +5,10 @@
 mod digits;
 pub mod duration;
 pub mod fault;
+mod forms;
 mod integer;
 pub mod kind;
 pub mod limits;
 pub mod moment;
+pub mod read;
 pub mod value;
