@@ -76,8 +76,8 @@ begins_with letter (b ∷ bs) = b == letter
 -- The part with this letter at the text's front, and the text after it.
 unfoldable pub front_part : ℕ → List ℕ → Option (List ℕ) × List ℕ
 front_part letter text =
-    if begins_with letter (drop (digit_count text) text) then (Some (take (digit_count text) text), drop (digit_count text + 1) text)
-    else (None, text)
+    let after = drop (digit_count text) text in
+    if begins_with letter after then (Some (take (digit_count text) text), drop 1 after) else (None, text)
 
 -- The parts below the days, if the text has no more than those and one of them.
 unfoldable pub time_in : Option (List ℕ) → List ℕ → Option Parts
