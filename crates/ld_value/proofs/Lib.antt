@@ -1,7 +1,9 @@
 pub mod Dates
 pub mod Days
+pub mod Decimals
 pub mod Durations
 pub mod LastPassing
+pub mod Laws
 pub mod Moments
 pub mod Numerals
 pub mod Pattern

@@ -73,3 +73,6 @@ is_numeral-decimal most n some below fits =
 
 pub digits_value_decimal : (n : ℕ) → n < 2 ^ 64 → digits_value 10 (decimal n) ≡ n
 digits_value_decimal n fits = digits_value-decimal own n fits
+
+pub all_digits-decimal : (n : ℕ) → n < 2 ^ 64 → all_ascii_digits (decimal n) ≡ true
+all_digits-decimal n fits = digits_decimal own n fits

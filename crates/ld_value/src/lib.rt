@@ -3,6 +3,7 @@
 #![tactic(auto)]
 
 mod digits;
+mod draft;
 pub mod duration;
 pub mod fault;
 mod forms;
