@@ -1,9 +1,10 @@
 //! Durations in texts.
-ghost use Rattle.std.specs.Prelude.{◌≡◌, ◌≤◌, ◌<◌, ◌^◌, length, Some, None, IfSome, option_copied, if◌then◌else◌};
+ghost use Rattle.std.specs.Prelude.{◌≡◌, ◌+◌, ◌++◌, ◌≤◌, ◌<◌, ◌^◌, length, Some, None, IfSome, option_copied, if◌then◌else◌};
 ghost use Rattle.std.specs.Option.{option_and_then};
-ghost use Rattle.ld_value.specs.Duration.{duration_of, seconds_if, time_in, front_part as spec_front_part, digit_count as spec_digit_count, is_part, part_number as spec_part_number};
+ghost use Rattle.ld_value.specs.Duration.{duration_of, seconds_if, time_in, front_part as spec_front_part, digit_count as spec_digit_count, is_part, part_number as spec_part_number, part_text, shown, parts_of, time_text, span_text};
 
 use crate::digits::numeral;
+use crate::draft::Draft;
 
 /// The longest span, in seconds.
 pub const LONGEST_SPAN: u64 = 999_999_999_999;
@@ -97,4 +98,54 @@ fn part_number(part: Option<&[u8]>) -> Option<u64>
         None => Some(0),
         Some(digits) => numeral(digits, 12),
     }
+}
+
+/// The text of a span of that many seconds: days, hours below 24, minutes below 60 and seconds below
+/// 60, zero parts left out; `PT0S` for none.
+#[tactic(auto, unfolding(crate::specs::Duration::span_text))]
+pub(crate) fn print_span(seconds: u64) -> Draft
+    ensures { result ≡ span_text seconds }
+{
+    let mut draft = Draft::new();
+    if seconds == 0 {
+        draft.put(b'S');
+        draft.put(b'0');
+        draft.put(b'T');
+        draft.put(b'P');
+        return draft;
+    }
+    put_time(&mut draft, seconds);
+    put_part(&mut draft, seconds / 86_400, b'D');
+    draft.put(b'P');
+    draft
+}
+
+/// Puts `T` and the parts below the days before the text, where they are not all zero.
+fn put_time(draft: &mut Draft, seconds: u64)
+    requires { length draft.old ≤ 6 }
+    ensures text { draft.new ≡ time_text (parts_of seconds) ++ draft.old }
+    ensures short { length draft.new ≤ length draft.old + 10 }
+{
+    if seconds % 86_400 == 0 {
+        return;
+    }
+    put_part(draft, seconds % 60, b'S');
+    put_part(draft, seconds / 60 % 60, b'M');
+    put_part(draft, seconds / 3_600 % 24, b'H');
+    draft.put(b'T');
+}
+
+/// Puts the number and the letter before the text, unless the number is zero.
+fn put_part(draft: &mut Draft, number: u64, letter: u8)
+    requires number { number < 10 ^ 15 }
+    requires room { length draft.old ≤ 16 }
+    ensures text { draft.new ≡ part_text letter (shown number) ++ draft.old }
+    ensures long { length draft.new ≤ length draft.old + 16 }
+    ensures short { number < 100 → length draft.new ≤ length draft.old + 3 }
+{
+    if number == 0 {
+        return;
+    }
+    draft.put(letter);
+    draft.put_decimal(number);
 }
