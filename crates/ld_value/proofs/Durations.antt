@@ -191,7 +191,7 @@ is-duration_of text n h =
 
 -- ---- a printed span
 
-shown_cases : (n : ℕ) → ((n ≡ 0) × (shown n ≡ None)) ⊎ ((0 < n) × (shown n ≡ Some (decimal n)))
+pub shown_cases : (n : ℕ) → ((n ≡ 0) × (shown n ≡ None)) ⊎ ((0 < n) × (shown n ≡ Some (decimal n)))
 shown_cases n =
     elim (bool_cases (n == 0)) [
       | inl absent ↦ inl (eq_from n 0 absent, rw absent refl)

@@ -1,3 +1,4 @@
+pub mod AsciiTexts
 pub mod Dates
 pub mod Days
 pub mod Decimals

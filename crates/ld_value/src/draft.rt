@@ -8,6 +8,7 @@ use std::marker::Model;
 const ROOM: usize = 32;
 
 /// A text of at most `ROOM` bytes that grows at its front, seen by contracts as its bytes.
+#[derive(Drop)]
 pub(crate) struct Draft {
     bytes: [u8; 32],
     start: usize,

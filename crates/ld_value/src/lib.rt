@@ -11,5 +11,6 @@ mod integer;
 pub mod kind;
 pub mod limits;
 pub mod moment;
+pub mod print;
 pub mod read;
 pub mod value;

@@ -1,5 +1,6 @@
 //! Moments of the calendar, in UTC.
 ghost use Rattle.std.specs.Prelude.{◌≡◌, ◌+◌, ◌/◌, ◌%◌, ◌<◌, ◌≤◌, ◌^◌, IsTrue, Some, IfSome, option_map, take, drop, replicate};
+ghost use Rattle.std.specs.Str.{IsAscii};
 ghost use Rattle.jiff_core.specs.Calendar.{IsEpochDay};
 ghost use Rattle.ld_value.specs.Calendar.{moment_of, text_of_moment, moment_text, IsMoment, IsDay, year_of, month_of, day_of_month, has_moment_form, moment_pattern, part as spec_part, follows as spec_follows, stands_for as spec_stands_for, day_of, second_of, named_day, named_second};
 
@@ -42,6 +43,7 @@ pub fn print_moment(moment: Moment) -> [u8; 20]
     requires { IsMoment moment.0 }
     ensures text { result ≡ text_of_moment moment.0 }
     ensures back { moment_of result ≡ Some moment.0 }
+    ensures ascii { IsAscii result }
 {
     let day = moment.0.div_euclid(86_400);
     let second = moment.0.rem_euclid(86_400) as u64;
