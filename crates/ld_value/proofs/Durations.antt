@@ -1,12 +1,12 @@
 -- A text has the parts of a duration exactly where it is the text of those parts.
-use Rattle.std.proofs.Common.{◌≡◌, ℕ, zero, suc, List, [], ◌∷◌, ◌++◌, ◌+◌, ◌-◌, ◌*◌, ◌<◌, ◌≤◌, Bool, true, false, cond, ◌&&◌, ◌||◌, ◌==◌, ◌⊎◌, inl, inr, refl, sym, ◌∙◌, ap, arith, length, ◌^◌, ◌/◌, ◌%◌, take, drop, codes, append_assoc, Option, Some, None, is_some, IsTrue}
+use Rattle.std.proofs.Common.{◌≡◌, ℕ, zero, suc, List, [], ◌∷◌, ◌++◌, ◌+◌, ◌-◌, ◌*◌, ◌<◌, ◌≤◌, Bool, true, false, cond, ◌&&◌, ◌||◌, ◌==◌, ◌⊎◌, ◌↔◌, inl, inr, refl, sym, ◌∙◌, ap, arith, length, ◌^◌, ◌/◌, ◌%◌, take, drop, codes, append_assoc, Option, Some, None, is_some, IsTrue}
 use Rattle.std.specs.Str.{all_ascii_digits, byte}
 use Rattle.std.specs.Char.{is_ascii_digit}
 use Rattle.std.specs.List.{prefix_len}
 use Rattle.std.specs.Fmt.{decimal}
 use Rattle.std.specs.Str.Parse.{digits_value}
 use Rattle.ld_value.proofs.Numerals.{is_numeral-decimal, digits_value_decimal}
-use Rattle.std.specs.Option.{option_and_then}
+use Rattle.std.specs.Option.{option_and_then, IfSome}
 use Rattle.std.proofs.lemmas.Grind.{common_steps}
 use Rattle.std.proofs.lemmas.Bool.Decides.{nat_tests}
 use Rattle.std.proofs.lemmas.List.{take-append-drop, append-nil}
@@ -150,7 +150,7 @@ time_from days text p h =
     let q : Parts = record { days = days; hours = first.0; minutes = second.0; seconds = third.0 } in
     let found = some_when ((length third.1 == 0) && has_time q) q p h in
     let form : text ≡ part_text 72 q.hours ++ part_text 77 q.minutes ++ part_text 83 q.seconds =
-        three text _ first.1 _ second.1 _ third.1 (front_makes 72 text) (front_makes 77 first.1) (front_makes 83 second.1) (both_empty third.1 (and_left _ _ found.0)) in
+    three text _ first.1 _ second.1 _ third.1 (front_makes 72 text) (front_makes 77 first.1) (front_makes 83 second.1) (both_empty third.1 (and_left _ _ found.0)) in
     rw (← found.1) (record { same_days = refl; some = and_right (length third.1 == 0) _ found.0; form = form })
 
 after_from : (days : Option (List ℕ)) (text : List ℕ) (p : Parts) → time_after days text ≡ Some p → (p.days ≡ days) × (text ≡ time_text p)
@@ -231,8 +231,8 @@ part_shown n h =
     elim (bool_cases (is_some (parts_of n).days || has_time (parts_of n))) [
       | inl some ↦ some
       | inr absent ↦
-        let each = none_at_all (shown (n / 86400)) (shown (n / 3600 % 24)) (shown (n / 60 % 60)) (shown (n % 60)) absent in
-        absurd (omega (arith, shown_none _ each.0, shown_none _ each.1, shown_none _ each.2, shown_none _ each.3))
+          let each = none_at_all (shown (n / 86400)) (shown (n / 3600 % 24)) (shown (n / 60 % 60)) (shown (n % 60)) absent in
+          absurd (omega (arith, shown_none _ each.0, shown_none _ each.1, shown_none _ each.2, shown_none _ each.3))
     ]
 
 seconds_of-parts_of : (n : ℕ) → n ≤ 999999999999 → seconds_of (parts_of n) ≡ n
@@ -272,3 +272,11 @@ span-duration_of text n h =
     let found = through (parts_in text) n h in
     let short = and_right (has_numerals found.0) _ (and_right (is_some found.0.days || has_time found.0) _ found.2) in
     omega (arith, le_from _ _ short, found.3)
+
+-- of a duration that was read
+pub span-read : (text : List ℕ) (r : Option ℕ) → r ≡ duration_of text → IfSome r (λ n. n ≤ 999999999999)
+span-read text None h = tt
+span-read text (Some n) h = span-duration_of text n (sym h)
+
+pub form-read : (text : List ℕ) (r : Option ℕ) → r ≡ duration_of text → (n : ℕ) → (r ≡ Some n) ↔ IsDuration text n
+form-read text r h n = (λ there. is-duration_of text n (sym h ∙ there), λ is. h ∙ duration_of-is text n is)

@@ -1,7 +1,7 @@
 //! Durations in texts.
-ghost use Rattle.std.specs.Prelude.{◌≡◌, ◌+◌, ◌++◌, ◌≤◌, ◌<◌, ◌^◌, length, Some, None, IfSome, option_copied, if◌then◌else◌};
+ghost use Rattle.std.specs.Prelude.{◌≡◌, ◌↔◌, ℕ, ◌+◌, ◌++◌, ◌≤◌, ◌<◌, ◌^◌, length, Some, None, IfSome, option_copied, if◌then◌else◌};
 ghost use Rattle.std.specs.Option.{option_and_then};
-ghost use Rattle.ld_value.specs.Duration.{duration_of, seconds_if, time_in, front_part as spec_front_part, digit_count as spec_digit_count, is_part, part_number as spec_part_number, part_text, shown, parts_of, time_text, span_text};
+ghost use Rattle.ld_value.specs.Duration.{duration_of, IsDuration, seconds_if, time_in, front_part as spec_front_part, digit_count as spec_digit_count, is_part, part_number as spec_part_number, part_text, shown, parts_of, time_text, span_text};
 
 use crate::digits::numeral;
 use crate::draft::Draft;
@@ -10,9 +10,18 @@ use crate::draft::Draft;
 pub const LONGEST_SPAN: u64 = 999_999_999_999;
 
 /// The seconds of the duration that the text writes by `P[nD][T[nH][nM][nS]]`; None where it is no
-/// such text.
+/// such text, or longer than `LONGEST_SPAN`.
+pub fn read_duration(text: &str) -> Option<u64>
+    ensures value { result ≡ duration_of text.now }
+    ensures form { (n : ℕ) → (result ≡ Some n) ↔ IsDuration text.now n }
+    ensures bound { IfSome result (λ n. n ≤ 999999999999) }
+{
+    seconds_in(text.as_bytes())
+}
+
+/// The seconds of the duration that the text writes.
 #[tactic(auto, unfolding(crate::specs::Duration::duration_of))]
-pub(crate) fn read_duration(text: &[u8]) -> Option<u64>
+fn seconds_in(text: &[u8]) -> Option<u64>
     ensures { result ≡ duration_of text.now }
 {
     let [b'P', rest @ ..] = text else {

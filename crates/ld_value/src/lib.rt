@@ -6,6 +6,7 @@ mod digits;
 mod draft;
 pub mod duration;
 pub mod fault;
+pub mod fits;
 mod forms;
 mod integer;
 pub mod kind;

@@ -12,6 +12,12 @@ use jiff_core::civil;
 #[derive(Clone, Copy, Debug, PartialEq, Eq, PartialOrd, Ord)]
 pub struct Moment(pub i64);
 
+/// 0001-01-01T00:00:00Z, the first moment that has a text.
+pub const FIRST_MOMENT: Moment = Moment(-62_135_596_800);
+
+/// 9999-12-31T23:59:59Z, the last moment that has a text.
+pub const LAST_MOMENT: Moment = Moment(253_402_300_799);
+
 /// The moment that the text names by `YYYY-MM-DDTHH:MM:SSZ`; None exactly where the text has another
 /// form, or no such day or time of day exists.
 #[tactic(auto, unfolding(crate::specs::Calendar::moment_of))]

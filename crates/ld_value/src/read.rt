@@ -1,8 +1,7 @@
 //! Reading values from texts.
-ghost use Rattle.std.specs.Prelude.{◌≡◌, ◌↔◌, ℕ, IsTrue, IfOk, IfSome, Some, None, Err, option_map};
+ghost use Rattle.std.specs.Prelude.{◌≡◌, ◌↔◌, IsTrue, IfOk, IfSome, Some, None, Err, option_map};
 ghost use Rattle.ld_value.specs.Datum.{datum_of};
-ghost use Rattle.ld_value.specs.Duration.{duration_of, IsDuration};
-ghost use Rattle.ld_value.specs.Values.{value_of, is_value, is_scalar, text_if as spec_text_if, truth_of};
+ghost use Rattle.ld_value.specs.Values.{value_of, is_value, is_scalar, IsPrintable, text_if as spec_text_if, truth_of};
 
 use crate::duration::read_duration;
 use crate::fault::ValueFault;
@@ -19,6 +18,8 @@ use std::alloc::Global;
 pub fn read_value(alloc: Global, kind: Kind, text: &str) -> Result<Value, ValueFault>
     ensures ok { IfOk result (λ v. value_of kind text.now ≡ Some (datum_of v)) }
     ensures bad { (result ≡ Err ValueFault.BadValue) ↔ (value_of kind text.now ≡ None) }
+    ensures sort { IfOk result (λ v. IsTrue (is_value kind (datum_of v))) }
+    ensures printable { IfOk result (λ v. IsPrintable (datum_of v)) }
 {
     match kind {
         Kind::String | Kind::Text => text_if(alloc, is_text(text.as_bytes()), text),
@@ -44,12 +45,14 @@ fn text_if(alloc: Global, good: bool, text: &str) -> Result<Value, ValueFault>
 pub fn read_scalar(kind: Kind, text: &str) -> Option<Value>
     requires { IsTrue (is_scalar kind) }
     ensures value { option_map datum_of result ≡ value_of kind text.now }
+    ensures sort { IfSome result (λ v. IsTrue (is_value kind (datum_of v))) }
+    ensures printable { IfSome result (λ v. IsPrintable (datum_of v)) }
 {
     match kind {
         Kind::Boolean => Some(Value::Bool(read_truth(text)?)),
         Kind::Integer => Some(Value::Int(read_integer(text.as_bytes())?)),
         Kind::Datetime => Some(Value::Moment(read_moment(text)?)),
-        Kind::Duration => Some(Value::Span(read_duration(text.as_bytes())?)),
+        Kind::Duration => Some(Value::Span(read_duration(text)?)),
         Kind::String | Kind::Text | Kind::Uri => unreachable!(),
     }
 }
