@@ -9,7 +9,7 @@ use Rattle.std.proofs.lemmas.Str.Ascii.{IsAscii-nil}
 use Rattle.std.proofs.lemmas.Fmt.{IsAscii-decimal}
 use Rattle.ld_value.specs.Calendar.{in_digits, moment_text, text_of_moment, day_and_second_text}
 use Rattle.ld_value.specs.Duration.{Parts, part_text, shown, parts_of, time_text, has_time, span_text}
-use Rattle.ld_value.proofs.Tests.{bool_cases}
+use Rattle.ld_value.proofs.Choices.{bool_cases}
 use Rattle.ld_value.proofs.Durations.{shown_cases}
 
 -- `IsAscii` as a record, so that its list is found from a proof

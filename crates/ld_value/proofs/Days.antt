@@ -10,7 +10,7 @@ use Rattle.jiff_core.proofs.MarchLemmas.{day_count-early}
 use Rattle.jiff_core.proofs.CalendarLemmas.{days_from_civil-day_count, days_in_month_bounds, day_count-day_of_year, day_count-later_year}
 use Rattle.jiff_core.proofs.DateLemmas.{days_from_civil-day, days_from_civil-next_month, days_from_civil-next_year, days_from_civil-max, epoch_day_injective, epoch_day_range}
 use Rattle.ld_value.specs.Calendar.{IsDay, last_passing, year_of, month_of, day_of_month, is_date}
-use Rattle.ld_value.proofs.Tests.{bool_cases}
+use Rattle.ld_value.proofs.Choices.{bool_cases}
 use Rattle.ld_value.proofs.LastPassing.{IsLastPassing, last_passing_is}
 
 begin : days_from_civil (pos 1) 1 1 ≡ neg_ℤ (pos 719162)

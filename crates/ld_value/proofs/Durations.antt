@@ -11,7 +11,7 @@ use Rattle.std.proofs.lemmas.Grind.{common_steps}
 use Rattle.std.proofs.lemmas.Bool.Decides.{nat_tests}
 use Rattle.std.proofs.lemmas.List.{take-append-drop, append-nil}
 use Rattle.std.proofs.Math.Seq.{drop-append_seam, take-append_seam}
-use Rattle.ld_value.proofs.Tests.{bool_cases, both, and_left, and_right, some_when, when_so, eq_self, eq_from, le_from, le_test, above_zero}
+use Rattle.ld_value.proofs.Choices.{bool_cases, both, and_left, and_right, some_when, when_so, eq_self, eq_from, le_from, le_test, above_zero}
 use Rattle.ld_value.specs.Numeral.{is_numeral}
 use Rattle.ld_value.specs.Duration.{Parts, part_text, time_text, has_time, duration_text, is_part, has_numerals, is_duration, seconds_of, seconds_if, IsDuration, digit_count, begins_with, front_part, time_in, time_after, parts_in, duration_of, shown, parts_of, span_text, part_number}
 

@@ -1,7 +1,7 @@
 -- The last number that passes a test.
 use Rattle.std.proofs.Common.{◌≡◌, ℕ, zero, suc, ◌<◌, ◌≤◌, Bool, true, false, refl, sym, arith, ◌⊎◌, inl, inr}
 use Rattle.std.proofs.lemmas.Bool.{cases_order}
-use Rattle.ld_value.proofs.Tests.{bool_cases}
+use Rattle.ld_value.proofs.Choices.{bool_cases}
 use Rattle.ld_value.specs.Calendar.{last_passing}
 
 -- It lies from 1 to n and passes, and no later number up to n does.

@@ -15,7 +15,7 @@ use Rattle.ld_value.specs.Datum.{Datum, text_datum, truth_datum, number_datum, m
 use Rattle.ld_value.specs.Duration.{duration_of, span_text}
 use Rattle.ld_value.specs.Numeral.{numeral, is_numeral}
 use Rattle.ld_value.specs.Values.{value_of, text_of, is_value, is_text, is_uri, is_whole, is_span, text_if, truth_of, signed_numeral, integer_of, IsPrintable}
-use Rattle.ld_value.proofs.Tests.{both, and_left, and_right, bool_cases, some_when, le_from, le_test}
+use Rattle.ld_value.proofs.Choices.{both, and_left, and_right, bool_cases, some_when, le_from, le_test}
 use Rattle.ld_value.proofs.Numerals.{own, digit_in, is_numeral-decimal, digits_value_decimal, all_digits-decimal}
 use Rattle.ld_value.proofs.Moments.{moment_of-text_of_moment, IsMoment-moment_of}
 use Rattle.ld_value.proofs.Durations.{duration_of-span_text, span-duration_of}

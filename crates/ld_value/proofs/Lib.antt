@@ -9,4 +9,4 @@ pub mod Moments
 pub mod Numerals
 pub mod Pattern
 pub mod Printed
-pub mod Tests
+pub mod Choices

@@ -7,7 +7,7 @@ use Rattle.jiff_core.specs.Calendar.{days_from_civil, days_in_month, day_count}
 use Rattle.jiff_core.proofs.SignedLemmas.{signed_arith, one_part}
 use Rattle.jiff_core.proofs.CalendarLemmas.{days_in_month_bounds, days_from_civil-day_count, day_count-day_of_year, day_count-later_year}
 use Rattle.ld_value.specs.Calendar.{moment_of, moment_at, named_day, named_second, day_of, second_of, is_date, has_moment_form, part, in_digits, moment_text, text_of_moment, day_and_second_text, year_of, month_of, day_of_month, IsMoment, IsDay}
-use Rattle.ld_value.proofs.Tests.{both, and_left, and_right, some_when}
+use Rattle.ld_value.proofs.Choices.{both, and_left, and_right, some_when}
 use Rattle.ld_value.proofs.Days.{IsCut, cut_is, cut_once, cut_day}
 use Rattle.ld_value.proofs.Printed.{digits_value-in_digits, in_digits-digits_value, has_moment_form-moment_text, moment_text-parts}
 

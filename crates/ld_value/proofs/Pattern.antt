@@ -4,7 +4,7 @@ use Rattle.std.proofs.lemmas.Grind.{common_steps}
 use Rattle.std.proofs.lemmas.Bool.Decides.{nat_tests}
 use Rattle.std.specs.Str.{all_ascii_digits}
 use Rattle.std.specs.Char.{is_ascii_digit}
-use Rattle.ld_value.proofs.Tests.{and_left, and_right, both}
+use Rattle.ld_value.proofs.Choices.{and_left, and_right, both}
 use Rattle.ld_value.specs.Calendar.{follows, stands_for, has_moment_form, moment_pattern}
 
 -- a text that follows a pattern is as long

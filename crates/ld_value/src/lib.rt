@@ -14,4 +14,6 @@ pub mod limits;
 pub mod moment;
 pub mod print;
 pub mod read;
+#[cfg(test)]
+mod tests;
 pub mod value;
