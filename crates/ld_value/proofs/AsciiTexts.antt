@@ -1,14 +1,13 @@
 -- Printed texts are ASCII.
-use Rattle.std.proofs.Common.{◌≡◌, ℕ, zero, suc, List, [], ◌∷◌, ◌++◌, ◌+◌, ◌/◌, ◌%◌, ◌<◌, ◌≤◌, ◌^◌, ◌||◌, Bool, true, false, refl, arith, codes, cond, Option, Some, None, ◌==◌, ℤ}
+use Rattle.std.proofs.Common.{ℕ, zero, suc, List, [], ◌∷◌, ◌++◌, ◌+◌, ◌/◌, ◌%◌, ◌<◌, ◌^◌, arith, codes, ◌==◌, ℤ}
 use Rattle.std.specs.Str.{IsAscii}
 use Rattle.std.specs.Fmt.{decimal}
-use Rattle.std.proofs.Common.{◌⊎◌, inl, inr}
-use Rattle.std.specs.Int.{int_div_euclid, int_rem_euclid}
+use Rattle.std.proofs.Common.{inl, inr}
 use Rattle.std.proofs.lemmas.Str.{IsAscii-append}
 use Rattle.std.proofs.lemmas.Str.Ascii.{IsAscii-nil}
 use Rattle.std.proofs.lemmas.Fmt.{IsAscii-decimal}
 use Rattle.ld_value.specs.Calendar.{in_digits, moment_text, text_of_moment, day_and_second_text}
-use Rattle.ld_value.specs.Duration.{Parts, part_text, shown, parts_of, time_text, has_time, span_text}
+use Rattle.ld_value.specs.Duration.{part_text, shown, parts_of, time_text, has_time, span_text}
 use Rattle.ld_value.proofs.Choices.{bool_cases}
 use Rattle.ld_value.proofs.Durations.{shown_cases}
 

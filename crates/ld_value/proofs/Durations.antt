@@ -1,18 +1,14 @@
 -- A text has the parts of a duration exactly where it is the text of those parts.
-use Rattle.std.proofs.Common.{◌≡◌, ℕ, zero, suc, List, [], ◌∷◌, ◌++◌, ◌+◌, ◌-◌, ◌*◌, ◌<◌, ◌≤◌, Bool, true, false, cond, ◌&&◌, ◌||◌, ◌==◌, ◌⊎◌, ◌↔◌, inl, inr, refl, sym, ◌∙◌, ap, arith, length, ◌^◌, ◌/◌, ◌%◌, take, drop, codes, append_assoc, Option, Some, None, is_some, IsTrue}
-use Rattle.std.specs.Str.{all_ascii_digits, byte}
+use Rattle.std.proofs.Common.{◌≡◌, ℕ, List, [], ◌∷◌, ◌++◌, ◌<◌, ◌≤◌, true, false, ◌&&◌, ◌||◌, ◌==◌, ◌⊎◌, ◌↔◌, inl, inr, refl, sym, ◌∙◌, ap, arith, length, ◌^◌, ◌/◌, ◌%◌, take, drop, codes, append_assoc, Option, Some, None, is_some}
+use Rattle.std.specs.Str.{all_ascii_digits}
 use Rattle.std.specs.Char.{is_ascii_digit}
-use Rattle.std.specs.List.{prefix_len}
 use Rattle.std.specs.Fmt.{decimal}
-use Rattle.std.specs.Str.Parse.{digits_value}
 use Rattle.ld_value.proofs.Numerals.{is_numeral-decimal, digits_value_decimal}
 use Rattle.std.specs.Option.{option_and_then, IfSome}
-use Rattle.std.proofs.lemmas.Grind.{common_steps}
 use Rattle.std.proofs.lemmas.Bool.Decides.{nat_tests}
 use Rattle.std.proofs.lemmas.List.{take-append-drop, append-nil}
 use Rattle.std.proofs.Math.Seq.{drop-append_seam, take-append_seam}
 use Rattle.ld_value.proofs.Choices.{bool_cases, both, and_left, and_right, some_when, when_so, eq_self, eq_from, le_from, le_test, above_zero}
-use Rattle.ld_value.specs.Numeral.{is_numeral}
 use Rattle.ld_value.specs.Duration.{Parts, part_text, time_text, has_time, duration_text, is_part, has_numerals, is_duration, seconds_of, seconds_if, IsDuration, digit_count, begins_with, front_part, time_in, time_after, parts_in, duration_of, shown, parts_of, span_text, part_number}
 
 -- what follows the digits at the front

@@ -1,8 +1,7 @@
 -- The values of a datatype are those that some text has, and each is read from its own text.
-use Rattle.std.proofs.Common.{◌≡◌, ℕ, zero, suc, List, [], ◌∷◌, ◌++◌, ◌+◌, ◌-◌, ◌*◌, ◌<◌, ◌≤◌, ◌^◌, Bool, true, false, cond, ◌&&◌, ◌==◌, ◌⊎◌, inl, inr, refl, sym, ◌∙◌, ap, arith, length, take, drop, codes, ℤ, pos, negsuc, neg_ℤ, ◌≤ℤ◌, Option, Some, None, IsTrue, get_or, nat_eq}
+use Rattle.std.proofs.Common.{◌≡◌, ℕ, suc, List, ◌+◌, ◌<◌, ◌^◌, true, false, cond, inl, inr, refl, sym, arith, codes, ℤ, pos, negsuc, neg_ℤ, ◌≤ℤ◌, Option, Some, None, IsTrue}
 use Rattle.std.specs.Prelude.{int_le}
 use Rattle.std.specs.Option.{option_map, option_and_then, IfSome}
-use Rattle.std.specs.Str.{all_ascii_digits}
 use Rattle.std.specs.Str.Parse.{starts_with_minus}
 use Rattle.std.specs.Fmt.{decimal, signed_decimal}
 use Rattle.std.proofs.lemmas.Bool.Decides.{nat_tests}
@@ -10,13 +9,13 @@ use Rattle.std.proofs.lemmas.Fmt.{decimal_nonempty}
 use Rattle.jiff_core.proofs.SignedLemmas.{signed_arith}
 use Rattle.ld_value.specs.declared.kind.Kind.{Kind}
 use Rattle.ld_value.specs.declared.kind.Kind.TheVariants.{String, Text, Uri, Boolean, Integer, Datetime, Duration}
-use Rattle.ld_value.specs.Calendar.{moment_of, text_of_moment, is_moment, IsMoment}
+use Rattle.ld_value.specs.Calendar.{moment_of, is_moment, IsMoment}
 use Rattle.ld_value.specs.Datum.{Datum, text_datum, truth_datum, number_datum, moment_datum, span_datum}
-use Rattle.ld_value.specs.Duration.{duration_of, span_text}
-use Rattle.ld_value.specs.Numeral.{numeral, is_numeral}
-use Rattle.ld_value.specs.Values.{value_of, text_of, is_value, is_text, is_uri, is_whole, is_span, text_if, truth_of, signed_numeral, integer_of, IsPrintable}
+use Rattle.ld_value.specs.Duration.{duration_of}
+use Rattle.ld_value.specs.Numeral.{numeral}
+use Rattle.ld_value.specs.Values.{value_of, text_of, is_value, is_text, is_uri, is_whole, truth_of, signed_numeral, integer_of, IsPrintable}
 use Rattle.ld_value.proofs.Choices.{both, and_left, and_right, bool_cases, some_when, le_from, le_test}
-use Rattle.ld_value.proofs.Numerals.{own, digit_in, is_numeral-decimal, digits_value_decimal, all_digits-decimal}
+use Rattle.ld_value.proofs.Numerals.{digit_in, is_numeral-decimal, digits_value_decimal, all_digits-decimal}
 use Rattle.ld_value.proofs.Moments.{moment_of-text_of_moment, IsMoment-moment_of}
 use Rattle.ld_value.proofs.Durations.{duration_of-span_text, span-duration_of}
 

@@ -9,4 +9,5 @@ pub mod Moments
 pub mod Numerals
 pub mod Pattern
 pub mod Printed
+pub mod Same
 pub mod Choices

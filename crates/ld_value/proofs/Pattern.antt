@@ -1,5 +1,5 @@
 -- Texts that follow a pattern.
-use Rattle.std.proofs.Common.{◌≡◌, ◌≢◌, ℕ, List, [], ◌∷◌, ◌+◌, ◌<◌, true, false, refl, sym, arith, length, take, drop, get_or, zero, suc, ◌&&◌, add-one, drop-cons, replicate, Bool, ◌==◌}
+use Rattle.std.proofs.Common.{◌≡◌, ◌≢◌, ℕ, List, [], ◌∷◌, ◌+◌, ◌<◌, true, false, refl, sym, arith, length, take, drop, get_or, zero, suc, ◌&&◌, add-one, drop-cons, replicate, ◌==◌}
 use Rattle.std.proofs.lemmas.Grind.{common_steps}
 use Rattle.std.proofs.lemmas.Bool.Decides.{nat_tests}
 use Rattle.std.specs.Str.{all_ascii_digits}

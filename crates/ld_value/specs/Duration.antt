@@ -69,6 +69,7 @@ pub record IsDuration (text : List ℕ) (n : ℕ) : Type 0 where
 abbrev pub digit_count : List ℕ → ℕ
 digit_count text = prefix_len is_ascii_digit text
 
+-- The text's first byte is this letter.
 abbrev pub begins_with : ℕ → List ℕ → Bool
 begins_with letter [] = false
 begins_with letter (b ∷ bs) = b == letter
@@ -103,7 +104,7 @@ unfoldable pub seconds_if : Parts → Option ℕ
 seconds_if p = if is_duration p then Some (seconds_of p) else None
 
 -- The seconds of the duration that the text writes: n exactly where `IsDuration text n`, which is a
--- clause of `read_scalar`.
+-- clause of `read_duration`.
 unfoldable pub duration_of : List ℕ → Option ℕ
 duration_of text = option_and_then seconds_if (parts_in text)
 

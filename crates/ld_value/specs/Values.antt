@@ -1,6 +1,6 @@
 -- The values of the seven datatypes: which texts have one, how it is printed, and which restrictions it
 -- fits. (docs/FORMATS.md, "Values")
-use Rattle.std.specs.Prelude.{◌≡◌, ℕ, ◌^◌, ◌-◌, List, [], ◌∷◌, length, drop, map, Bool, true, false, not, ◌&&◌, ◌||◌, ◌==◌, nat_le, if◌then◌else◌, ℤ, pos, neg_ℤ, int_le, Option, Some, None, codes, chars, IsTrue}
+use Rattle.std.specs.Prelude.{ℕ, ◌^◌, ◌-◌, List, length, drop, map, Bool, true, false, not, ◌&&◌, ◌||◌, ◌==◌, nat_le, if◌then◌else◌, ℤ, pos, neg_ℤ, int_le, Option, Some, None, codes, chars}
 use Rattle.std.specs.Option.{option_map, option_and_then}
 use Rattle.std.specs.Int.{is_in_range}
 use Rattle.std.specs.List.{list_all, list_any}
@@ -33,6 +33,7 @@ is_whole z = int_le (neg_ℤ (pos (2 ^ 63))) z && int_le z (pos (2 ^ 63 - 1))
 abbrev pub is_span : ℕ → Bool
 is_span n = nat_le n 999999999999
 
+-- The text as a value, if it is one.
 abbrev pub text_if : Bool → List ℕ → Option Datum
 text_if good text = if good then Some (text_datum text) else None
 
@@ -110,6 +111,7 @@ pub record Restrictions : Type 0 where
   pub max_length : Option ℕ
   pub one_of : List Datum
 
+-- What the program's restrictions mean.
 abbrev pub restrictions_of : Limits → Restrictions
 restrictions_of l = record {
   least = option_map datum_of l.least;
@@ -127,10 +129,12 @@ is_at_most (moment_datum a) (moment_datum b) = int_le a b
 is_at_most (span_datum a) (span_datum b) = nat_le a b
 is_at_most _ _ = false
 
+-- The value is at least the least one, where there is one.
 abbrev pub meets_least : Option Datum → Datum → Bool
 meets_least None d = true
 meets_least (Some least) d = is_at_most least d
 
+-- It is at most the greatest one, where there is one.
 abbrev pub meets_most : Option Datum → Datum → Bool
 meets_most None d = true
 meets_most (Some most) d = is_at_most d most
@@ -140,10 +144,12 @@ abbrev pub characters : Datum → ℕ
 characters (text_datum text) = length (chars text)
 characters _ = 0
 
+-- It has the least number of characters, where there is one.
 abbrev pub meets_min_length : Option ℕ → Datum → Bool
 meets_min_length None d = true
 meets_min_length (Some least) d = nat_le least (characters d)
 
+-- It has no more than the greatest number of characters, where there is one.
 abbrev pub meets_max_length : Option ℕ → Datum → Bool
 meets_max_length None d = true
 meets_max_length (Some most) d = nat_le (characters d) most

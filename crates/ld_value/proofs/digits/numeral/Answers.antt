@@ -1,4 +1,3 @@
-use Rattle.std.proofs.Common.{arith}
 use Rattle.ld_value.proofs.Numerals.{numeral_bound}
 use Rattle.ld_value.proofs.digits.numeral.Goals as goal
 

@@ -1,4 +1,4 @@
-use Rattle.std.proofs.Common.{◌≡◌, ◌++◌, ◌<◌, ◌^◌}
+use Rattle.std.proofs.Common.{◌≡◌, ◌++◌}
 use Rattle.std.specs.Fmt.{decimal}
 use Rattle.ld_value.proofs.draft.Draft.put_decimal.Given as goal
 
