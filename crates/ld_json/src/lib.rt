@@ -9,3 +9,5 @@ pub mod file;
 pub mod node;
 pub mod place;
 pub mod print;
+#[cfg(test)]
+mod tests;
