@@ -1,14 +1,13 @@
 -- The place of a member or an element leads to it, where the place of the node above leads to that.
-use Rattle.std.proofs.Common.{◌≡◌, ◌≢◌, ℕ, zero, suc, ◌^◌, ◌<◌, ◌==◌, ◌&&◌, ◌||◌, List, [], ◌∷◌, ◌++◌, length, get_or, slice_index, Bool, true, false, not, nat_lt, Option, Some, None, option_and_then, decimal, refl, sym, ap, ◌∙◌, arith, append-nil, append_assoc, lt-ltb, ne_eqb, if◌then◌else◌}
+use Rattle.std.proofs.Common.{◌≡◌, ℕ, zero, suc, ◌^◌, ◌<◌, ◌==◌, ◌||◌, List, [], ◌∷◌, ◌++◌, length, get_or, slice_index, Bool, true, false, not, nat_lt, Option, Some, None, option_and_then, decimal, refl, sym, ap, ◌∙◌, arith, append-nil, append_assoc, lt-ltb, ne_eqb, if◌then◌else◌}
 use Rattle.std.proofs.lemmas.Fmt.{decimal_digit, decimal_is_IsNumeral, decimal_nonempty, first_decimal}
 use Rattle.std.proofs.lemmas.Bool.{eqb-true, eq-eqb}
-use Rattle.std.proofs.lemmas.Grind.{common_steps}
 use Rattle.std.specs.Char.{digit_value}
 use Rattle.std.specs.Str.Parse.{AllDigits}
-use Rattle.fast_float.specs.Text.{Parts, text_of, digits_of, scan, IsWellFormed}
+use Rattle.fast_float.specs.Text.{Parts, digits_of, scan, IsWellFormed}
 use Rattle.fast_float.proofs.Writing.{scan-text_of}
 use Rattle.serde_json.specs.Data.{Data, null, boolean, number, string, array, object}
-use Rattle.serde_json.specs.Find.{get, at, get_member, get_item, step, walk, pointer, unescape, index_of}
+use Rattle.serde_json.specs.Find.{get, at, step, walk, pointer, unescape, index_of}
 use Rattle.serde_json.specs.Read.{is_integer}
 use Rattle.ld_json.specs.Node.{Placed, member_node, item_node}
 use Rattle.ld_json.specs.Places.{escaped, escaped_byte}
