@@ -93,6 +93,7 @@ fn places(rt: HostRuntime) -> Result<(), Fail> {
     )?;
     let root = doc.root(FileNo::Unit);
     assert!(rt; place(alloc, root.fault(alloc, Code::Cycle))?.as_str() == ".");
+    assert!(rt; Code::Cycle.word() == "cycle");
     root.only(alloc, &["x", "a~b/c"])?;
     let list = root.member(alloc, "a~b/c")?;
     assert_eq!(rt; list.count(alloc)?, 11);
