@@ -4,7 +4,7 @@ use Rattle.std.proofs.lemmas.Bool.{both_ways, cases_Bool}
 use Rattle.ld_base.specs.Outside.{piece_then}
 use Rattle.ld_lines.specs.Lines.{HasNoFeed, without_blank, lines_of, ended_lines_of}
 use Rattle.ld_lines.specs.Reading.{Reading, KnowsEnd, Takes, Leaves}
-use Rattle.ld_lines.specs.Answer.{Answer, WholeLine, OverLine, NoLine, Fault, TooLong}
+use Rattle.ld_lines.specs.Answer.{Answer, WholeLine, OverLine}
 use Rattle.ld_lines.specs.Cutting.{Ends, FeedAt, Fetches, CutsOf, CutsOff}
 use Rattle.ld_lines.proofs.Feeds.{HasNoFeed-append}
 use Rattle.ld_lines.proofs.Pieces.{lines_of-ended, ended_lines_of-ended, lines_of-last, lines_of-nil}

@@ -1,9 +1,9 @@
 -- One call after the other: what has come of a source since its lines began to be handed out.
-use Rattle.std.proofs.Common.{◌≡◌, ℕ, ◌+◌, List, [], ◌∷◌, ◌++◌, length, Bool, true, false, Option, Some, None, IfSome, refl, sym, ap, subst, ◌∙◌, arith, append_assoc, append-nil, length-append}
-use Rattle.std.proofs.lemmas.Bool.{both_ways, cases_Bool}
+use Rattle.std.proofs.Common.{◌≡◌, ℕ, List, [], ◌∷◌, ◌++◌, length, true, false, Option, Some, None, IfSome, sym, ap, subst, ◌∙◌, arith, append-nil, length-append}
+use Rattle.std.proofs.lemmas.Bool.{both_ways}
 use Rattle.ld_base.specs.Outside.{piece_then}
 use Rattle.ld_lines.specs.Lines.{lines_of, ended_lines_of}
-use Rattle.ld_lines.specs.Reading.{Reading, IsEnd, KnowsEnd, Takes, Leaves}
+use Rattle.ld_lines.specs.Reading.{Reading, IsEnd, Takes, Leaves}
 use Rattle.ld_lines.specs.Answer.{Answer, WholeLine, OverLine, NoLine, Fault, TooLong, HandsOut}
 use Rattle.ld_lines.specs.Handed.{Handed, Stopped, HandedOn}
 use Rattle.ld_lines.proofs.Cuts.{piece_then-nil, piece_then-more, Leaves-none, Leaves-more, not_ended}

@@ -1,14 +1,11 @@
-//! Command lines.
-#![tactic(auto)]
-
-pub mod command;
-pub mod read;
-//! The lines of a source: what a line feed ends, less blank lines.
+//! The lines of a source, and which command each of them is.
 #![tactic(auto)]
 
 mod buffer;
+pub mod command;
 mod cut;
 pub mod lines;
 pub mod next;
+pub mod read;
 mod reader;
 pub mod stop;

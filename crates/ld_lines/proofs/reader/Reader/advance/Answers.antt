@@ -1,4 +1,4 @@
-use Rattle.std.proofs.Common.{◌∙◌, ◌+◌, ◌-◌, ◌<◌, ◌^◌, arith, sym, ap, length, Err}
+use Rattle.std.proofs.Common.{◌∙◌, ◌+◌, ◌-◌, ◌<◌, ◌^◌, arith, sym, length}
 use Rattle.std.proofs.lemmas.Result.{err_from_is_err_and}
 use Rattle.ld_lines.proofs.Cuts.{CutsOff-progress}
 use Rattle.ld_lines.proofs.Handing.{Passed-more, HandsOut-whole, HandsOut-over, HandsOut-none, HandsOut-stop}
