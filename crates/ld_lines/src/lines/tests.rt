@@ -12,12 +12,7 @@ use std::test::Fail;
 const PIECES: [usize; 4] = [1, 2, 7, 65_536];
 
 /// What five calls of `next` answer: a short line as it is, a long one by its length.
-fn answers(
-    alloc: Global,
-    bytes: &[u8],
-    piece: usize,
-    failing: &[u64],
-) -> Result<String, Fail>
+fn answers(alloc: Global, bytes: &[u8], piece: usize, failing: &[u64]) -> Result<String, Fail>
     requires { 0 < piece }
 {
     let Ok(mut lines) = Lines::new(alloc) else {
@@ -95,7 +90,11 @@ fn lines_at_the_limit(rt: HostRuntime) -> Result<(), Fail> {
         bytes.extend_from_slice(rest.as_bytes())?;
         for piece in PIECES {
             let told = answers(rt.alloc(), &bytes, piece, &[])?;
-            assert_eq!(rt; told.as_str(), wanted, "{count} bytes and {rest:?} by {piece}");
+            assert_eq!(rt;
+                told.as_str(),
+                wanted,
+                "{count} bytes and {rest:?} by {piece}"
+            );
         }
     }
     Ok(())
