@@ -13,9 +13,9 @@ HasNoFeed-append xs ys h k = list_any-append is_feed xs ys ∙ (rw (h, k) refl)
 none_before : (bytes : List ℕ) (k : ℕ) → k ≤ length bytes → Nowhere (Passes (is_byte 10) bytes) 0 k → HasNoFeed (take k bytes)
 none_before bytes k h none =
     list_any_none is_feed (take k bytes) (λ j d below.
-        let low : j < k = omega (arith, length-take-le k bytes h) in
-        let same : get_or (take k bytes) j d ≡ get_or bytes j 0 = get_or-take k bytes j d low ∙ get_or_default bytes j d 0 (omega arith) in
-        rw same (false_from_ne_true _ (none j (omega arith) low)))
+    let low : j < k = omega (arith, length-take-le k bytes h) in
+    let same : get_or (take k bytes) j d ≡ get_or bytes j 0 = get_or-take k bytes j d low ∙ get_or_default bytes j d 0 (omega arith) in
+    rw same (false_from_ne_true _ (none j (omega arith) low)))
 
 parts_at : (bytes : List ℕ) (m : ℕ) → m < length bytes → get_or bytes m 0 ≡ 10 → bytes ≡ take m bytes ++ 10 ∷ drop (m + 1) bytes
 parts_at bytes m h is =
@@ -34,9 +34,8 @@ FeedAt-some bytes seen k clear h (found, is) =
     let below : k < length rest = found.high in
     let within : seen + k < length bytes = omega (arith, length-drop seen bytes) in
     let later : HasNoFeed (take k rest) = none_before rest k (omega arith) found.before in
-    let here : get_or bytes (seen + k) 0 ≡ 10 = sym (get_or-drop seen bytes k 0) ∙ eqb-true _ _ is in
-    (
-        within,
-        rw take-add (HasNoFeed-append (take seen bytes) (take k rest) clear later),
-        parts_at bytes (seen + k) within here,
+    let here : get_or bytes (seen + k) 0 ≡ 10 = sym (get_or-drop seen bytes k 0) ∙ eqb-true _ _ is in (
+      within,
+      rw take-add (HasNoFeed-append (take seen bytes) (take k rest) clear later),
+      parts_at bytes (seen + k) within here,
     )

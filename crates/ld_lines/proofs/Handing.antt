@@ -20,11 +20,11 @@ pub record Passed (old : Reading) (before : Option (List ℕ)) (r : Reading) (no
 
 pub Passed-none : (r : Reading) (left : Option (List ℕ)) → Passed r left r left
 Passed-none r left = record {
-    piece = [];
-    takes = Takes-none r left;
-    leaves = subst (λ xs. Leaves xs [] r) (sym (append-nil r.held)) (Leaves-none r);
-    shorter = omega arith;
-  }
+  piece = [];
+  takes = Takes-none r left;
+  leaves = subst (λ xs. Leaves xs [] r) (sym (append-nil r.held)) (Leaves-none r);
+  shorter = omega arith;
+}
 
 -- The lines of what the source had left, by those of what it has left.
 lines_from-line : {old new : Reading} {before : Option (List ℕ)} {piece line : List ℕ} (now : Option (List ℕ)) → Takes old before piece new now → Leaves (old.held ++ piece) (line ∷ []) new → KnowsEnd new now → lines_from old.held before ≡ line_then line (lines_from new.held now)
@@ -53,7 +53,7 @@ module _ {old mid new : Reading} {before between now : Option (List ℕ)} (answe
   more : (lines : List (List ℕ)) → Leaves (mid.held ++ cut.piece) lines new → Leaves (old.held ++ (passed.piece ++ cut.piece)) lines new
   more lines leaves =
       subst (λ xs. Leaves xs lines new) (append_assoc old.held passed.piece cut.piece)
-          (Leaves-more (old.held ++ passed.piece) cut.piece [] lines passed.leaves cut.takes leaves)
+      (Leaves-more (old.held ++ passed.piece) cut.piece [] lines passed.leaves cut.takes leaves)
 
   after_end : old.ended ≡ true → answer ≡ NoLine
   after_end e = cut.after_end (passed.takes.stays_ended e)
@@ -67,8 +67,8 @@ module _ {old mid new : Reading} {before between now : Option (List ℕ)} (answe
   ended_none : HasNoFeed (mid.held ++ cut.piece) → new.ended ≡ false → ended_lines_of (old.held ++ (passed.piece ++ cut.piece)) ≡ []
   ended_none clear going =
       ap ended_lines_of (sym (append_assoc old.held passed.piece cut.piece))
-          ∙ passed.leaves.by_feed cut.piece (not_ended mid.ended new.ended cut.takes.stays_ended going)
-          ∙ ended_lines_of-none (mid.held ++ cut.piece) clear
+      ∙ passed.leaves.by_feed cut.piece (not_ended mid.ended new.ended cut.takes.stays_ended going)
+      ∙ ended_lines_of-none (mid.held ++ cut.piece) clear
 
 pub Passed-more : {old mid new : Reading} {before between now : Option (List ℕ)} {line : List ℕ} → Passed old before mid between → CutsOff mid between (WholeLine line) new now → list_all is_blank line ≡ true → Passed old before new now
 Passed-more {old} {mid} {new} {before} {between} {now} {line} passed cut all_blank =
@@ -121,10 +121,10 @@ HandsOut-none {old} {mid} {new} {before} {between} {now} passed cut limit =
     let nothing : mid.held ++ cut.piece ≡ [] = cut.cuts_of.0 in
     let told : new.ended ≡ true = cut.cuts_of.2 in
     let none : lines_of (old.held ++ (passed.piece ++ cut.piece)) ≡ [] =
-        ap lines_of (sym (append_assoc old.held passed.piece cut.piece))
-            ∙ passed.leaves.every cut.piece cut.takes.none_after_end
-            ∙ ap lines_of nothing
-            ∙ lines_of-nil in
+    ap lines_of (sym (append_assoc old.held passed.piece cut.piece))
+    ∙ passed.leaves.every cut.piece cut.takes.none_after_end
+    ∙ ap lines_of nothing
+    ∙ lines_of-nil in
     record {
       lines = λ knows. let end = (taken NoLine passed cut).knows_end knows told in (end, lines_from-nil now (taken NoLine passed cut) none end);
       after_end = after_end NoLine passed cut;
@@ -137,25 +137,25 @@ HandsOut-none {old} {mid} {new} {before} {between} {now} passed cut limit =
 
 HandsOut-fault : {old mid new : Reading} {before between now : Option (List ℕ)} → Passed old before mid between → CutsOff mid between Fault new now → new.taken < 2 ^ 40 → HandsOut old before Fault new now
 HandsOut-fault {old} {mid} {new} {before} {between} {now} passed cut below = record {
-    lines = tt;
-    after_end = after_end Fault passed cut;
-    piece = passed.piece ++ cut.piece;
-    takes = taken Fault passed cut;
-    bytes = (ended_none Fault passed cut cut.cuts_of.0 cut.cuts_of.1, cut.cuts_of.1, below);
-    progress = tt;
-    limit = omega arith;
-  }
+  lines = tt;
+  after_end = after_end Fault passed cut;
+  piece = passed.piece ++ cut.piece;
+  takes = taken Fault passed cut;
+  bytes = (ended_none Fault passed cut cut.cuts_of.0 cut.cuts_of.1, cut.cuts_of.1, below);
+  progress = tt;
+  limit = omega arith;
+}
 
 HandsOut-too_long : {old mid new : Reading} {before between now : Option (List ℕ)} → Passed old before mid between → CutsOff mid between TooLong new now → new.taken ≡ 2 ^ 40 → HandsOut old before TooLong new now
 HandsOut-too_long {old} {mid} {new} {before} {between} {now} passed cut full = record {
-    lines = tt;
-    after_end = after_end TooLong passed cut;
-    piece = passed.piece ++ cut.piece;
-    takes = taken TooLong passed cut;
-    bytes = (ended_none TooLong passed cut cut.cuts_of.0 cut.cuts_of.1, cut.cuts_of.1, full);
-    progress = tt;
-    limit = omega arith;
-  }
+  lines = tt;
+  after_end = after_end TooLong passed cut;
+  piece = passed.piece ++ cut.piece;
+  takes = taken TooLong passed cut;
+  bytes = (ended_none TooLong passed cut cut.cuts_of.0 cut.cuts_of.1, cut.cuts_of.1, full);
+  progress = tt;
+  limit = omega arith;
+}
 
 pub HandsOut-stop : {old mid new : Reading} {before between now : Option (List ℕ)} (line : List ℕ) (stop : LineStop) → Passed old before mid between → CutsOff mid between (answer_of_cut line (Err stop)) new now → StopsAt stop new.taken → HandsOut old before (answer_of_cut line (Err stop)) new now
 HandsOut-stop line ReadFault passed cut below = HandsOut-fault passed cut below

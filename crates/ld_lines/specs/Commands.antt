@@ -1,6 +1,6 @@
 -- Which command the bytes of a line are: a JSON array of texts, which are a moment, a verb and the
 -- verb's words.
-use Rattle.std.specs.Prelude.{ℕ, List, [], ◌∷◌, Option, Some, None, Bool, true, false, codes, if◌then◌else◌}
+use Rattle.std.specs.Prelude.{ℕ, List, [], ◌∷◌, Option, Some, None, codes, if◌then◌else◌}
 use Rattle.std.specs.Str.{bytes_eq}
 use Rattle.serde_json.specs.Data.{Data, Items, no_items, item}
 use Rattle.serde_json.specs.Find.{as_array, as_str}
@@ -11,7 +11,6 @@ use Rattle.ld_value.specs.Calendar.{moment_of}
 use Rattle.ld_value.specs.declared.moment.Moment.{Moment}
 use Rattle.ld_lines.specs.declared.command.Line.{Line}
 use Rattle.ld_lines.specs.declared.command.Line.TheVariants.{Create, OfRun}
-use Rattle.ld_lines.specs.declared.command.RunCommand.{RunCommand}
 use Rattle.ld_lines.specs.declared.command.RunCommand.TheVariants.{Enrol, Assign, Start, Complete, Tree}
 
 -- The texts of an array of texts.

@@ -46,7 +46,18 @@ impl Lines {
         Ok(Lines { reader })
     }
 
-    /// The next line of the source.
+    /// The next line of the source: one that a line feed ends, or the last one without. A line of
+    /// at most 65,536 bytes that are all spaces, tabs and carriage returns is passed over. Takes no
+    /// memory.
+    ///
+    /// The lines are of one source: each call is given the same. Once it told its end, it is not
+    /// asked again, and every further answer is `End`.
+    ///
+    /// # Errors
+    /// `ReadFault` only where the source's count of faults rose. `InputTooLong` exactly where 2^40
+    /// bytes were taken, no line that a line feed ends is left among them, and the source has not
+    /// told its end; nothing is taken from then on. After either the lines are done with: what is
+    /// held of the last one may be a part of it.
     pub fn next<S: Source>(&mut self, source: &mut S) -> Result<Next<'_>, LineStop>
         ensures* hands_out { sem 𝓛 (follows_so the_row the_row self.entry.ghost_name none (λ _ _. ⊤) (λ new. HandsOut self.old (S.left source.old) (answer_of result) new (S.left source.new))) }
         ensures read_fault { result ≡ Err LineStop.ReadFault → Rose (S.faults source.old) (S.faults source.new) }
@@ -61,3 +72,6 @@ impl Lines {
         }
     }
 }
+
+#[cfg(test)]
+mod tests;

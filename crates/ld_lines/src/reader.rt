@@ -162,7 +162,8 @@ impl Reader {
     {
         loop {
             self.clear();
-            if self.fetch(source)? == 0 {
+            let count = self.fetch(source)?;
+            if count == 0 {
                 self.finish();
                 return Ok(Cut::Over);
             }
@@ -267,5 +268,7 @@ fn find_feed(bytes: &[u8], seen: usize) -> Option<usize>
 fn are_blank(bytes: &[u8]) -> bool
     ensures { result ≡ list_all is_blank bytes.now }
 {
-    bytes.iter().all(|b| *b == b' ' || *b == b'\t' || *b == b'\r')
+    bytes
+        .iter()
+        .all(|b| *b == b' ' || *b == b'\t' || *b == b'\r')
 }

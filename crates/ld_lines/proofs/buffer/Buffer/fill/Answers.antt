@@ -13,12 +13,12 @@ returns-clause-bytes g c =
     let filled = c.take_into.new.bytes.items in
     let was : slice_range b.bytes.items b.start b.end ≡ c.args.self.now.held = ap (λ w. w.held) c.self.view_is in
     let kept : slice_range filled at (at + len) ≡ c.args.self.now.held =
-        slice_range_front filled moved at (at + len) c.take_into.ensures.front ∙ c.make_room-self-inside.ensures.held ∙ was in
+    slice_range_front filled moved at (at + len) c.take_into.ensures.front ∙ c.make_room-self-inside.ensures.held ∙ was in
     record {
-        piece = slice_range filled (at + len) (at + len + n);
-        held = slice_range_join filled at len n ∙ ap (λ ys. ys ++ slice_range filled (at + len) (at + len + n)) kept;
-        counted =
-            length-between filled (at + len) (at + len + n) (omega (arith, c.take_into.new.bytes.ok.0, c.in_ok-count.ensures.within))
-                ∙ omega arith;
-        left = c.in_ok-count.ensures.bytes;
+      piece = slice_range filled (at + len) (at + len + n);
+      held = slice_range_join filled at len n ∙ ap (λ ys. ys ++ slice_range filled (at + len) (at + len + n)) kept;
+      counted =
+          length-between filled (at + len) (at + len + n) (omega (arith, c.take_into.new.bytes.ok.0, c.in_ok-count.ensures.within))
+          ∙ omega arith;
+      left = c.in_ok-count.ensures.bytes;
     }

@@ -1,4 +1,4 @@
-use Rattle.std.proofs.Common.{◌∙◌, ◌+◌, ◌-◌, ◌<◌, ◌^◌, arith, sym, ap, length, Err}
+use Rattle.std.proofs.Common.{◌∙◌, ◌+◌, ◌-◌, ◌<◌, ◌^◌, arith, sym, length}
 use Rattle.std.proofs.lemmas.Result.{err_from_is_err_and}
 use Rattle.ld_lines.proofs.Cuts.{CutsOff-progress}
 use Rattle.ld_lines.proofs.Handing.{Passed-more, HandsOut-whole, HandsOut-over, HandsOut-none, HandsOut-stop}
@@ -13,7 +13,7 @@ returns-in_err-next_piece-clause-hands_out g c =
 pub returns-then-not-are_blank-clause-hands_out : goal.returns-then-not-are_blank-clause-hands_out
 returns-then-not-are_blank-clause-hands_out g c =
     HandsOut-whole c.loop-self.invariant.0 (rw c.in-Whole.is at c.in_ok-next_piece.ensures.cuts)
-        (rw c.line.ensures at (sym c.if-not-are_blank.ensures)) c.next_piece.ensures.limit
+    (rw c.line.ensures at (sym c.if-not-are_blank.ensures)) c.next_piece.ensures.limit
 
 pub loop-self-smaller : goal.loop-self-smaller
 loop-self-smaller g c =
@@ -21,7 +21,7 @@ loop-self-smaller g c =
     let new = c.next_piece.new.self.reading in
     let cut = rw c.in-Whole.is at c.in_ok-next_piece.ensures.cuts in
     let less : 2 ^ 40 - new.taken + length new.held < 2 ^ 40 - old.taken + length old.held =
-        omega (arith, CutsOff-progress cut, cut.takes.counted, c.next_piece.ensures.limit) in
+    omega (arith, CutsOff-progress cut, cut.takes.counted, c.next_piece.ensures.limit) in
     less
 
 pub loop-self-preserved : goal.loop-self-preserved
