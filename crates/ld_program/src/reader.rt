@@ -7,6 +7,8 @@ mod lists;
 mod methods;
 mod roles;
 pub mod stop;
+#[cfg(test)]
+mod tests;
 mod trees;
 mod units;
 pub mod validity;
