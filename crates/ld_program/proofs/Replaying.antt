@@ -48,13 +48,14 @@ on way line text handed answers wrote = record {
   text = way.text ++ text;
   handed = handed.1;
   led = Leads-more _ way.lines way.text _ line text _ way.led answers;
-  wrote = wrote ∙ ap (λ w. then_piece w text) way.wrote ∙ then_both _ way.text text }
+  wrote = wrote ∙ ap (λ w. then_piece w text) way.wrote ∙ then_both _ way.text text;
+}
 
 pub IsUnderWay-next : {at_first : WorldState} {first before : Option (List ℕ)} {old new : Reading} {left now : Option (List ℕ)} {world next : WorldState} {written after : Option (List ℕ)} (text : List ℕ) (way : IsUnderWay at_first first before old left world written) (answer : Answer) → HandsOut old left answer new now → AnswersWhat world answer (Ok true) text next → after ≡ then_piece written text → IsUnderWay at_first first before new now next after
 IsUnderWay-next text way (WholeLine line) out what wrote = on way line text (Handed-next (WholeLine line) way.handed out) what.1 wrote
 IsUnderWay-next {world = world} {next = next} text way OverLine out what wrote =
-  let handed = Handed-next OverLine way.handed out in
-  on way handed.1 text (handed.0, handed.3) (subst (λ o. AnswersLine world o text next) (sym (line_of-long handed.1 handed.2)) what.1) wrote
+    let handed = Handed-next OverLine way.handed out in
+    on way handed.1 text (handed.0, handed.3) (subst (λ o. AnswersLine world o text next) (sym (line_of-long handed.1 handed.2)) what.1) wrote
 IsUnderWay-next text way NoLine out what wrote = absurd (cc what.0)
 IsUnderWay-next text way Fault out what wrote = absurd (cc what.0)
 IsUnderWay-next text way TooLong out what wrote = absurd (cc what.0)
@@ -73,8 +74,8 @@ stopped_by_fault next text way (WholeLine line) out what = absurd (cc what.0)
 stopped_by_fault next text way OverLine out what = absurd (cc what.0)
 stopped_by_fault next text way NoLine out what = absurd (cc what.0)
 stopped_by_fault {at_first = at_first} {world = world} next text way Fault out what =
-  let s = Handed-next Fault way.handed out in
-  (s.0, s.1.left, rw (← s.1.counted) out.bytes.2, (way.text, (world, subst (λ ls. Leads at_first ls way.text world) (sym s.1.by_feed) way.led), way.wrote))
+    let s = Handed-next Fault way.handed out in
+    (s.0, s.1.left, rw (← s.1.counted) out.bytes.2, (way.text, (world, subst (λ ls. Leads at_first ls way.text world) (sym s.1.by_feed) way.led), way.wrote))
 stopped_by_fault next text way TooLong out what = absurd (cc what.0)
 
 -- An input that is too long.
@@ -84,8 +85,8 @@ stopped_by_length next text way OverLine out what = absurd (cc what.0)
 stopped_by_length next text way NoLine out what = absurd (cc what.0)
 stopped_by_length next text way Fault out what = absurd (cc what.0)
 stopped_by_length {at_first = at_first} {world = world} next text way TooLong out what =
-  let s = Handed-next TooLong way.handed out in
-  (s.0, s.1.left, rw (← s.1.counted) out.bytes.2, (way.text, (world, subst (λ ls. Leads at_first ls way.text world) (sym s.1.by_feed) way.led), way.wrote))
+    let s = Handed-next TooLong way.handed out in
+    (s.0, s.1.left, rw (← s.1.counted) out.bytes.2, (way.text, (world, subst (λ ls. Leads at_first ls way.text world) (sym s.1.by_feed) way.led), way.wrote))
 
 all_given : (first : Option (List ℕ)) (bytes : List ℕ) (now : Option (List ℕ)) → first ≡ piece_then bytes now → IsEnd now → (first ≡ None) ⊎ ((first ≡ Some bytes) × (now ≡ Some []))
 all_given first bytes None e end = inl e
@@ -95,16 +96,16 @@ told_end : (first : Option (List ℕ)) (at_first : WorldState) (bytes : List ℕ
 told_end None at_first bytes now before written found answered = tt
 told_end (Some all) at_first bytes now before written (inl e) answered = absurd (cc e)
 told_end (Some all) at_first bytes now before written (inr e) answered =
-  let same : all ≡ bytes = cc e.0 in
-  (e.1, subst (λ b. Answered at_first (lines_of b) before written) (sym same) answered)
+    let same : all ≡ bytes = cc e.0 in
+    (e.1, subst (λ b. Answered at_first (lines_of b) before written) (sym same) answered)
 
 -- A source that told its end.
 pub ended_well : {at_first : WorldState} {first before : Option (List ℕ)} {old new : Reading} {left now : Option (List ℕ)} {world : WorldState} {written : Option (List ℕ)} (next : WorldState) (text : List ℕ) → IsUnderWay at_first first before old left world written → (answer : Answer) → HandsOut old left answer new now → AnswersWhat world answer (Ok false) text next → AnsweredAll at_first first now before written
 ended_well next text way (WholeLine line) out what = absurd (cc what.0)
 ended_well next text way OverLine out what = absurd (cc what.0)
 ended_well {at_first = at_first} {first = first} {before = before} {now = now} {world = world} {written = written} next text way NoLine out what =
-  let s = Handed-next NoLine way.handed out in
-  told_end first at_first s.0 now before written
+    let s = Handed-next NoLine way.handed out in
+    told_end first at_first s.0 now before written
     (all_given first s.0 now s.1.left (s.1.knows_end out.bytes.2))
     (way.text, (world, subst (λ ls. Leads at_first ls way.text world) (sym s.2) way.led), way.wrote)
 ended_well next text way Fault out what = absurd (cc what.0)

@@ -83,8 +83,8 @@ created unit moment name id s same first text t = rw first (by_outcome _ _ _ (cr
 pub told_of_run : (unit : Course) (run : RunOf) (moment : Moment) (name : List ℕ) (command : RunCommand) → bytes_eq run.name name ≡ true → (text : List ℕ) (new : Option RunState) → IsToldOfRun run moment.0 command text new → IsTold (record { units = unit ∷ []; runs = run ∷ [] }) (OfRun moment name command) text new
 unfolding reply_block
 told_of_run unit run moment name command same text (Some s) told =
-  let here : world_step (record { units = unit ∷ []; runs = run ∷ [] }) (Some (OfRun moment name command)) ≡ record { reply = done told.0; world = record { units = unit ∷ []; runs = at_state run s ∷ [] } } = this_run unit run moment name command same ∙ rw told.1 refl in
-  by_outcome _ _ _ here text (told.2 ∙ rw same refl)
+    let here : world_step (record { units = unit ∷ []; runs = run ∷ [] }) (Some (OfRun moment name command)) ≡ record { reply = done told.0; world = record { units = unit ∷ []; runs = at_state run s ∷ [] } } = this_run unit run moment name command same ∙ rw told.1 refl in
+    by_outcome _ _ _ here text (told.2 ∙ rw same refl)
 told_of_run unit run moment name command same text None told =
-  let here : world_step (record { units = unit ∷ []; runs = run ∷ [] }) (Some (OfRun moment name command)) ≡ world_refusal (record { units = unit ∷ []; runs = run ∷ [] }) told.0 = this_run unit run moment name command same ∙ rw told.1 refl in
-  refused_line _ _ told.0 here text told.2
+    let here : world_step (record { units = unit ∷ []; runs = run ∷ [] }) (Some (OfRun moment name command)) ≡ world_refusal (record { units = unit ∷ []; runs = run ∷ [] }) told.0 = this_run unit run moment name command same ∙ rw told.1 refl in
+    refused_line _ _ told.0 here text told.2

@@ -22,8 +22,8 @@ no_memory_block = codes "no 99 no-memory" ++ 10 ∷ []
 -- The text answers the line in the old world and leaves the new one.
 abbrev pub AnswersLine : WorldState → Option Line → List ℕ → WorldState → Type 0
 AnswersLine old line text new =
-  ((text ≡ block_for old line) × (new ≡ (world_step old line).world))
-  ⊎ ((text ≡ no_memory_block) × (new ≡ old))
+    ((text ≡ block_for old line) × (new ≡ (world_step old line).world))
+    ⊎ ((text ≡ no_memory_block) × (new ≡ old))
 
 -- The text answers the lines one after the other, and leads from the old world to the new one.
 abbrev pub Leads : WorldState → List (List ℕ) → List ℕ → WorldState → Type 0

@@ -166,8 +166,8 @@ finished s first (Some second) = record { reply = done (sum_of first second); st
 abbrev pub after_first : Course → RunState → ℤ → RunCommand → Option Settling → Outcome
 after_first unit s moment command None = refusal s 30
 after_first unit s moment command (Some first) =
-  if is_not_open unit first.state command then refusal s 31 else
-  finished s first (settled_if (has_change command && is_started (changed unit first.state moment command)) unit (changed unit first.state moment command))
+    if is_not_open unit first.state command then refusal s 31 else
+    finished s first (settled_if (has_change command && is_started (changed unit first.state moment command)) unit (changed unit first.state moment command))
 
 -- From the checks on. A refusal leaves the state as it was.
 abbrev pub after_checks : Course → RunState → ℤ → RunCommand → Option ℕ → Outcome

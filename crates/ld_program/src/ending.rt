@@ -1,6 +1,6 @@
 //! How a call of the program ends.
 ghost use Rattle.std.specs.Prelude.{◌≡◌, codes};
-ghost use Rattle.ld_program.specs.Endings.{number_of, word_of};
+ghost use Rattle.ld_program.specs.Endings.{IsStatus, number_of, word_of};
 
 /// How a call ends. Each ending has a number, which is the exit status of the program, and a word,
 /// which the program prints where the number is not 0 (docs/COMMANDS.md, "Statuses").
@@ -54,6 +54,22 @@ impl Ending {
             Ending::WriteFault => "write-fault",
             Ending::NoMemory => "no-memory",
             Ending::InputTooLong => "input-too-long",
+        }
+    }
+
+    /// The ending of this number. Any number that is none of an ending's is taken as that of `Done`.
+    pub fn numbered(number: u8) -> Ending
+        ensures { IsStatus number → number_of result ≡ number }
+    {
+        match number {
+            2 => Ending::BadWords,
+            3 => Ending::ShelfFault,
+            4 => Ending::UnitRefused,
+            5 => Ending::ReadFault,
+            6 => Ending::WriteFault,
+            7 => Ending::NoMemory,
+            8 => Ending::InputTooLong,
+            _ => Ending::Done,
         }
     }
 }

@@ -84,12 +84,7 @@ fn answer_lines<S: Source, K: Sink>(
 
 /// Answers the lines of the source from the world of the unit on. Where memory is wanting nothing
 /// was taken and nothing was written.
-pub fn replay<S: Source, K: Sink>(
-    alloc: Global,
-    unit: Unit,
-    source: &mut S,
-    sink: &mut K,
-) -> Ending
+pub fn replay<S: Source, K: Sink>(alloc: Global, unit: Unit, source: &mut S, sink: &mut K) -> Ending
     ensures done { result ≡ Ending.Done → AnsweredAll (first_world (unit ∷ [])) (S.left source.old) (S.left source.new) (K.written sink.old) (K.written sink.new) }
     ensures read { result ≡ Ending.ReadFault → AnsweredTaken (λ n. n < 2 ^ 40) (first_world (unit ∷ [])) (S.left source.old) (S.left source.new) (K.written sink.old) (K.written sink.new) }
     ensures long { result ≡ Ending.InputTooLong → AnsweredTaken (λ n. n ≡ 2 ^ 40) (first_world (unit ∷ [])) (S.left source.old) (S.left source.new) (K.written sink.old) (K.written sink.new) }

@@ -203,5 +203,8 @@ fn choose(
         return Ok(());
     };
     let owner = Owner::Person(PersonNo(number(person)?));
-    state.put(CellName::Chosen(ThingNo(thing), owner), Some(Value::Bool(true)))
+    state.put(
+        CellName::Chosen(ThingNo(thing), owner),
+        Some(Value::Bool(true)),
+    )
 }

@@ -1,29 +1,11 @@
-<<<<<<< HEAD
-//! The text of a tree's lines.
-ghost use Rattle.std.specs.Prelude.{◌≡◌, ◌++◌, OnOk, map};
-ghost use Rattle.ld_base.specs.Roomy.{KeepsRoom};
-ghost use Rattle.ld_program.specs.Tree.{lines_text};
-=======
 //! Printing the lines of a tree.
 ghost use Rattle.std.specs.Prelude.{◌≡◌, ◌++◌, map, OnOk, option_copied};
 ghost use Rattle.ld_base.specs.Roomy.{KeepsRoom};
 ghost use Rattle.ld_program.specs.Tree.{indent, line_text, lines_text, title_text};
->>>>>>> 0ce70501402a0971d2df7ef0d58a570c10dbd495
 ghost use Rattle.ld_program.specs.TreeView.{line_view};
 
 use crate::tree::TreeLine;
 use ld_base::memory::NoMemory;
-<<<<<<< HEAD
-use ld_base::text::Text;
-use std::alloc::Global;
-
-/// Appends the lines.
-pub fn push_lines(_alloc: Global, _lines: &[TreeLine], _out: &mut Text) -> Result<(), NoMemory>
-    ensures ok { OnOk result (_out.new.bytes ≡ _out.old.bytes ++ lines_text (map line_view _lines.now)) }
-    ensures room { KeepsRoom _out.old _out.new }
-{
-    Err(NoMemory)
-=======
 use ld_base::plain_text::PlainText;
 use ld_base::text::Text;
 use ld_json::print::print_text;
@@ -77,5 +59,4 @@ fn push_title(alloc: Global, title: Option<&PlainText>, out: &mut Text) -> Resul
     };
     out.push(" ")?;
     print_text(alloc, title.as_str(), out)
->>>>>>> 0ce70501402a0971d2df7ef0d58a570c10dbd495
 }

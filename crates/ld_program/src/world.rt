@@ -85,11 +85,13 @@ impl World {
         }
         match read_command(alloc, line) {
             Ok(Line::Create { moment, run, unit }) => self.create(alloc, moment, run, &unit, out),
-            Ok(Line::OfRun {
-                moment,
-                run,
-                command,
-            }) => self.of_run(alloc, moment, &run, &command, out),
+            Ok(
+                Line::OfRun {
+                    moment,
+                    run,
+                    command,
+                },
+            ) => self.of_run(alloc, moment, &run, &command, out),
             Err(LineFault::BadLine) => refuse(1, out),
             Err(LineFault::NoMemory) => Err(NoMemory),
         }

@@ -10,7 +10,8 @@ invariant-loop-sink g l = record {
   room : 128 ≤ room_of l.out;
   limit : l.lines.taken ≤ 2 ^ 40;
   source_counts : g.S.Source.faults l.fn.source ≤ g.S.Source.faults l.source;
-  sink_counts : g.K.Sink.faults l.fn.sink ≤ g.K.Sink.faults l.sink }
+  sink_counts : g.K.Sink.faults l.fn.sink ≤ g.K.Sink.faults l.sink;
+}
 
 abbrev pub decreases-loop-sink : goal.decreases-loop-sink
 decreases-loop-sink g l = (2 ^ 40 - l.lines.taken) + length l.lines.held
