@@ -7,7 +7,6 @@ use Rattle.ld_model.specs.declared.activity.Item.{Item}
 use Rattle.ld_model.specs.declared.method.Act.{Act}
 use Rattle.ld_model.specs.declared.method.Play.{Play}
 use Rattle.ld_model.specs.declared.method.RolePart.{RolePart}
-use Rattle.ld_model.specs.declared.role.Role.{Role}
 use Rattle.ld_model.specs.declared.unit.Unit.{Unit as Course}
 use Rattle.ld_model.specs.Counting.{each_numbered_from, each_numbered}
 use Rattle.ld_model.specs.Things.{Entry, item_entry, activity_entries, part_entries, act_entries, play_entries, things_of}

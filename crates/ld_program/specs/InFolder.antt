@@ -4,7 +4,10 @@ use Rattle.ld_base.specs.Outside.{Files}
 use Rattle.ld_model.specs.declared.unit.Unit.{Unit as Course}
 use Rattle.ld_program.specs.FirstForm.{unit_in}
 
--- Where the shelf tells its files, this is the unit in the folder, or none where the folder has not
--- the form.
+-- This holds of the files, where the shelf tells them.
+abbrev pub WhereTold : Option Files → (Files → Type 0) → Type 0
+WhereTold told Holds = (files : Files) → told ≡ Some files → Holds files
+
+-- This is the unit in the folder, or none where the folder has not the form.
 abbrev pub HasUnit : Option Files → List ℕ → Option Course → Type 0
-HasUnit told folder found = (files : Files) → told ≡ Some files → found ≡ unit_in files folder
+HasUnit told folder found = WhereTold told (λ files. found ≡ unit_in files folder)

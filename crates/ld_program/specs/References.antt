@@ -1,5 +1,5 @@
 -- Whether references name what they should, part by part.
-use Rattle.std.specs.Prelude.{List, Bool, ◌&&◌}
+use Rattle.std.specs.Prelude.{Bool, ◌&&◌}
 use Rattle.std.specs.List.{list_all}
 use Rattle.ld_model.specs.declared.method.Act.{Act}
 use Rattle.ld_model.specs.declared.method.Play.{Play}

@@ -1,9 +1,10 @@
 //! The files of a folder.
-ghost use Rattle.std.specs.Prelude.{◌≡◌, ◌≤◌, Some, IfOk, is_some, option_map};
+ghost use Rattle.std.specs.Prelude.{◌≡◌, ◌≤◌, IfOk, is_some, option_map};
 ghost use Rattle.serde_json.specs.View.{view};
-ghost use Rattle.ld_base.specs.Outside.{Files, Rose};
+ghost use Rattle.ld_base.specs.Outside.{Rose};
 ghost use Rattle.ld_json.specs.Files.{file_name};
 ghost use Rattle.ld_program.specs.FirstForm.{none_there, tree_of};
+ghost use Rattle.ld_program.specs.InFolder.{WhereTold};
 
 use crate::reader::stop::FolderStop;
 use crate::reader::trees::read_tree;
@@ -19,7 +20,7 @@ pub(super) fn tree_in<H: Shelf>(
     folder: &str,
     file: FileNo,
 ) -> Result<Option<Value>, FolderStop>
-    ensures tree { IfOk result (λ tree. (files : Files) → H.files shelf.old ≡ Some files → option_map view tree ≡ tree_of (files folder.now (file_name file))) }
+    ensures tree { IfOk result (λ tree. WhereTold (H.files shelf.old) (λ files. option_map view tree ≡ tree_of (files folder.now (file_name file)))) }
     ensures fault { result ≡ Err FolderStop.ShelfFault → Rose (H.faults shelf.old) (H.faults shelf.new) }
     ensures counts { H.faults shelf.old ≤ H.faults shelf.new }
     ensures same { H.files shelf.new ≡ H.files shelf.old }
@@ -41,7 +42,7 @@ pub(super) fn is_absent<H: Shelf>(
     folder: &str,
     file: FileNo,
 ) -> Result<bool, FolderStop>
-    ensures absent { IfOk result (λ absent. (files : Files) → H.files shelf.old ≡ Some files → absent ≡ is_some (none_there (files folder.now (file_name file)))) }
+    ensures absent { IfOk result (λ absent. WhereTold (H.files shelf.old) (λ files. absent ≡ is_some (none_there (files folder.now (file_name file))))) }
     ensures fault { result ≡ Err FolderStop.ShelfFault → Rose (H.faults shelf.old) (H.faults shelf.new) }
     ensures counts { H.faults shelf.old ≤ H.faults shelf.new }
     ensures same { H.files shelf.new ≡ H.files shelf.old }

@@ -1,10 +1,10 @@
 //! The unit that a folder of a shelf holds.
-ghost use Rattle.std.specs.Prelude.{◌≡◌, ◌≤◌, Some, IfOk};
-ghost use Rattle.ld_base.specs.Outside.{Files, Rose};
+ghost use Rattle.std.specs.Prelude.{◌≡◌, ◌≤◌, IfOk};
+ghost use Rattle.ld_base.specs.Outside.{Rose};
 ghost use Rattle.ld_json.specs.Files.{file_name};
 ghost use Rattle.ld_json.specs.declared.file.FileNo.TheVariants as file_numbers;
 ghost use Rattle.ld_program.specs.FirstForm.{activities_of, roles_of, tree_of, unit_of};
-ghost use Rattle.ld_program.specs.InFolder.{HasUnit};
+ghost use Rattle.ld_program.specs.InFolder.{HasUnit, WhereTold};
 ghost use Rattle.ld_program.specs.Maybe.{◌>>=◌ as ◌then◌};
 
 use crate::reader::activities::read_activities;
@@ -66,7 +66,7 @@ fn roles_in<H: Shelf>(
     shelf: &mut H,
     folder: &str,
 ) -> Result<Option<RoleList>, FolderStop>
-    ensures roles { IfOk result (λ roles. (files : Files) → H.files shelf.old ≡ Some files → roles ≡ (tree_of (files folder.now (file_name file_numbers.Roles)) then roles_of)) }
+    ensures roles { IfOk result (λ roles. WhereTold (H.files shelf.old) (λ files. roles ≡ (tree_of (files folder.now (file_name file_numbers.Roles)) then roles_of))) }
     ensures fault { result ≡ Err FolderStop.ShelfFault → Rose (H.faults shelf.old) (H.faults shelf.new) }
     ensures counts { H.faults shelf.old ≤ H.faults shelf.new }
     ensures same { H.files shelf.new ≡ H.files shelf.old }
@@ -83,7 +83,7 @@ fn activities_in<H: Shelf>(
     shelf: &mut H,
     folder: &str,
 ) -> Result<Option<ActivityList>, FolderStop>
-    ensures activities { IfOk result (λ activities. (files : Files) → H.files shelf.old ≡ Some files → activities ≡ (tree_of (files folder.now (file_name file_numbers.Activities)) then activities_of)) }
+    ensures activities { IfOk result (λ activities. WhereTold (H.files shelf.old) (λ files. activities ≡ (tree_of (files folder.now (file_name file_numbers.Activities)) then activities_of))) }
     ensures fault { result ≡ Err FolderStop.ShelfFault → Rose (H.faults shelf.old) (H.faults shelf.new) }
     ensures counts { H.faults shelf.old ≤ H.faults shelf.new }
     ensures same { H.files shelf.new ≡ H.files shelf.old }
@@ -102,7 +102,7 @@ fn unit_with<H: Shelf>(
     roles: RoleList,
     activities: ActivityList,
 ) -> Result<Option<Unit>, FolderStop>
-    ensures unit { IfOk result (λ unit. (files : Files) → H.files shelf.old ≡ Some files → unit ≡ (tree_of (files folder.now (file_name file_numbers.Unit)) then unit_of roles activities)) }
+    ensures unit { IfOk result (λ unit. WhereTold (H.files shelf.old) (λ files. unit ≡ (tree_of (files folder.now (file_name file_numbers.Unit)) then unit_of roles activities))) }
     ensures fault { result ≡ Err FolderStop.ShelfFault → Rose (H.faults shelf.old) (H.faults shelf.new) }
     ensures counts { H.faults shelf.old ≤ H.faults shelf.new }
     ensures same { H.files shelf.new ≡ H.files shelf.old }

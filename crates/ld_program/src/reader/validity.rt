@@ -22,7 +22,8 @@ const MOST_ACTIVITIES: usize = 400;
 const MOST_ITEMS: usize = 4000;
 
 /// Whether the unit is valid: its identifiers differ, its references name what they should, and it
-/// is within the limits. It takes time for n identifiers as n times the logarithm of n.
+/// is within the limits. It takes time as n times the logarithm of n for n identifiers, and for
+/// each role-part as the roles and the activities, which are few by then.
 pub fn is_valid_unit(alloc: Global, unit: &Unit) -> Result<bool, NoMemory>
     ensures { IfOk result (λ valid. valid ≡ is_valid unit.now) }
 {

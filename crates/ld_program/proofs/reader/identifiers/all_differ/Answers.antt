@@ -1,7 +1,5 @@
-use Rattle.std.proofs.Common.{◌≡◌, [], get_or, not, true, false, sym, ◌∙◌, ap, arith, rules}
+use Rattle.std.proofs.Common.{get_or, sym, arith}
 use Rattle.std.proofs.lemmas.Grind.{common_steps}
-use Rattle.std.specs.List.{list_any}
-use Rattle.std.specs.Str.{bytes_eq}
 use Rattle.ld_program.proofs.Differing.{all_differ_more, all_differ_repeated, no_text, seen_more}
 use Rattle.ld_program.proofs.reader.identifiers.all_differ.Goals as goal
 

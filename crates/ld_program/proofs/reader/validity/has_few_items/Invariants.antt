@@ -1,4 +1,4 @@
-use Rattle.std.proofs.Common.{◌≡◌, ◌+◌, ◌≤◌, drop, length}
+use Rattle.std.proofs.Common.{◌≡◌, drop, length}
 use Rattle.std.specs.List.{sum_by}
 use Rattle.std.specs.Bool.{nat_le}
 use Rattle.ld_program.proofs.reader.validity.has_few_items.Given as goal
