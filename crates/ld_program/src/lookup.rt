@@ -4,6 +4,8 @@
 ghost use Rattle.std.specs.Prelude.{◌≡◌, Some, ◌<◌, ◌^◌, length};
 ghost use Rattle.std.specs.List.{list_any, flat_map};
 ghost use Rattle.ld_model.specs.Members.{role_number, activity_number, person_number, holds_role, is_member, is_member_of, has_member, is_mine};
+ghost use Rattle.ld_model.specs.Rules.{rule_number};
+ghost use Rattle.ld_model.specs.Things.{thing_number};
 ghost use Rattle.ld_program.specs.LookupView.{HasFewPersons, makes_mine};
 ghost use Rattle.ld_program.specs.StateView.{state_of, person_state};
 
