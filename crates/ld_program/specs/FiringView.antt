@@ -1,6 +1,4 @@
 -- What the code's counts stand for.
-use Rattle.std.specs.Prelude.{ℕ}
-use Rattle.ld_model.specs.State.{RunState}
 use Rattle.ld_program.specs.Firing.{Tally, Settling}
 use Rattle.ld_program.specs.StateView.{state_of}
 use Rattle.ld_program.specs.declared.firing.Counts.{Counts}

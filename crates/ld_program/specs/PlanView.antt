@@ -10,9 +10,11 @@ use Rattle.ld_program.specs.declared.rules.Rule.{Rule as CodeRule}
 use Rattle.ld_program.specs.declared.rules.Rule.TheVariants.{CompletesActivity, OpensAct, CompletesPart}
 use Rattle.ld_program.specs.declared.things.ThingEntry.{ThingEntry}
 
+-- The entry that the code's entry stands for.
 abbrev pub entry_of : ThingEntry → Entry
 entry_of entry = record { identifier = entry.identifier; place = entry.place }
 
+-- The rule that the code's rule stands for.
 abbrev pub rule_of : CodeRule → Rule
 rule_of (CompletesActivity a) = completes_activity a
 rule_of (OpensAct p a) = opens_act p a

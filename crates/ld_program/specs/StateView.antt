@@ -1,7 +1,7 @@
 -- The state of a run that the code's state stands for.
-use Rattle.std.specs.Prelude.{ℕ, ℤ, List, [], ◌∷◌, ◌++◌, ◌≡◌, map, Option, Some, None}
+use Rattle.std.specs.Prelude.{ℕ, [], ◌∷◌, ◌++◌, ◌≡◌, map, Option, Some, None}
 use Rattle.std.specs.Option.{option_map}
-use Rattle.std.specs.BTreeMap.{BTreeMap, get}
+use Rattle.std.specs.BTreeMap.{BTreeMap, get, Updates}
 use Rattle.ld_model.specs.Cells.{CellMap}
 use Rattle.ld_model.specs.State.{PersonState, RunState, cells_at_first}
 use Rattle.ld_model.specs.declared.cell.CellName.{CellName}
@@ -32,6 +32,10 @@ state_of s = record { persons = map person_state s.persons.items; outbox = []; c
 -- What was written to the cell, if something was.
 abbrev pub written_in : BTreeMap CellName (Option Value) → CellName → Option (Option Datum)
 written_in cells name = option_map (option_map datum_of) (get order.cmp-value.it cells name)
+
+-- The second map is the first one after this was written to the cell.
+abbrev pub Writes : BTreeMap CellName (Option Value) → BTreeMap CellName (Option Value) → CellName → Option Value → Type 0
+Writes old new name held = Updates order.cmp-value.it old new name (Some held)
 
 -- In each cell of the second map there is written what is in the first.
 abbrev pub IsCopyOf : BTreeMap CellName (Option Value) → BTreeMap CellName (Option Value) → Type 0

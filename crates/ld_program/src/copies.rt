@@ -1,10 +1,8 @@
 //! Copies of the parts of a state.
-ghost use Rattle.std.specs.Prelude.{◌≡◌, map, IfOk, OnOk, Some};
-ghost use Rattle.std.specs.BTreeMap.{Updates};
+ghost use Rattle.std.specs.Prelude.{◌≡◌, map, IfOk, OnOk};
 ghost use Rattle.std.specs.Option.{option_map};
-ghost use Rattle.ld_model.specs.contracts.cell.CellNameOrd.TheImpl as order;
 ghost use Rattle.ld_value.specs.Datum.{datum_of};
-ghost use Rattle.ld_program.specs.StateView.{person_state, IsCopyOf};
+ghost use Rattle.ld_program.specs.StateView.{person_state, IsCopyOf, Writes};
 
 use crate::state::Person;
 use ld_base::memory::NoMemory;
@@ -57,7 +55,7 @@ fn write(
     name: CellName,
     held: Option<Value>,
 ) -> Result<(), NoMemory>
-    ensures { OnOk result (Updates order.cmp-value.it cells.old cells.new name (Some held)) }
+    ensures { OnOk result (Writes cells.old cells.new name held) }
 {
     cells.insert(name, held)?;
     Ok(())

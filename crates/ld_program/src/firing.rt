@@ -24,6 +24,9 @@ use ld_model::cell::{CellName, Owner};
 use ld_model::unit::Unit;
 use ld_value::value::Value;
 
+/// The number of sweeps of a settling that may fire.
+const TURN_BUDGET: u32 = 64;
+
 /// What has fired in a sweep: firings, rejected writes and notices sent.
 #[derive(Clone, Copy, Debug, PartialEq, Eq)]
 pub struct Counts {
@@ -192,9 +195,6 @@ pub fn sweep(unit: &Unit, plan: &Plan, state: &mut State) -> Result<Counts, NoMe
     }
     Ok(counts)
 }
-
-/// The number of sweeps of a settling that may fire.
-const TURN_BUDGET: u32 = 64;
 
 impl Sums {
     /// The sums with those of one more sweep that fired. They fit, or else there is no memory.

@@ -9,8 +9,6 @@ ghost use Rattle.ld_model.specs.Things.{thing_number};
 ghost use Rattle.ld_program.specs.LookupView.{HasFewPersons, makes_mine};
 ghost use Rattle.ld_program.specs.StateView.{state_of, person_state};
 
-use crate::plan::Plan;
-use crate::rules::Rule;
 use crate::state::{Person, State};
 use ld_base::id::Id;
 use ld_model::method::{Act, RolePart};

@@ -1,5 +1,5 @@
 //! The plan of a unit: its things and its rules as lists, made once and used by all its runs.
-ghost use Rattle.std.specs.Prelude.{◌≡◌, ◌<◌, ◌^◌, map, length, IfOk};
+ghost use Rattle.std.specs.Prelude.{◌≡◌, ◌<◌, ◌^◌, length, IfOk};
 ghost use Rattle.ld_program.specs.PlanView.{IsPlanOf, rule_of, number_in, thing_in};
 
 use crate::number::number;

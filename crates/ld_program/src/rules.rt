@@ -1,7 +1,7 @@
 //! The rules of a unit as one list, in which their places are their numbers.
 ghost use Rattle.std.specs.Prelude.{◌≡◌, map, IfOk, OnOk};
 ghost use Rattle.ld_model.specs.Counting.{each_numbered};
-ghost use Rattle.ld_model.specs.Rules.{activity_rule, part_rule, act_rules, play_rules, rules_of, same_rule, opens_act, completes_activity, completes_part};
+ghost use Rattle.ld_model.specs.Rules.{activity_rule, part_rule, act_rules, play_rules, rules_of, same_rule};
 ghost use Rattle.ld_program.specs.PlanView.{rule_of, AddsRules};
 
 use crate::number::number;

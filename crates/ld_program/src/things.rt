@@ -1,7 +1,7 @@
 //! The things of a unit as one list, in which their places are their numbers.
-ghost use Rattle.std.specs.Prelude.{◌≡◌, ◌++◌, ◌∷◌, [], map, IfOk, OnOk};
+ghost use Rattle.std.specs.Prelude.{◌≡◌, ◌∷◌, [], map, IfOk, OnOk};
 ghost use Rattle.ld_model.specs.Counting.{each_numbered};
-ghost use Rattle.ld_model.specs.Things.{Entry, item_entry, activity_entries, part_entries, act_entries, play_entries, things_of};
+ghost use Rattle.ld_model.specs.Things.{item_entry, activity_entries, part_entries, act_entries, play_entries, things_of};
 ghost use Rattle.ld_program.specs.PlanView.{entry_of, AddsEntries};
 
 use crate::number::number;

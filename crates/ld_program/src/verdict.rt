@@ -6,7 +6,7 @@ ghost use Rattle.ld_model.specs.Rules.{completes_activity};
 ghost use Rattle.ld_program.specs.LookupView.{HasFewPersons};
 ghost use Rattle.ld_program.specs.PlanView.{IsPlanOf, rule_of, number_in, thing_in};
 ghost use Rattle.ld_program.specs.StateView.{state_of};
-ghost use Rattle.ld_program.specs.Tests.{is_marked, has_chosen, activity_test, act_at, has_opened, opening_test, target_is_done, all_members_done, part_test, part_test_in, rule_test, site_test, of_person};
+ghost use Rattle.ld_program.specs.Tests.{is_marked, has_chosen, activity_test, act_at, has_opened, opening_test, target_is_done, all_members_done, part_test, part_test_in, rule_test, site_test};
 
 use crate::lookup::{activity_number, has_member, is_member_of, is_mine};
 use crate::plan::Plan;

@@ -1,12 +1,11 @@
 //! What no clause says: that a small unit settles as a person would expect, where there is memory.
 ghost use Rattle.ld_program.specs.PlanView.{IsPlanOf};
 
-use crate::firing::{Sums, settle};
+use crate::firing::settle;
 use crate::plan::Plan;
 use crate::state::State;
 use ld_base::id::Id;
 use ld_base::items::Items;
-use ld_base::memory::NoMemory;
 use ld_base::numbers::{PersonNo, PropNo, RoleNo, ThingNo};
 use ld_base::text::Text;
 use ld_model::activity::{Activity, Completion};
@@ -24,15 +23,13 @@ const READING: ThingNo = ThingNo(0);
 
 const FIRST_ACT: ThingNo = ThingNo(2);
 
-fn id(alloc: Global, text: &str) -> Result<Id, NoMemory> {
-    match Id::read(alloc, text.as_bytes())? {
-        Some(id) => Ok(id),
-        None => Err(NoMemory),
-    }
+fn id(alloc: Global, text: &str) -> Result<Id, Fail> {
+    let read = Id::read(alloc, text.as_bytes())?;
+    Ok(read.ok_or("no identifier")?)
 }
 
 /// One role, one activity by choice, and a play of one act in which the role does the activity.
-fn reading_unit(alloc: Global) -> Result<Unit, NoMemory> {
+fn reading_unit(alloc: Global) -> Result<Unit, Fail> {
     let mut roles = Items::new(alloc);
     roles.push(Role {
         identifier: id(alloc, "reader")?,
@@ -56,7 +53,7 @@ fn reading_unit(alloc: Global) -> Result<Unit, NoMemory> {
     })
 }
 
-fn reading_method(alloc: Global) -> Result<Method, NoMemory> {
+fn reading_method(alloc: Global) -> Result<Method, Fail> {
     let mut role_parts = Items::new(alloc);
     role_parts.push(RolePart {
         identifier: id(alloc, "readers-read")?,
@@ -80,14 +77,12 @@ fn reading_method(alloc: Global) -> Result<Method, NoMemory> {
 }
 
 /// A run of persons who all hold the role.
-fn run_of(alloc: Global, names: &[&str]) -> Result<State, NoMemory> {
+fn run_of(alloc: Global, names: &[&str]) -> Result<State, Fail> {
     let mut state = State::new(alloc, Moment(77));
     for name in names {
         let person = state.persons.len();
         state.enrol(alloc, &id(alloc, name)?)?;
-        if person < state.persons.len() {
-            state.hold(person, RoleNo(0))?;
-        }
+        state.hold(person, RoleNo(0))?;
     }
     Ok(state)
 }
@@ -98,7 +93,7 @@ fn settled(
     plan: &Plan,
     state: &mut State,
     choosers: &[u32],
-) -> Result<Option<(u32, u64)>, NoMemory>
+) -> Result<Option<(u32, u64)>, Fail>
     requires { IsPlanOf unit.now plan.now }
 {
     for person in choosers {
