@@ -1,2 +1,7 @@
 pub mod Identifier
 pub mod Roomy
+pub mod Outside
+pub mod Maybe
+pub mod Calls
+pub mod Files
+pub mod Memory

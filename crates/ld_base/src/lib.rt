@@ -4,9 +4,24 @@
 #![tactic(auto)]
 
 pub mod bytes;
+mod calls;
+pub mod file;
+pub mod folder_shelf;
 pub mod id;
 pub mod items;
 pub mod memory;
+pub mod memory_shelf;
+pub mod memory_sink;
+pub mod memory_source;
 pub mod numbers;
+pub mod plain_text;
+pub mod shelf;
+pub mod sink;
+pub mod source;
+pub mod stdin_source;
+pub mod stdout_sink;
 pub mod steps;
+#[cfg(test)]
+mod tests;
 pub mod text;
+pub mod write;

@@ -1,4 +1,5 @@
 //! The numbers by which a run speaks of the parts of its unit, each counted from 0.
+use crate::items::Items;
 
 /// A role, in document order.
 #[derive(Clone, Copy, Debug, PartialEq, Eq, PartialOrd, Ord, Hash)]
@@ -20,6 +21,9 @@ pub struct RuleNo(pub u32);
 /// A person, in the order of enrolment.
 #[derive(Clone, Copy, Debug, PartialEq, Eq, PartialOrd, Ord, Hash)]
 pub struct PersonNo(pub u32);
+
+/// Persons, in an order that whoever fills the list says.
+pub type PersonList = Items<PersonNo>;
 
 /// What one firing did beside its writes: writes that did not fit, and notices appended.
 #[derive(Clone, Copy, Debug, PartialEq, Eq)]

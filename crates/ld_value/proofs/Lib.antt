@@ -1,9 +1,9 @@
 pub mod AsciiTexts
 pub mod Dates
 pub mod Days
+pub mod LastPassing
 pub mod Decimals
 pub mod Durations
-pub mod LastPassing
 pub mod Laws
 pub mod Moments
 pub mod Numerals

@@ -1,0 +1,54 @@
+-- The nodes of an array's elements, one by one.
+use Rattle.std.proofs.Common.{◌≡◌, ℕ, zero, suc, ◌+◌, ◌<◌, List, [], ◌∷◌, length, drop, get_or, slice_get, Option, Some, None, IsSome, option_map, map, refl, sym, ap, ◌∙◌, add-zero, add-one, arith}
+use Rattle.std.proofs.lemmas.Option.{slice_get-get_or}
+use Rattle.std.proofs.lemmas.List.{length-map}
+use Rattle.serde_json.specs.Data.{Data, null, boolean, number, string, array, object, Items, no_items, item}
+use Rattle.serde_json.specs.Find.{as_array, at, get_item}
+use Rattle.serde_json.specs.View.{view, items_of, items_view}
+use Rattle.serde_json.specs.declared.value.Value.{Value}
+use Rattle.ld_json.specs.Access.{nodes_from, nodes_of, item_nodes}
+use Rattle.ld_json.specs.Node.{Placed, item_node}
+
+length-nodes_from : (node : Placed) (start : ℕ) (elements : List Data) → length (nodes_from node start (items_of elements)) ≡ length elements
+length-nodes_from node start [] = refl
+length-nodes_from node start (tree ∷ rest) = ap (λ n. suc n) (length-nodes_from node (start + 1) rest)
+
+-- An array has as many nodes as elements.
+pub count_nodes : (node : Placed) (elements : List Value) → as_array node.tree ≡ Some (items_view elements) → length (item_nodes node) ≡ length elements
+count_nodes node elements is = rw is (length-nodes_from node 0 (map view elements) ∙ length-map elements view)
+
+get-nodes_from : (node : Placed) (start index : ℕ) (elements : Items) → slice_get (nodes_from node start elements) index ≡ option_map (item_node node (start + index)) (get_item index elements)
+get-nodes_from node start index no_items = refl
+get-nodes_from node start zero (item tree rest) = ap (λ n. Some (item_node node n tree)) (sym (add-zero start))
+get-nodes_from node start (suc index) (item tree rest) =
+    let same : (start + 1) + index ≡ start + suc index = omega arith in
+    get-nodes_from node (start + 1) index rest ∙ ap (λ n. option_map (item_node node n) (get_item index rest)) same
+
+get-nodes_of : (node : Placed) (index : ℕ) (tree : Data) → slice_get (nodes_of node (as_array tree)) index ≡ option_map (item_node node index) (at index tree)
+get-nodes_of node index null = refl
+get-nodes_of node index (boolean b) = refl
+get-nodes_of node index (number n) = refl
+get-nodes_of node index (string s) = refl
+get-nodes_of node index (array elements) =
+    let same : 0 + index ≡ index = omega arith in
+    get-nodes_from node 0 index elements ∙ ap (λ n. option_map (item_node node n) (get_item index elements)) same
+get-nodes_of node index (object ms) = refl
+
+-- The node at an index is that of the element there.
+pub get_item_nodes : (node : Placed) (index : ℕ) → slice_get (item_nodes node) index ≡ option_map (item_node node index) (at index node.tree)
+get_item_nodes node index = get-nodes_of node index node.tree
+
+some_under : {A B : Type 0} (f : A → B) (o : Option A) (y : B) → option_map f o ≡ Some y → IsSome o
+some_under f None y is = cc
+some_under f (Some x) y is = refl
+
+-- An index below the count has an element.
+pub at_within : (node : Placed) (index : ℕ) → index < length (item_nodes node) → IsSome (at index node.tree)
+at_within node index within =
+    some_under (item_node node index) (at index node.tree) (get_or (item_nodes node) index node) (sym (get_item_nodes node index) ∙ slice_get-get_or (item_nodes node) index node within)
+
+-- What is left of a list from an element on.
+pub drop_at : {A : Type 0} (xs : List A) (index : ℕ) (x : A) → slice_get xs index ≡ Some x → drop index xs ≡ x ∷ drop (index + 1) xs
+drop_at [] index x is = cc
+drop_at (y ∷ ys) zero x is = let same : y ≡ x = cc in ap (λ z. z ∷ ys) same
+drop_at (y ∷ ys) (suc index) x is = rw (add-one (suc index)) (drop_at ys index x is ∙ rw add-one)

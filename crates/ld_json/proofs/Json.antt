@@ -1,0 +1,18 @@
+-- What bytes are as JSON, by whether they are UTF-8.
+use Rattle.std.proofs.Common.{ℕ, List, ◌≡◌, if◌then◌else◌, Option, Some, None, Bool, true, false, refl}
+use Rattle.std.specs.Str.{IsUtf8, is_utf8}
+use Rattle.std.proofs.lemmas.Str.{IsUtf8-from_is_utf8, is_utf8-from_IsUtf8}
+use Rattle.serde_json.specs.Data.{Data}
+use Rattle.serde_json.specs.Read.{read}
+use Rattle.ld_json.specs.Json.{json_of}
+
+pub json_of-reads : (bytes : List ℕ) (tree : Data) → IsUtf8 bytes → read bytes ≡ Some tree → json_of bytes ≡ Some tree
+unfolding json_of
+json_of-reads bytes tree utf8 reads = rw (is_utf8-from_IsUtf8 bytes utf8) reads
+
+pub json_of-nothing : (bytes : List ℕ) → (IsUtf8 bytes → read bytes ≡ None) → json_of bytes ≡ None
+unfolding json_of
+json_of-nothing bytes nothing = elim (is_utf8 bytes) as (λ b. is_utf8 bytes ≡ b → (if b then read bytes else None) ≡ None) [
+  true ↦ λ is. nothing (IsUtf8-from_is_utf8 bytes is)
+  | false ↦ λ _. refl
+  ] refl

@@ -1,0 +1,13 @@
+pub mod Access
+pub mod Codes
+pub mod Fault
+pub mod Files
+pub mod Node
+pub mod Places
+pub mod Pointers
+pub mod Print
+pub mod Reads
+pub mod Steps
+pub mod TreeCode
+pub mod Json
+pub mod Walk

@@ -1,0 +1,6 @@
+pub mod Ranges
+pub mod Feeds
+pub mod Pieces
+pub mod Cuts
+pub mod Handing
+pub mod Handed

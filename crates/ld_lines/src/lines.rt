@@ -1,0 +1,77 @@
+//! The lines of a source.
+ghost use Rattle.std.specs.Prelude.{◌≡◌, ◌≤◌, ◌^◌, ℕ, [], true, false, IfOk, Err};
+ghost use Rattle.ld_base.specs.Outside.{Rose};
+ghost use Rattle.ld_lines.specs.Reading.{Reading};
+
+use crate::cut::Cut;
+use crate::next::Next;
+use crate::reader::Reader;
+use crate::stop::LineStop;
+use ld_base::memory::NoMemory;
+use ld_base::source::Source;
+use std::alloc::Global;
+use std::marker::Model;
+
+/// The lines of a source, which are handed out one after the other. Contracts see the bytes that
+/// were taken and not yet handed out, the number of all bytes that were taken, and whether the
+/// source told its end.
+#[derive(Drop)]
+pub struct Lines {
+    reader: Reader,
+}
+
+impl Model for Lines {
+    ghost Value = { Reading };
+
+    ghost view = { λ s. s.reader.reading };
+}
+
+impl Lines {
+    ghost use Rattle.std.specs.Prelude.{◌≡◌, ◌≤◌, ◌^◌, ℕ, [], true, false, IfOk, ⊤};
+    ghost use Rattle.std.specs.Borrow.{sem};
+    ghost use mathlib.Core.Option.{none};
+    ghost use denote.Follow.{follows_so};
+    ghost use Rattle.ld_base.specs.Outside.{Rose};
+    ghost use Rattle.ld_lines.specs.Answer.{HandsOut};
+    ghost use Rattle.ld_lines.specs.Next.{answer_of};
+    ghost use Rattle.ld_lines.specs.contracts.lines.Lines.{the_row};
+
+    /// The lines of a source of which nothing was taken. Takes all memory that they will need.
+    pub fn new(alloc: Global) -> Result<Lines, NoMemory>
+        ensures held { IfOk result (λ l. l.held ≡ []) }
+        ensures taken { IfOk result (λ l. l.taken ≡ 0) }
+        ensures ended { IfOk result (λ l. l.ended ≡ false) }
+    {
+        let reader = Reader::new(alloc)?;
+        Ok(Lines { reader })
+    }
+
+    /// The next line of the source: one that a line feed ends, or the last one without. A line of
+    /// at most 65,536 bytes that are all spaces, tabs and carriage returns is passed over. Takes no
+    /// memory.
+    ///
+    /// The lines are of one source: each call is given the same. Once it told its end, it is not
+    /// asked again, and every further answer is `End`.
+    ///
+    /// # Errors
+    /// `ReadFault` only where the source's count of faults rose. `InputTooLong` exactly where 2^40
+    /// bytes were taken, no line that a line feed ends is left among them, and the source has not
+    /// told its end; nothing is taken from then on. After either the lines are done with: what is
+    /// held of the last one may be a part of it.
+    pub fn next<S: Source>(&mut self, source: &mut S) -> Result<Next<'_>, LineStop>
+        ensures* hands_out { sem 𝓛 (follows_so the_row the_row self.entry.ghost_name none (λ _ _. ⊤) (λ new. HandsOut self.old (S.left source.old) (answer_of result) new (S.left source.new))) }
+        ensures read_fault { result ≡ Err LineStop.ReadFault → Rose (S.faults source.old) (S.faults source.new) }
+        ensures counts { S.faults source.old ≤ S.faults source.new }
+        ensures after_end { self.old.ended ≡ true → source.new ≡ source.old }
+        ensures after_limit { self.old.taken ≡ 2 ^ 40 → source.new ≡ source.old }
+    {
+        match self.reader.advance(source)? {
+            Cut::Whole => Ok(Next::Whole(self.reader.line())),
+            Cut::Over => Ok(Next::Over),
+            Cut::End => Ok(Next::End),
+        }
+    }
+}
+
+#[cfg(test)]
+mod tests;

@@ -1,0 +1,1 @@
+pub use Rattle.ld_base.specs.Maybe.{◌>>=◌, provided}

@@ -1,0 +1,33 @@
+-- What a call of the program is to have done when it ends.
+use Rattle.std.specs.Prelude.{ℕ, List, [], ◌∷◌, ◌++◌, ◌≡◌, ◌⊎◌, ◌<◌, ◌^◌, length, Option, Some, None, codes}
+use Rattle.ld_base.specs.Outside.{Files, then_piece}
+use Rattle.ld_model.specs.declared.unit.Unit.{Unit as Course}
+use Rattle.ld_program.specs.Answering.{AnsweredAll, AnsweredTaken}
+use Rattle.ld_program.specs.InFolder.{HasUnit}
+use Rattle.ld_program.specs.World.{first_world}
+
+-- The line that is written for a folder that has not the form of a unit.
+abbrev pub refused_line : List ℕ
+refused_line = codes "refused 1 unit.json . not-in-profile" ++ 10 ∷ []
+
+-- The folder has a unit, from whose world on this was done.
+abbrev pub FromUnit : Option Files → List ℕ → (Course → Type 0) → Type 0
+FromUnit files folder Done = (unit : Course) × HasUnit files folder (Some unit) × Done unit
+
+-- Nothing but the form of the words is asked where there is no folder in them.
+abbrev pub InFolder : Option (List ℕ) → (List ℕ → Type 0) → Type 0
+InFolder None Holds = ⊥
+InFolder (Some folder) Holds = Holds folder
+
+-- `replay FOLDER` was done: the source told its end, and what was written answers all its lines.
+abbrev pub ReplayedAll : Option (List ℕ) → Option Files → Option (List ℕ) → Option (List ℕ) → Option (List ℕ) → Option (List ℕ) → Type 0
+ReplayedAll folder files before left old new = InFolder folder (λ name. FromUnit files name (λ unit. AnsweredAll (first_world (unit ∷ [])) before left old new))
+
+-- `replay FOLDER` stopped after so many bytes of the source; what was written answers the lines that
+-- were ended in them.
+abbrev pub ReplayedTaken : (ℕ → Type 0) → Option (List ℕ) → Option Files → Option (List ℕ) → Option (List ℕ) → Option (List ℕ) → Option (List ℕ) → Type 0
+ReplayedTaken Many folder files before left old new = InFolder folder (λ name. FromUnit files name (λ unit. AnsweredTaken Many (first_world (unit ∷ [])) before left old new))
+
+-- The folder has not the form of a unit, and the one line that says so was written.
+abbrev pub Refused : Option (List ℕ) → Option Files → Option (List ℕ) → Option (List ℕ) → Type 0
+Refused folder files old new = InFolder folder (λ name. HasUnit files name None × (new ≡ then_piece old refused_line))
