@@ -36,3 +36,8 @@ same_datum (number_datum a) (number_datum b) = int_eq a b
 same_datum (moment_datum a) (moment_datum b) = int_eq a b
 same_datum (span_datum a) (span_datum b) = a == b
 same_datum _ _ = false
+
+-- The value is a text, the only sort that takes memory.
+abbrev pub is_text_datum : Datum → Bool
+is_text_datum (text_datum bytes) = true
+is_text_datum _ = false

@@ -10,7 +10,7 @@ const ROOM: usize = 32;
 /// A text of at most `ROOM` bytes that grows at its front, seen by contracts as its bytes.
 #[derive(Drop)]
 pub(crate) struct Draft {
-    bytes: [u8; 32],
+    bytes: [u8; ROOM],
     start: usize,
 }
 
@@ -28,7 +28,7 @@ impl Draft {
         ensures { result ≡ [] }
     {
         Draft {
-            bytes: [0; 32],
+            bytes: [0; ROOM],
             start: ROOM,
         }
     }

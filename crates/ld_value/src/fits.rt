@@ -32,6 +32,7 @@ fn is_value(kind: Kind, value: &Value) -> bool
         (Kind::String | Kind::Text, Value::Text(text)) => is_text(text.as_str().as_bytes()),
         (Kind::Uri, Value::Text(text)) => is_uri(text.as_str().as_bytes()),
         (Kind::Boolean, Value::Bool(_)) => true,
+        // Each number of 64 bits is one.
         (Kind::Integer, Value::Int(number)) => (i64::MIN..=i64::MAX).contains(number),
         (Kind::Datetime, Value::Moment(moment)) => {
             FIRST_MOMENT.0 <= moment.0 && moment.0 <= LAST_MOMENT.0

@@ -12,8 +12,8 @@ use crate::value::Value;
 use ld_base::memory::NoMemory;
 use ld_base::text::Text;
 
-/// Appends the value's text. Where memory is wanting the bytes stay as they were, which cannot come
-/// within the spare room. A text that is read as the value is printed again.
+/// Appends the value's text; a moment lies in the years 1 to 9999. Where memory is wanting the bytes
+/// stay as they were, which cannot come within the spare room.
 #[tactic(auto, using(crate::proofs::Laws::printed_back), unfolding(crate::specs::Values::text_of))]
 pub fn print_value(value: &Value, out: &mut Text) -> Result<(), NoMemory>
     requires { IsPrintable (datum_of value.now) }

@@ -1,5 +1,5 @@
 //! Reading values from texts.
-ghost use Rattle.std.specs.Prelude.{◌≡◌, ◌↔◌, IsTrue, IfOk, IfSome, Some, None, Err, option_map};
+ghost use Rattle.std.specs.Prelude.{◌≡◌, ◌↔◌, IsTrue, IfOk, IfSome, Some, None, Err, option_map, false};
 ghost use Rattle.ld_value.specs.Datum.{datum_of};
 ghost use Rattle.ld_value.specs.Values.{value_of, is_value, is_scalar, IsPrintable, text_if as spec_text_if, truth_of};
 
@@ -13,11 +13,13 @@ use crate::value::Value;
 use ld_base::text::Text;
 use std::alloc::Global;
 
-/// The value that the text has as one of the datatype. `BadValue` comes exactly where it has none.
+/// The value that the text has as one of the datatype. `BadValue` comes exactly where it has none, and
+/// `NoMemory` only where the value is a text.
 #[tactic(auto, unfolding(crate::specs::Values::value_of))]
 pub fn read_value(alloc: Global, kind: Kind, text: &str) -> Result<Value, ValueFault>
     ensures ok { IfOk result (λ v. value_of kind text.now ≡ Some (datum_of v)) }
     ensures bad { (result ≡ Err ValueFault.BadValue) ↔ (value_of kind text.now ≡ None) }
+    ensures memory { result ≡ Err ValueFault.NoMemory → is_scalar kind ≡ false }
     ensures sort { IfOk result (λ v. IsTrue (is_value kind (datum_of v))) }
     ensures printable { IfOk result (λ v. IsPrintable (datum_of v)) }
 {
@@ -39,8 +41,8 @@ fn text_if(alloc: Global, good: bool, text: &str) -> Result<Value, ValueFault>
     Ok(Value::Text(Text::of(alloc, text)?))
 }
 
-/// The value that the text has as one of a datatype whose values take no memory; None exactly where it
-/// has none.
+/// The value that the text has as one of a datatype other than string, text and uri, whose values take
+/// no memory; None exactly where it has none.
 #[tactic(auto, unfolding(crate::specs::Values::value_of))]
 pub fn read_scalar(kind: Kind, text: &str) -> Option<Value>
     requires { IsTrue (is_scalar kind) }

@@ -1,6 +1,6 @@
 //! A value of a property, of whatever datatype.
-ghost use Rattle.std.specs.Prelude.{◌≡◌, ◌↔◌, IsTrue, IfOk};
-ghost use Rattle.ld_value.specs.Datum.{datum_of, same_datum};
+ghost use Rattle.std.specs.Prelude.{◌≡◌, ◌↔◌, IsTrue, IfOk, OnErr};
+ghost use Rattle.ld_value.specs.Datum.{datum_of, same_datum, is_text_datum};
 
 use crate::moment::Moment;
 use ld_base::memory::NoMemory;
@@ -19,9 +19,10 @@ pub enum Value {
 }
 
 impl Value {
-    /// The same value once more.
+    /// The same value once more. Only the copy of a text takes memory.
     pub fn copy(&self, alloc: Global) -> Result<Value, NoMemory>
-        ensures { IfOk result (λ v. datum_of v ≡ datum_of self.now) }
+        ensures ok { IfOk result (λ v. datum_of v ≡ datum_of self.now) }
+        ensures memory { OnErr result (IsTrue (is_text_datum (datum_of self.now))) }
     {
         match self {
             Value::Text(text) => Ok(Value::Text(Text::of(alloc, text.as_str())?)),
