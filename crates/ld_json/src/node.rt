@@ -190,6 +190,7 @@ impl<'a> Node<'a> {
     }
 
     /// The member of this name of an object, if there is one. It takes no memory.
+    #[tactic(auto, using(crate::proofs::Pointers::member_is_at))]
     pub fn optional<'b>(&'b self, name: &'b str) -> Option<Node<'b>>
         requires { IsObject self.now }
         ensures node { result
@@ -237,7 +238,7 @@ impl<'a> Node<'a> {
     }
 
     /// The element of an array at an index counted from 0. It takes no memory.
-    #[tactic(auto, using(crate::proofs::Elements::at_within, crate::proofs::Elements::get_item_nodes))]
+    #[tactic(auto, using(crate::proofs::Elements::at_within, crate::proofs::Elements::get_item_nodes, crate::proofs::Pointers::item_is_at))]
     pub fn item(&self, index: usize) -> Node<'_>
         requires array { IsArray self.now }
         requires within { index < length (item_nodes self.now) }
