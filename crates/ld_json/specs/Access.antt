@@ -26,15 +26,19 @@ abbrev pub shape_faults : {A : Type 0} → Placed → Option A → List Told
 shape_faults node (Some _) = []
 shape_faults node None = fault_at node WrongShape ∷ []
 
+-- The node is to be a text.
 abbrev pub text_faults : Placed → List Told
 text_faults node = shape_faults node (as_str node.tree)
 
+-- The node is to be such a number.
 abbrev pub whole_faults : Placed → List Told
 whole_faults node = shape_faults node (whole_of node.tree)
 
+-- The node is to be true or false.
 abbrev pub flag_faults : Placed → List Told
 flag_faults node = shape_faults node (as_bool node.tree)
 
+-- The node is to be an array.
 abbrev pub list_faults : Placed → List Told
 list_faults node = shape_faults node (as_array node.tree)
 
@@ -48,6 +52,7 @@ only_name (member _ _ (member _ _ _)) = None
 abbrev pub sole_of : Data → Option (List ℕ)
 sole_of tree = option_and_then only_name (as_object tree)
 
+-- The node is to be an object with just one member.
 abbrev pub sole_faults : Placed → List Told
 sole_faults node = shape_faults node (sole_of node.tree)
 
@@ -56,6 +61,7 @@ abbrev pub all_listed : List (List ℕ) → Members → Bool
 all_listed names no_members = true
 all_listed names (member name _ rest) = list_any (bytes_eq name) names && all_listed names rest
 
+-- No object, or an object with a member of another name.
 abbrev pub listing_faults : List (List ℕ) → Placed → Option Members → List Told
 listing_faults names node None = fault_at node WrongShape ∷ []
 listing_faults names node (Some members) = if all_listed names members then [] else fault_at node UnknownMember ∷ []
@@ -68,6 +74,7 @@ only_faults names node = listing_faults names node (as_object node.tree)
 abbrev pub missing_at : Placed → List ℕ → Told
 missing_at node name = record { file = node.file; place = member_place node.place name; code = Missing }
 
+-- This fault, where nothing is there.
 abbrev pub absence_faults : Told → Option Data → List Told
 absence_faults absent (Some _) = []
 absence_faults absent None = absent ∷ []
@@ -81,6 +88,7 @@ abbrev pub nodes_from : Placed → ℕ → Items → List Placed
 nodes_from node index no_items = []
 nodes_from node index (item tree rest) = item_node node index tree ∷ nodes_from node (index + 1) rest
 
+-- The nodes of the elements, if there are any.
 abbrev pub nodes_of : Placed → Option Items → List Placed
 nodes_of node None = []
 nodes_of node (Some elements) = nodes_from node 0 elements

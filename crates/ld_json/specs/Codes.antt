@@ -3,6 +3,7 @@ use Rattle.std.specs.Prelude.{ℕ, List, codes}
 use Rattle.ld_json.specs.declared.code.Code.{Code}
 use Rattle.ld_json.specs.declared.code.Code.TheVariants.{Absent, TooBig, NotJson, WrongShape, UnknownMember, Missing, NotInProfile, RepeatedId, RepeatedUri, UnknownRef, WrongKindOfRef, Cycle, AboveLevel, BadType, TooMany, RepeatedUnit, GlobalDiffers}
 
+-- The word of the code.
 abbrev pub word_of : Code → List ℕ
 word_of Absent = codes "absent"
 word_of TooBig = codes "too-big"

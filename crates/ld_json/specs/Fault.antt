@@ -7,6 +7,7 @@ use Rattle.ld_json.specs.declared.fault.ReadFault.{ReadFault}
 use Rattle.ld_json.specs.declared.fault.ReadFault.TheVariants.{Refused, NoMemory}
 use Rattle.ld_json.specs.Node.{Placed}
 
+-- A file, a place in it and what is wrong there.
 pub record Told : Type 0 where
   pub file : FileNo
   pub place : List ℕ
@@ -17,12 +18,12 @@ abbrev pub fault_at : Placed → Code → Told
 fault_at node code = record { file = node.file; place = node.place; code = code }
 
 -- What the fault says.
-abbrev pub told : Fault → Told
-told fault = record { file = fault.file; place = fault.place.bytes; code = fault.code }
+abbrev pub told_by : Fault → Told
+told_by fault = record { file = fault.file; place = fault.place.bytes; code = fault.code }
 
 -- The error says just this. Want of memory says nothing.
 abbrev pub Says : Told → ReadFault → Type 0
-Says fault (Refused refused) = told refused ≡ fault
+Says fault (Refused refused) = told_by refused ≡ fault
 Says fault NoMemory = Unit {0}
 
 -- The error says that the node has the fault of this code. Want of memory says nothing.
@@ -36,5 +37,5 @@ first_of (fault ∷ _) = Some fault
 
 -- The error says the first of these faults, so there is one. Want of memory says nothing.
 abbrev pub SaysFirst : List Told → ReadFault → Type 0
-SaysFirst faults (Refused refused) = first_of faults ≡ Some (told refused)
+SaysFirst faults (Refused refused) = first_of faults ≡ Some (told_by refused)
 SaysFirst faults NoMemory = Unit {0}

@@ -4,6 +4,7 @@ pub mod Fault
 pub mod Files
 pub mod Node
 pub mod Places
+pub mod Pointers
 pub mod Print
 pub mod Reads
 pub mod Steps

@@ -7,11 +7,13 @@ use Rattle.ld_json.specs.contracts.file.FileNo as file_no
 use Rattle.ld_json.specs.TreeCode.{coded_tree}
 use Rattle.ld_json.specs.Places.{member_place, item_place}
 
+-- A tree with the file and the place at which it stands.
 pub record Placed : Type 0 where
   pub file : FileNo
   pub place : List ℕ
   pub tree : Data
 
+-- It is stored as its three parts.
 abbrev pub placed_code : Coded Placed
 placed_code = code_by (FileNo × (List ℕ × Data)) (coded× file_no.the_row.coded (coded× (coded_list coded_ℕ) coded_tree)) (λ n. (n.file, (n.place, n.tree))) (λ p. record { file = p.0; place = p.1.0; tree = p.1.1 }) (λ _. refl)
 

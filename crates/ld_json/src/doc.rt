@@ -5,6 +5,7 @@ ghost use Rattle.serde_json.specs.Read.{max_depth};
 ghost use Rattle.serde_json.specs.View.{view};
 ghost use Rattle.serde_json.specs.Written.{has_float, compact_text};
 ghost use Rattle.ld_base.specs.Roomy.{KeepsRoom};
+ghost use Rattle.ld_json.specs.Pointers.{IsAt};
 ghost use Rattle.ld_json.specs.Reads.{Reads};
 
 use crate::file::FileNo;
@@ -71,7 +72,8 @@ impl Doc {
 
     /// The node of the whole document, as this file of a unit. It takes no memory.
     pub fn root(&self, file: FileNo) -> Node<'_>
-        ensures { result ≡ record { file = file; place = []; tree = self.now } }
+        ensures node { result ≡ record { file = file; place = []; tree = self.now } }
+        ensures pointer { IsAt self.now result }
     {
         Node::of_document(&self.tree, file)
     }

@@ -7,6 +7,7 @@ use crate::file::FileNo;
 use ld_base::memory::NoMemory;
 use ld_base::text::Text;
 use std::alloc::{AllocError, AllocFailed};
+use std::fmt;
 
 /// The fault at one place of a file. The place is a JSON pointer, empty for the whole document.
 #[derive(Drop)]
@@ -29,8 +30,15 @@ impl Fault {
     }
 }
 
+impl fmt::Debug for Fault {
+    fn fmt<W: fmt::Write>(&self, f: &mut fmt::Formatter<W>) -> fmt::Result {
+        let (file, place, code) = (self.file.name(), self.place_text(), self.code.word());
+        write!(f, "{file} {place} {code}")
+    }
+}
+
 /// Why a unit was not read: its first fault, or want of memory.
-#[derive(Drop)]
+#[derive(Debug, Drop)]
 pub enum ReadFault {
     Refused(Fault),
     NoMemory,

@@ -1,4 +1,21 @@
 //! Documents in JSON whose parts know their places, and the faults that stand at these places.
+//!
+//! ```
+//! let doc = document(alloc, bytes)?;
+//! let root = doc.root(FileNo::Roles);
+//! root.only(alloc, &["roles"])?;
+//! let roles = root.member(alloc, "roles")?;
+//! for index in 0..roles.count(alloc)? {
+//!     let role = roles.item(index);
+//!     role.only(alloc, &["identifier", "title"])?;
+//!     let identifier = role.member(alloc, "identifier")?.text(alloc)?;
+//! }
+//! ```
+//!
+//! Contracts see a node as its file, its place and its tree. What may be wrong with it is a list of
+//! faults, in the order in which they are looked for (`specs/Access.antt`, `specs/Walk.antt`). A
+//! reader over nodes says `faultless` (it gives a value only where its list is empty) and `first`
+//! (a refusal is the first of its list, or want of memory).
 #![tactic(auto)]
 
 pub mod code;
@@ -9,3 +26,5 @@ pub mod file;
 pub mod node;
 pub mod place;
 pub mod print;
+#[cfg(test)]
+mod tests;

@@ -1,11 +1,13 @@
 //! A part of a document that knows its place.
 ghost use Rattle.std.specs.Prelude.{◌≡◌, ◌<◌, ◌++◌, List, [], Some, None, OnOk, IfOk, IfErr, IfSome, IfNone, IsSome, option_map, slice_get, length, map};
+ghost use Rattle.serde_json.specs.Data.{Data};
 ghost use Rattle.serde_json.specs.Find.{get, at, as_str, as_bool, as_object};
 ghost use Rattle.serde_json.specs.View.{view, members_view};
 ghost use Rattle.std.specs.List.{list_any};
 ghost use Rattle.std.specs.Str.{bytes_eq};
 ghost use Rattle.ld_json.specs.Access.{IsObject, IsArray, whole_of, sole_of, only_name, all_listed, missing_at, text_faults, whole_faults, flag_faults, list_faults, sole_faults, only_faults, member_faults, item_nodes};
 ghost use Rattle.ld_json.specs.Fault.{Says, SaysFault, SaysFirst};
+ghost use Rattle.ld_json.specs.Pointers.{IsAt};
 ghost use Rattle.ld_json.specs.Node.{Placed, member_node, item_node};
 
 use crate::code::Code;
@@ -136,9 +138,9 @@ impl<'a> Node<'a> {
         }
     }
 
-    #[tactic(auto, using(crate::proofs::Sole::get_sole))]
     /// The name of the only member. `wrong-shape` exactly where the node is no object, or has not
     /// exactly one member.
+    #[tactic(auto, using(crate::proofs::Sole::get_sole))]
     pub fn sole(&self, alloc: Global) -> Result<&'a str, ReadFault>
         ensures value { IfOk result (λ name. sole_of self.now.tree ≡ Some name.now) }
         ensures object { OnOk result (IsObject self.now) }
@@ -175,9 +177,11 @@ impl<'a> Node<'a> {
     /// that it would have.
     pub fn member<'b>(&'b self, alloc: Global, name: &'b str) -> Result<Node<'b>, ReadFault>
         requires { IsObject self.now }
-        ensures value { IfOk result (λ node. option_map (member_node self.now name.now) (get name.now self.now.tree) ≡ Some node) }
+        ensures tree { IfOk result (λ node. get name.now self.now.tree ≡ Some node.tree) }
+        ensures node { IfOk result (λ node. node ≡ member_node self.now name.now node.tree) }
         ensures faultless { OnOk result (member_faults name.now self.now ≡ []) }
         ensures first { IfErr result (SaysFirst (member_faults name.now self.now)) }
+        ensures pointer { (whole : Data) → IsAt whole self.now → IfOk result (IsAt whole) }
     {
         match self.optional(name) {
             Some(node) => Ok(node),
@@ -188,7 +192,9 @@ impl<'a> Node<'a> {
     /// The member of this name of an object, if there is one. It takes no memory.
     pub fn optional<'b>(&'b self, name: &'b str) -> Option<Node<'b>>
         requires { IsObject self.now }
-        ensures { result ≡ option_map (member_node self.now name.now) (get name.now self.now.tree) }
+        ensures node { result
+            ≡ option_map (member_node self.now name.now) (get name.now self.now.tree) }
+        ensures pointer { (whole : Data) → IsAt whole self.now → IfSome result (IsAt whole) }
     {
         let tree = self.tree.get(name)?;
         Some(Node {
@@ -216,8 +222,8 @@ impl<'a> Node<'a> {
         })
     }
 
-    #[tactic(auto, using(crate::proofs::Elements::count_nodes))]
     /// The number of elements of an array. `wrong-shape` exactly where the node is none.
+    #[tactic(auto, using(crate::proofs::Elements::count_nodes))]
     pub fn count(&self, alloc: Global) -> Result<usize, ReadFault>
         ensures array { OnOk result (IsArray self.now) }
         ensures value { IfOk result (λ count. count ≡ length (item_nodes self.now)) }
@@ -238,6 +244,7 @@ impl<'a> Node<'a> {
         ensures tree { at index self.now.tree ≡ Some result.tree }
         ensures node { result ≡ item_node self.now index result.tree }
         ensures item { slice_get (item_nodes self.now) index ≡ Some result }
+        ensures pointer { (whole : Data) → IsAt whole self.now → IsAt whole result }
     {
         Node {
             file: self.file,

@@ -1,1 +1,12 @@
 pub mod Cells
+pub mod Replaying
+pub mod Differing
+pub mod Flattened
+pub mod JsonTrees
+pub mod PartIdentifiers
+pub mod Ranges
+pub mod Copied
+pub mod Held
+pub mod Settled
+pub mod Worlds
+pub mod Indents

@@ -1,5 +1,6 @@
 -- The numbers and words of the endings of a call.
-use Rattle.std.specs.Prelude.{ℕ, List, codes, []}
+use Rattle.std.specs.Prelude.{ℕ, List, codes, [], ◌∷◌, IsTrue, ◌==◌}
+use Rattle.std.specs.List.{list_any}
 use Rattle.ld_program.specs.declared.ending.Ending.{Ending}
 use Rattle.ld_program.specs.declared.ending.Ending.TheVariants.{Done, BadWords, ShelfFault, UnitRefused, ReadFault, WriteFault, NoMemory, InputTooLong}
 
@@ -22,3 +23,40 @@ word_of ReadFault = codes "read-fault"
 word_of WriteFault = codes "write-fault"
 word_of NoMemory = codes "no-memory"
 word_of InputTooLong = codes "input-too-long"
+
+abbrev pub IsOneOf : List ℕ → ℕ → Type 0
+IsOneOf numbers n = IsTrue (list_any (λ m. m == n) numbers)
+
+-- The numbers that a call can end with.
+abbrev pub IsStatus : ℕ → Type 0
+IsStatus = IsOneOf (0 ∷ 2 ∷ 3 ∷ 4 ∷ 5 ∷ 6 ∷ 7 ∷ 8 ∷ [])
+
+-- With these numbers nothing was written.
+abbrev pub NothingWritten : ℕ → Type 0
+NothingWritten = IsOneOf (2 ∷ 3 ∷ 7 ∷ [])
+
+-- With these numbers nothing was taken from the source.
+abbrev pub NothingTaken : ℕ → Type 0
+NothingTaken = IsOneOf (2 ∷ 3 ∷ 4 ∷ 7 ∷ [])
+
+-- How a refusal of the folder can end.
+abbrev pub IsRefusalEnding : Ending → Type 0
+IsRefusalEnding Done = ⊥
+IsRefusalEnding BadWords = ⊥
+IsRefusalEnding ShelfFault = ⊥
+IsRefusalEnding UnitRefused = Unit {0}
+IsRefusalEnding ReadFault = ⊥
+IsRefusalEnding WriteFault = Unit {0}
+IsRefusalEnding NoMemory = ⊥
+IsRefusalEnding InputTooLong = ⊥
+
+-- How a replay can end.
+abbrev pub IsReplayEnding : Ending → Type 0
+IsReplayEnding Done = Unit {0}
+IsReplayEnding BadWords = ⊥
+IsReplayEnding ShelfFault = ⊥
+IsReplayEnding UnitRefused = ⊥
+IsReplayEnding ReadFault = Unit {0}
+IsReplayEnding WriteFault = Unit {0}
+IsReplayEnding NoMemory = Unit {0}
+IsReplayEnding InputTooLong = Unit {0}

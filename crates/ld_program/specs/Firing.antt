@@ -79,7 +79,7 @@ after_turn t None = None
 after_turn t (Some rest) = Some (record { state = rest.state; turns = rest.turns + 1; fired = t.fired + rest.fired; rejected = t.rejected + rest.rejected; sent = t.sent + rest.sent })
 
 -- Sweeps until one fires nothing, of which at most so many are made; none where all of them fire.
-abbrev pub settling_within : ℕ → Course → RunState → Option Settling
+unfoldable pub settling_within : ℕ → Course → RunState → Option Settling
 settling_within zero unit s = None
 settling_within (suc n) unit s = if (sweep unit s).fired == 0 then Some (quiet_at s) else after_turn (sweep unit s) (settling_within n unit (sweep unit s).state)
 

@@ -1,6 +1,8 @@
 pub mod Answers
 pub mod Firing
 pub mod FirstForm
+pub mod Identifiers
+pub mod InFolder
 pub mod Json
 pub mod Maybe
 pub mod Reply
@@ -12,3 +14,12 @@ pub mod StateView
 pub mod Endings
 pub mod Words
 pub mod WorldView
+pub mod Answering
+pub mod Replay
+pub mod References
+pub mod PlanView
+pub mod LookupView
+pub mod Stepping
+pub mod Turn
+pub mod FiringView
+pub mod TreeView

@@ -1,7 +1,7 @@
 -- The state of a run that the code's state stands for.
-use Rattle.std.specs.Prelude.{ℕ, ℤ, List, [], map, Option, Some, None}
+use Rattle.std.specs.Prelude.{ℕ, ℤ, List, [], ◌∷◌, ◌++◌, ◌≡◌, map, Option, Some, None}
 use Rattle.std.specs.Option.{option_map}
-use Rattle.std.specs.BTreeMap.{get}
+use Rattle.std.specs.BTreeMap.{BTreeMap, get}
 use Rattle.ld_model.specs.Cells.{CellMap}
 use Rattle.ld_model.specs.State.{PersonState, RunState, cells_at_first}
 use Rattle.ld_model.specs.declared.cell.CellName.{CellName}
@@ -14,6 +14,10 @@ use Rattle.ld_program.specs.declared.state.Person.{Person}
 abbrev pub person_state : Person → PersonState
 person_state person = record { name = person.name; roles = map (λ role. role.0) person.roles.items }
 
+-- The person, who holds one role more.
+abbrev pub with_role : PersonState → ℕ → PersonState
+with_role person role = record { name = person.name; roles = person.roles ++ role ∷ [] }
+
 -- What was written to the cell, or else how it begins.
 abbrev pub written_or : Option (Option Value) → Option Datum → Option Datum
 written_or None first = first
@@ -24,3 +28,11 @@ cell_in s name = written_or (get order.cmp-value.it s.written name) (cells_at_fi
 
 abbrev pub state_of : State → RunState
 state_of s = record { persons = map person_state s.persons.items; outbox = []; cells = cell_in s }
+
+-- What was written to the cell, if something was.
+abbrev pub written_in : BTreeMap CellName (Option Value) → CellName → Option (Option Datum)
+written_in cells name = option_map (option_map datum_of) (get order.cmp-value.it cells name)
+
+-- In each cell of the second map there is written what is in the first.
+abbrev pub IsCopyOf : BTreeMap CellName (Option Value) → BTreeMap CellName (Option Value) → Type 0
+IsCopyOf cells copy = (name : CellName) → written_in copy name ≡ written_in cells name

@@ -14,4 +14,4 @@ runs_of unit None = []
 runs_of unit (Some run) = run_of unit run ∷ []
 
 abbrev pub world_of : World → WorldState
-world_of w = record { units = w.unit ∷ []; runs = runs_of w.unit w.run }
+world_of w = record { units = w.prepared.unit ∷ []; runs = runs_of w.prepared.unit w.run }

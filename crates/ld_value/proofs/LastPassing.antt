@@ -1,6 +1,7 @@
 -- The last number that passes a test.
-use Rattle.std.proofs.Common.{◌≡◌, ℕ, zero, suc, ◌<◌, ◌≤◌, Bool, true, false, refl, sym, arith, ◌⊎◌, inl, inr}
+use Rattle.std.proofs.Common.{◌≡◌, ℕ, zero, suc, ◌<◌, ◌≤◌, Bool, true, false, arith, inl, inr}
 use Rattle.std.proofs.lemmas.Bool.{cases_order}
+use Rattle.ld_value.proofs.Choices.{bool_cases}
 use Rattle.ld_value.specs.Calendar.{last_passing}
 
 -- It lies from 1 to n and passes, and no later number up to n does.
@@ -9,10 +10,6 @@ pub record IsLastPassing (n : ℕ) (passes : ℕ → Bool) (last : ℕ) : Type 0
   pub within : last ≤ n
   pub here : passes last ≡ true
   pub after : (k : ℕ) → last < k → k ≤ n → passes k ≡ false
-
-pub bool_cases : (b : Bool) → (b ≡ true) ⊎ (b ≡ false)
-bool_cases true = inl refl
-bool_cases false = inr refl
 
 widened : (n : ℕ) (passes : ℕ → Bool) (last : ℕ) → passes (suc n) ≡ false → IsLastPassing n passes last → IsLastPassing (suc n) passes last
 widened n passes last stops h = record {

@@ -1,7 +1,13 @@
+pub mod AsciiTexts
 pub mod Dates
 pub mod Days
 pub mod LastPassing
+pub mod Decimals
+pub mod Durations
+pub mod Laws
 pub mod Moments
 pub mod Numerals
 pub mod Pattern
 pub mod Printed
+pub mod Same
+pub mod Choices

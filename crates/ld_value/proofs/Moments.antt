@@ -1,15 +1,15 @@
 -- A moment's text read back, and a text that names a moment printed again.
-use Rattle.std.proofs.Common.{◌≡◌, ℕ, zero, suc, List, [], ◌∷◌, ◌++◌, ◌+◌, ◌-◌, ◌*◌, ◌/◌, ◌%◌, ◌<◌, ◌≤◌, Bool, true, false, cond, ◌&&◌, ◌⊎◌, inl, inr, refl, sym, ◌∙◌, ap, arith, length, take, drop, codes, nat_le, ℤ, pos, neg_ℤ, ◌+ℤ◌, ◌-ℤ◌, ◌*ℤ◌, ◌≤ℤ◌, ◌<ℤ◌, unsigned_abs, Option, Some, None, w64, to_z, of_z, to_z-of_z, FitsSigned}
+use Rattle.std.proofs.Common.{◌≡◌, ℕ, List, ◌+◌, ◌*◌, ◌/◌, ◌%◌, ◌<◌, ◌≤◌, Bool, true, false, cond, ◌&&◌, refl, sym, ◌∙◌, ap, arith, nat_le, ℤ, pos, ◌+ℤ◌, ◌*ℤ◌, unsigned_abs, Option, Some, None, w64, to_z, of_z, to_z-of_z, FitsSigned}
 use Rattle.std.proofs.lemmas.Bool.Decides.{nat_tests}
 use Rattle.std.specs.Int.{int_div_euclid, int_rem_euclid, is_in_range}
 use Rattle.std.specs.Option.{option_map, IfSome}
-use Rattle.jiff_core.specs.Calendar.{days_from_civil, days_in_month, day_count}
-use Rattle.jiff_core.proofs.SignedLemmas.{signed_arith, one_part}
-use Rattle.jiff_core.proofs.CalendarLemmas.{days_in_month_bounds, days_from_civil-day_count, day_count-day_of_year, day_count-later_year}
-use Rattle.ld_value.specs.Calendar.{moment_of, moment_at, named_day, named_second, day_of, second_of, is_date, has_moment_form, part, in_digits, moment_text, text_of_moment, day_and_second_text, year_of, month_of, day_of_month, IsMoment, IsDay}
-use Rattle.ld_value.proofs.Pattern.{both, and_left, and_right}
+use Rattle.jiff_core.specs.Calendar.{days_in_month}
+use Rattle.jiff_core.proofs.SignedLemmas.{signed_arith}
+use Rattle.jiff_core.proofs.CalendarLemmas.{days_in_month_bounds}
+use Rattle.ld_value.specs.Calendar.{moment_of, moment_at, named_day, named_second, day_of, second_of, is_date, has_moment_form, moment_text, text_of_moment, day_and_second_text, year_of, month_of, day_of_month, IsMoment, IsDay}
+use Rattle.ld_value.proofs.Choices.{both, and_left, and_right, some_when}
 use Rattle.ld_value.proofs.Days.{IsCut, cut_is, cut_once, cut_day}
-use Rattle.ld_value.proofs.Printed.{digits_value-in_digits, in_digits-digits_value, has_moment_form-moment_text, moment_text-parts}
+use Rattle.ld_value.proofs.Printed.{digits_value-in_digits, has_moment_form-moment_text, moment_text-parts}
 
 reads_back : (y m d h n s : ℕ) → y < 10000 → m < 100 → d < 100 → h < 100 → n < 100 → s < 100 → moment_of (moment_text y m d h n s) ≡ moment_at (day_of y m d) (second_of h n s)
 unfolding moment_of named_day named_second
@@ -90,10 +90,6 @@ unfolding moment_of
 named text z h =
     let parts = named_from (has_moment_form text) (named_day text) (named_second text) z h in
     record { form = parts.0; day = parts.1.0; second = parts.1.1; on_day = parts.1.2; at_second = parts.1.3; sum = parts.1.4 }
-
-some_when : {X : Type 0} (b : Bool) (x y : X) → cond b (Some x) None ≡ Some y → (b ≡ true) × (x ≡ y)
-some_when true x y h = (refl, cc)
-some_when false x y h = absurd (cc)
 
 cut-day_of : (day : ℤ) (y m d : ℕ) → day_of y m d ≡ Some day → IsCut day y m d
 unfolding day_of

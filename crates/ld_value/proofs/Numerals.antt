@@ -1,9 +1,14 @@
 -- The number that digits write, one digit after the other.
-use Rattle.std.proofs.Common.{◌≡◌, ℕ, List, [], ◌∷◌, ◌++◌, ◌+◌, ◌-◌, ◌*◌, ◌<◌, ◌≤◌, ◌^◌, true, refl, arith, length, take, get_or, zero, suc}
+use Rattle.std.proofs.Common.{◌≡◌, ℕ, List, [], ◌∷◌, ◌++◌, ◌+◌, ◌-◌, ◌*◌, ◌<◌, ◌≤◌, ◌^◌, true, refl, arith, length, take, get_or, zero, suc, not, ◌&&◌, ◌==◌, nat_le}
 use Rattle.std.specs.Str.{all_ascii_digits}
 use Rattle.std.specs.Str.Parse.{digits_value, digits_value_after}
 use Rattle.std.specs.Char.{digit_value}
 use Rattle.std.specs.Int.{IsInRange}
+use Rattle.std.specs.Fmt.{decimal}
+use Rattle.std.proofs.lemmas.Fmt.{digits_decimal, digits_value-decimal, length-decimal-le, decimal_nonempty}
+use Rattle.std.proofs.lemmas.Bool.Decides.{nat_tests}
+use Rattle.ld_value.specs.Numeral.{is_numeral}
+use Rattle.ld_value.proofs.Choices.{both}
 use Rattle.std.proofs.lemmas.Str.Parse.{IsNumeralModel, numerals_by_value, tells_all_ascii_digits, digit_at, digits_value_short}
 use Rattle.std.proofs.lemmas.Grind.{common_steps}
 use Rattle.std.proofs.lemmas.List.{take_more}
@@ -48,3 +53,26 @@ room_for_next ds i h below short =
 
 pub digits_value-take_next : (ds : List ℕ) (i : ℕ) → all_ascii_digits ds ≡ true → i < length ds → digits_value 10 (take (i + 1) ds) ≡ 10 * digits_value 10 (take i ds) + (get_or ds i 0 - 48)
 digits_value-take_next ds i h below = rw (take_more ds i 0 below) (digits_value-next (take i ds) (get_or ds i 0) (digit_in ds i h below))
+
+-- a numeral's bound by its greatest length
+pub numeral_bound : (n len most : ℕ) → n < 10 ^ len → len ≤ most → n < 10 ^ most
+numeral_bound n len most h within =
+    let larger : 10 ^ len ≤ 10 ^ most = pow-le-pow_right {n = 10} (omega arith) {i = len} {j = most} within in
+    omega arith
+
+numeral_length : (len most : ℕ) → 0 < len → len ≤ most → not (len == 0) && nat_le len most ≡ true
+numeral_length len most h k = grind (arith, nat_tests)
+
+-- what is printed of a number is a numeral, and writes it
+pub is_numeral-decimal : (most n : ℕ) → 0 < most → n < 10 ^ most → n < 2 ^ 64 → is_numeral most (decimal n) ≡ true
+is_numeral-decimal most n some below fits =
+    let digits = digits_decimal own n fits in
+    let first = decimal_nonempty n fits in
+    let long = length-decimal-le most n some below fits in
+    both _ _ digits (numeral_length (length (decimal n)) most first long)
+
+pub digits_value_decimal : (n : ℕ) → n < 2 ^ 64 → digits_value 10 (decimal n) ≡ n
+digits_value_decimal n fits = digits_value-decimal own n fits
+
+pub all_digits-decimal : (n : ℕ) → n < 2 ^ 64 → all_ascii_digits (decimal n) ≡ true
+all_digits-decimal n fits = digits_decimal own n fits

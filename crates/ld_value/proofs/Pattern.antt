@@ -1,19 +1,11 @@
 -- Texts that follow a pattern.
-use Rattle.std.proofs.Common.{◌≡◌, ◌≢◌, ℕ, List, [], ◌∷◌, ◌+◌, ◌<◌, true, false, refl, sym, arith, length, take, drop, get_or, zero, suc, ◌&&◌, add-one, drop-cons, replicate, Bool, ◌==◌}
+use Rattle.std.proofs.Common.{◌≡◌, ◌≢◌, ℕ, List, [], ◌∷◌, ◌+◌, ◌<◌, true, false, refl, sym, arith, length, take, drop, get_or, zero, suc, ◌&&◌, add-one, drop-cons, replicate, ◌==◌}
 use Rattle.std.proofs.lemmas.Grind.{common_steps}
 use Rattle.std.proofs.lemmas.Bool.Decides.{nat_tests}
 use Rattle.std.specs.Str.{all_ascii_digits}
 use Rattle.std.specs.Char.{is_ascii_digit}
+use Rattle.ld_value.proofs.Choices.{and_left, and_right, both}
 use Rattle.ld_value.specs.Calendar.{follows, stands_for, has_moment_form, moment_pattern}
-
-pub and_left : (a b : Bool) → a && b ≡ true → a ≡ true
-and_left a b h = grind arith
-
-pub and_right : (a b : Bool) → a && b ≡ true → b ≡ true
-and_right a b h = grind arith
-
-pub both : (a b : Bool) → a ≡ true → b ≡ true → a && b ≡ true
-both a b h k = grind arith
 
 -- a text that follows a pattern is as long
 pub length-follows : (ps bs : List ℕ) → follows ps bs ≡ true → length ps ≡ length bs

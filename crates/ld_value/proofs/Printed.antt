@@ -1,13 +1,13 @@
 -- A number in a fixed count of digits, and a moment's text from its parts.
-use Rattle.std.proofs.Common.{◌≡◌, ℕ, zero, suc, List, [], ◌∷◌, ◌++◌, ◌+◌, ◌-◌, ◌*◌, ◌/◌, ◌%◌, ◌<◌, ◌≤◌, ◌^◌, Bool, true, ◌&&◌, refl, sym, ◌∙◌, ap, arith, length, take, drop, replicate, codes, length-append, get_or, add-one, length-take, length-drop}
+use Rattle.std.proofs.Common.{◌≡◌, ℕ, zero, suc, List, ◌++◌, ◌+◌, ◌-◌, ◌*◌, ◌/◌, ◌%◌, ◌<◌, ◌≤◌, ◌^◌, true, refl, sym, arith, length, take, drop, replicate, get_or, add-one, length-take, length-drop}
 use Rattle.std.specs.Str.{all_ascii_digits}
 use Rattle.std.specs.Char.{is_ascii_digit}
 use Rattle.std.proofs.Math.Seq.{take-suc, take-add}
 use Rattle.std.specs.Str.Parse.{digits_value}
 use Rattle.std.specs.Int.{IsInRange}
-use Rattle.std.proofs.lemmas.Grind.{common_steps, replicate_next}
-use Rattle.std.proofs.lemmas.List.{take_more, take_all}
-use Rattle.ld_value.specs.Calendar.{follows, stands_for, in_digits, moment_text, has_moment_form, moment_pattern, part}
+use Rattle.std.proofs.lemmas.Grind.{common_steps}
+use Rattle.std.proofs.lemmas.List.{take_all}
+use Rattle.ld_value.specs.Calendar.{in_digits, moment_text, has_moment_form, moment_pattern, part}
 use Rattle.ld_value.proofs.Numerals.{digits_value-next, digits_value-take_next, digit_in}
 use Rattle.ld_value.proofs.Pattern.{length-moment, digits_of_moment, byte_of_moment}
 

@@ -16,6 +16,7 @@ follows [] (b ∷ bs) = false
 follows (p ∷ ps) [] = false
 follows (p ∷ ps) (b ∷ bs) = stands_for p b && follows ps bs
 
+-- The pattern that each moment's text follows.
 abbrev pub moment_pattern : List ℕ
 moment_pattern = codes "0000-00-00T00:00:00Z"
 
@@ -45,10 +46,11 @@ moment_at None second = None
 moment_at (Some day) None = None
 moment_at (Some day) (Some second) = Some (pos 86400 *ℤ day +ℤ pos second)
 
--- The day that the text names in its first ten bytes, and the second in those from the twelfth on.
+-- The day that the text names in its first ten bytes.
 unfoldable pub named_day : List ℕ → Option ℤ
 named_day text = day_of (part 0 4 text) (part 5 2 text) (part 8 2 text)
 
+-- The second of the day that the text names in its bytes from the twelfth on.
 unfoldable pub named_second : List ℕ → Option ℕ
 named_second text = second_of (part 11 2 text) (part 14 2 text) (part 17 2 text)
 
@@ -59,6 +61,10 @@ moment_of text = if has_moment_form text then moment_at (named_day text) (named_
 -- The moment lies in the years 1 to 9999: from 0001-01-01T00:00:00Z to 9999-12-31T23:59:59Z.
 abbrev pub IsMoment : ℤ → Type 0
 IsMoment z = IsBetween (neg_ℤ (pos 62135596800)) (pos 253402300799) z
+
+-- The same as a test.
+abbrev pub is_moment : ℤ → Bool
+is_moment z = int_le (neg_ℤ (pos 62135596800)) z && int_le z (pos 253402300799)
 
 -- The day number is of a day in those years.
 abbrev pub IsDay : ℤ → Type 0

@@ -22,12 +22,13 @@ datum_of (Int n) = number_datum n
 datum_of (Moment m) = moment_datum m.0
 datum_of (Span s) = span_datum s
 
+-- Whether the two truth values are equal.
 abbrev pub same_truth : Bool → Bool → Bool
 same_truth true b = b
 same_truth false true = false
 same_truth false false = true
 
--- Whether the two are one value.
+-- Whether the two are one value; values of two sorts never are.
 abbrev pub same_datum : Datum → Datum → Bool
 same_datum (text_datum a) (text_datum b) = bytes_eq a b
 same_datum (truth_datum a) (truth_datum b) = same_truth a b

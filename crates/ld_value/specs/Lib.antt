@@ -1,2 +1,5 @@
 pub mod Calendar
 pub mod Datum
+pub mod Duration
+pub mod Numeral
+pub mod Values

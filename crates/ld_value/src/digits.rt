@@ -1,6 +1,7 @@
 //! Decimal digits.
-ghost use Rattle.std.specs.Prelude.{◌≡◌, ◌≤◌, ◌<◌, ◌^◌, ◌+◌, ◌%◌, length, IsTrue};
+ghost use Rattle.std.specs.Prelude.{◌≡◌, ◌≤◌, ◌<◌, ◌^◌, ◌+◌, ◌%◌, length, IsTrue, IfSome};
 ghost use Rattle.ld_value.specs.Calendar.{in_digits};
+ghost use Rattle.ld_value.specs.Numeral.{numeral as spec_numeral};
 ghost use Rattle.std.specs.Str.{all_ascii_digits};
 ghost use Rattle.std.specs.Str.Parse.{digits_value};
 
@@ -39,4 +40,29 @@ fn digit(number: u64) -> u8
     ensures { result ≡ 48 + number % 10 }
 {
     b'0' + (number % 10) as u8
+}
+
+/// The number that 1 to `most` decimal digits write; None where the text is something else.
+#[tactic(auto, unfolding(crate::specs::Numeral::numeral))]
+pub(crate) fn numeral(text: &[u8], most: usize) -> Option<u64>
+    requires { most ≤ 19 }
+    ensures value { result ≡ spec_numeral most text.now }
+    ensures bound { IfSome result (λ n. n < 10 ^ most) }
+{
+    if text.is_empty() || text.len() > most || !are_digits(text) {
+        return None;
+    }
+    Some(number(text))
+}
+
+/// Whether each byte is a decimal digit.
+fn are_digits(text: &[u8]) -> bool
+    ensures { result ≡ all_ascii_digits text.now }
+{
+    for byte in text {
+        if !byte.is_ascii_digit() {
+            return false;
+        }
+    }
+    true
 }

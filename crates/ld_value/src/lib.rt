@@ -3,5 +3,17 @@
 #![tactic(auto)]
 
 mod digits;
+mod draft;
+pub mod duration;
+pub mod fault;
+pub mod fits;
+mod forms;
+mod integer;
+pub mod kind;
+pub mod limits;
 pub mod moment;
+pub mod print;
+pub mod read;
+#[cfg(test)]
+mod tests;
 pub mod value;

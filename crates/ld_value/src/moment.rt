@@ -1,5 +1,6 @@
 //! Moments of the calendar, in UTC.
 ghost use Rattle.std.specs.Prelude.{◌≡◌, ◌+◌, ◌/◌, ◌%◌, ◌<◌, ◌≤◌, ◌^◌, IsTrue, Some, IfSome, option_map, take, drop, replicate};
+ghost use Rattle.std.specs.Str.{IsAscii};
 ghost use Rattle.jiff_core.specs.Calendar.{IsEpochDay};
 ghost use Rattle.ld_value.specs.Calendar.{moment_of, text_of_moment, moment_text, IsMoment, IsDay, year_of, month_of, day_of_month, has_moment_form, moment_pattern, part as spec_part, follows as spec_follows, stands_for as spec_stands_for, day_of, second_of, named_day, named_second};
 
@@ -10,6 +11,12 @@ use jiff_core::civil;
 /// A moment: seconds since 1970-01-01T00:00:00Z, negative before it.
 #[derive(Clone, Copy, Debug, PartialEq, Eq, PartialOrd, Ord)]
 pub struct Moment(pub i64);
+
+/// 0001-01-01T00:00:00Z, the first moment that has a text.
+pub const FIRST_MOMENT: Moment = Moment(-62_135_596_800);
+
+/// 9999-12-31T23:59:59Z, the last moment that has a text.
+pub const LAST_MOMENT: Moment = Moment(253_402_300_799);
 
 /// The moment that the text names by `YYYY-MM-DDTHH:MM:SSZ`; None exactly where the text has another
 /// form, or no such day or time of day exists.
@@ -42,6 +49,7 @@ pub fn print_moment(moment: Moment) -> [u8; 20]
     requires { IsMoment moment.0 }
     ensures text { result ≡ text_of_moment moment.0 }
     ensures back { moment_of result ≡ Some moment.0 }
+    ensures ascii { IsAscii result }
 {
     let day = moment.0.div_euclid(86_400);
     let second = moment.0.rem_euclid(86_400) as u64;

@@ -1,5 +1,5 @@
-use Rattle.std.proofs.Common.{refl, ◌≡◌, ◌∙◌, ap, Some}
-use Rattle.ld_value.specs.Calendar.{moment_of, text_of_moment}
+use Rattle.std.proofs.Common.{refl, ◌≡◌, ◌∙◌}
+use Rattle.ld_value.specs.Calendar.{text_of_moment}
 use Rattle.ld_value.proofs.Moments.{moment_of-text_of_moment, printed}
 use Rattle.ld_value.proofs.moment.print_moment.Goals as goal
 

@@ -1,0 +1,10 @@
+use Rattle.std.proofs.Common.{◌≡◌, ◌++◌, ◌-◌}
+use Rattle.ld_base.specs.Roomy.{KeepsRoom}
+use Rattle.ld_program.specs.Tree.{indent}
+use Rattle.ld_program.proofs.tree_text.push_indent.Given as goal
+
+abbrev pub invariant-loop-step : goal.invariant-loop-step
+invariant-loop-step l = record {
+  bytes : l.out.bytes ++ indent (l.depth - l._step) ≡ l.fn.out.bytes ++ indent l.depth;
+  room : KeepsRoom l.fn.out l.out;
+}

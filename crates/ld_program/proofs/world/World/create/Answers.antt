@@ -1,0 +1,22 @@
+use Rattle.std.proofs.Common.{◌≡◌, ◌∙◌, ◌++◌, ap, codes, true, false, arith}
+use Rattle.std.specs.Str.{bytes_eq}
+use Rattle.std.proofs.lemmas.Grind.{common_steps}
+use Rattle.ld_program.proofs.Worlds.{on_ok, is_none, refused_line, creates_nothing, creates_no_second, created}
+use Rattle.ld_program.proofs.world.World.create.Goals as goal
+
+pub returns-then-ne-clause-ok : goal.returns-then-ne-clause-ok
+returns-then-ne-clause-ok c =
+  let differs : bytes_eq c.args.self.now.prepared.unit.identifier c.args.unit.now ≡ false = grind (arith, common_steps, c.if-ne.ensures) in
+  on_ok _ c.refuse.ensures.ok (refused_line _ _ 2 (creates_nothing _ _ _ _ _ differs) _)
+
+pub returns-in-Some-clause-ok : goal.returns-in-Some-clause-ok
+returns-in-Some-clause-ok c =
+  let same : bytes_eq c.args.self.now.prepared.unit.identifier c.args.unit.now ≡ true = grind (arith, common_steps, c.if-ne.ensures) in
+  rw c.in-Some.is (on_ok _ c.refuse-in-Some.ensures.ok (refused_line _ _ 3 (creates_no_second _ _ _ _ _ same) _))
+
+pub returns-clause-ok : goal.returns-clause-ok
+returns-clause-ok c =
+  let same : bytes_eq c.args.self.now.prepared.unit.identifier c.args.unit.now ≡ true = grind (arith, common_steps, c.if-ne.ensures) in
+  let none = is_none c.args.self.now.run c.in_default.not-Some in
+  let text : c.push.new.self.bytes ≡ codes "ok create\n" = c.in_ok-push.ensures.ok ∙ ap (λ b. b ++ codes "ok create\n") c.clear.ensures.empty in
+  rw none (created _ _ _ _ _ same c.new-state.ensures _ text)

@@ -1,0 +1,26 @@
+//! A unit with the plan of its things and rules.
+ghost use Rattle.std.specs.Prelude.{◌≡◌, IfOk};
+ghost use Rattle.ld_program.specs.PlanView.{IsPlanOf};
+
+use crate::plan::Plan;
+use ld_base::memory::NoMemory;
+use ld_model::unit::Unit;
+use std::alloc::Global;
+
+/// A unit, and the plan that was made of it.
+#[derive(Drop)]
+pub struct PreparedUnit {
+    pub unit: Unit,
+    pub plan: Plan,
+    ghost planned: { IsPlanOf unit plan },
+}
+
+impl PreparedUnit {
+    /// The unit with its plan.
+    pub fn new(alloc: Global, unit: Unit) -> Result<PreparedUnit, NoMemory>
+        ensures { IfOk result (λ prepared. prepared.unit ≡ unit) }
+    {
+        let plan = Plan::of(alloc, &unit)?;
+        Ok(PreparedUnit { unit, plan })
+    }
+}
