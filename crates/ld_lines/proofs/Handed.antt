@@ -1,4 +1,9 @@
 -- One call after the other: what has come of a source since its lines began to be handed out.
+-- A caller's loop keeps `Handed first bytes lines READING LEFT` for some bytes and lines. It begins by
+-- `Handed-first`; after `lines.next(source)?` in an arm `Next::Whole(line)` it goes on by
+--     let is = c.in_ok-next.was ∙ ap Ok c.in-Whole.is in
+--     Handed-next _ handed (rw is at c.next.follows.holds-at-none)
+-- and it ends by the measure `2 ^ 40 - l.lines.taken + length l.lines.held`.
 use Rattle.std.proofs.Common.{◌≡◌, ℕ, List, [], ◌∷◌, ◌++◌, length, true, false, Option, Some, None, IfSome, sym, ap, subst, ◌∙◌, arith, append-nil, length-append}
 use Rattle.std.proofs.lemmas.Bool.{both_ways}
 use Rattle.ld_base.specs.Outside.{piece_then}

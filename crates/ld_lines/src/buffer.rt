@@ -1,5 +1,5 @@
 //! Bytes that were taken from a source and wait in a room of fixed size.
-ghost use Rattle.std.specs.Prelude.{◌≡◌, ◌≤◌, ◌<◌, ◌+◌, ◌-◌, ℕ, List, [], ◌++◌, IfOk, IfSome, OnErr, length, take, drop, slice_range, vec_len};
+ghost use Rattle.std.specs.Prelude.{◌≡◌, ◌≤◌, ◌<◌, ◌+◌, ◌-◌, [], IfOk, IfSome, OnErr, length, take, drop, slice_range, vec_len};
 ghost use Rattle.ld_base.specs.Outside.{Rose, piece_then};
 ghost use Rattle.ld_lines.specs.Window.{Window, Fills};
 
@@ -9,7 +9,7 @@ use std::alloc::Global;
 use std::marker::Model;
 
 /// The most bytes of a line, its line feed not counted.
-pub const LINE_LIMIT: usize = 65_536;
+pub(crate) const LINE_LIMIT: usize = 65_536;
 
 /// The most bytes that one take asks for.
 const TAKE_LIMIT: usize = 65_536;

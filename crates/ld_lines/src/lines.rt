@@ -1,6 +1,4 @@
 //! The lines of a source.
-ghost use Rattle.std.specs.Prelude.{◌≡◌, ◌≤◌, ◌^◌, ℕ, [], true, false, IfOk, Err};
-ghost use Rattle.ld_base.specs.Outside.{Rose};
 ghost use Rattle.ld_lines.specs.Reading.{Reading};
 
 use crate::cut::Cut;
@@ -27,7 +25,7 @@ impl Model for Lines {
 }
 
 impl Lines {
-    ghost use Rattle.std.specs.Prelude.{◌≡◌, ◌≤◌, ◌^◌, ℕ, [], true, false, IfOk, ⊤};
+    ghost use Rattle.std.specs.Prelude.{◌≡◌, ◌≤◌, ◌^◌, [], true, false, IfOk, ⊤};
     ghost use Rattle.std.specs.Borrow.{sem};
     ghost use mathlib.Core.Option.{none};
     ghost use denote.Follow.{follows_so};

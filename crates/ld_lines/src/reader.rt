@@ -1,6 +1,6 @@
 //! The bytes of a source, cut into pieces.
-ghost use Rattle.std.specs.Prelude.{◌≡◌, ◌≤◌, ◌<◌, ◌+◌, ◌-◌, ◌^◌, ℕ, List, [], ◌∷◌, ◌++◌, Bool, true, false, IfOk, IfErr, OnErr, length, take, drop};
-ghost use Rattle.ld_base.specs.Outside.{Rose, piece_then};
+ghost use Rattle.std.specs.Prelude.{◌≡◌, ◌≤◌, ◌<◌, ◌+◌, ◌^◌, [], true, false, IfOk, IfErr, OnErr, length, take, drop};
+ghost use Rattle.ld_base.specs.Outside.{Rose};
 ghost use Rattle.ld_lines.specs.Lines.{HasNoFeed, is_blank};
 ghost use Rattle.ld_lines.specs.Reading.{IsEnd};
 ghost use Rattle.ld_lines.specs.Answer.{HandsOut};
@@ -17,7 +17,7 @@ use std::alloc::Global;
 use std::marker::Model;
 
 /// The most bytes that are taken in all: 2^40.
-pub const INPUT_LIMIT: u64 = 1_099_511_627_776;
+const INPUT_LIMIT: u64 = 1_099_511_627_776;
 
 /// A buffer that is filled from a source, with the number of bytes that were taken.
 #[derive(Drop)]
