@@ -13,6 +13,6 @@ json_of-reads bytes tree utf8 reads = rw (is_utf8-from_IsUtf8 bytes utf8) reads
 pub json_of-nothing : (bytes : List ℕ) → (IsUtf8 bytes → read bytes ≡ None) → json_of bytes ≡ None
 unfolding json_of
 json_of-nothing bytes nothing = elim (is_utf8 bytes) as (λ b. is_utf8 bytes ≡ b → (if b then read bytes else None) ≡ None) [
-  true ↦ λ is. nothing (IsUtf8-from_is_utf8 bytes is)
+  | true ↦ λ is. nothing (IsUtf8-from_is_utf8 bytes is)
   | false ↦ λ _. refl
-  ] refl
+] refl

@@ -71,13 +71,13 @@ tree_of moment words = two_words words >>= λ w. Some (OfRun moment w.0 (Tree w.
 -- The command of a verb with these words.
 unfoldable pub verb_line : Moment → List ℕ → List (List ℕ) → Option Line
 verb_line moment verb words =
-  if bytes_eq verb (codes "create") then create_of moment words else
-  if bytes_eq verb (codes "enrol") then enrol_of moment words else
-  if bytes_eq verb (codes "assign") then assign_of moment words else
-  if bytes_eq verb (codes "start") then start_of moment words else
-  if bytes_eq verb (codes "complete") then complete_of moment words else
-  if bytes_eq verb (codes "tree") then tree_of moment words else
-  None
+    if bytes_eq verb (codes "create") then create_of moment words else
+    if bytes_eq verb (codes "enrol") then enrol_of moment words else
+    if bytes_eq verb (codes "assign") then assign_of moment words else
+    if bytes_eq verb (codes "start") then start_of moment words else
+    if bytes_eq verb (codes "complete") then complete_of moment words else
+    if bytes_eq verb (codes "tree") then tree_of moment words else
+    None
 
 abbrev pub moment_in : List ℕ → Option Moment
 moment_in text = moment_of text >>= λ seconds. Some (record { 0 = seconds })

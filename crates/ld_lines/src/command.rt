@@ -23,7 +23,11 @@ pub enum RunCommand {
 #[derive(Drop)]
 pub enum Line {
     /// A run of the unit is made under a name.
-    Create { moment: Moment, run: Id, unit: Id },
+    Create {
+        moment: Moment,
+        run: Id,
+        unit: Id,
+    },
     /// Something is asked of the run of this name.
     OfRun {
         moment: Moment,

@@ -95,12 +95,7 @@ fn three(alloc: Global, words: &[&str]) -> Result<(Id, Id, Id), LineFault>
 
 /// The command of a verb with its words, at a moment. `BadLine` exactly where there is none.
 #[tactic(auto, unfolding(crate::specs::Commands::verb_line))]
-fn verb(
-    alloc: Global,
-    moment: Moment,
-    name: &str,
-    words: &[&str],
-) -> Result<Line, LineFault>
+fn verb(alloc: Global, moment: Moment, name: &str, words: &[&str]) -> Result<Line, LineFault>
     ensures { Gives result (verb_line moment name.now (map (λ word. word.now) words.now)) }
 {
     match name {

@@ -24,7 +24,8 @@ names_of unit = record {
   unit = unit.identifier;
   roles = map (λ role. role.identifier) unit.roles;
   things = things_of unit;
-  rules = map (λ entry. option_and_then (rule_number unit) (completing_rule entry.place)) (things_of unit) }
+  rules = map (λ entry. option_and_then (rule_number unit) (completing_rule entry.place)) (things_of unit);
+}
 
 abbrev pub role_named : Option ℕ → Option Named
 role_named = option_map (λ n. Role (record { 0 = n }))

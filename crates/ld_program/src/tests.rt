@@ -302,7 +302,10 @@ fn other_folders_are_refused(rt: HostRuntime) -> Result<(), Fail> {
     for roles in ["{}", "[", "", "{\"roles\":[]}"] {
         let (status, written) = ended_with(rt.alloc(), roles)?;
         assert_eq!(rt; status, 4, "at {roles}");
-        assert_eq!(rt; written.as_slice(), b"refused 1 unit.json . not-in-profile\n".as_slice());
+        assert_eq!(rt;
+            written.as_slice(),
+            b"refused 1 unit.json . not-in-profile\n".as_slice()
+        );
     }
     Ok(())
 }
@@ -336,7 +339,10 @@ fn a_sink_that_fails_ends_the_call(rt: HostRuntime) -> Result<(), Fail> {
         case.sink_fails = number;
         let (status, written) = ran(rt.alloc(), &case)?;
         assert_eq!(rt; status, 6, "at call {number}");
-        assert!(rt; FIRST_REPLIES.as_bytes().starts_with(&written), "at call {number}");
+        assert!(rt;
+            FIRST_REPLIES.as_bytes().starts_with(&written),
+            "at call {number}"
+        );
     }
     let mut case = first(FIRST_RUN.as_bytes());
     case.room = 9;
