@@ -18,14 +18,17 @@ build() {
     return 1
   fi
   echo "ld: proving and building the program; the first time takes 10 to 30 minutes" >&2
-  (cd "$root" && rt all check --jobs 2 2>&1 | grep --line-buffered -E '^(logic=|.*: no proof|.*error)' >&2)
-  # The program itself is run once with no words, which is the way to have it built.
+  (cd "$root" && rt all check --jobs 2 2>&1 |
+    sed -nuE 's/^crate (ld_[a-z]+):.*/ld: checked \1/p; /: (no proof|error)/p' >&2)
+  # The program itself is run once with no words, which is the way to have it built. It then says that
+  # it has no words.
   (cd "$crate" && rt run </dev/null >"$crate/out/build.log" 2>&1)
-  if [ ! -x "$program" ] || is_stale; then
+  if ! [ -x "$program" ] || ! grep -q '^ld: bad-words$' "$crate/out/build.log"; then
     tail -20 "$crate/out/build.log" >&2
     echo "ld: the program could not be built; see $crate/out/build.log" >&2
     return 1
   fi
+  touch "$program"
 }
 
 if is_stale; then
