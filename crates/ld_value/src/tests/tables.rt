@@ -55,6 +55,7 @@ pub(super) const MOMENTS: &str = "\
 /// Texts that name no moment, the empty one included.
 pub(super) const NO_MOMENTS: &str = "\
 2023-02-29T00:00:00Z
+
 0000-01-01T00:00:00Z
 2024-01-01T00:00:60Z
 1900-02-29T00:00:00Z
@@ -193,6 +194,8 @@ boolean|1
 boolean|
 datetime|2023-02-29T00:00:00Z
 duration|P
+duration|P1DT
+duration|P11574074DT1H46M40S
 uri|
 uri|urn: g
 uri|urn:ü
