@@ -1,50 +1,83 @@
--- What contracts see of the names of a unit.
-use Rattle.std.specs.Prelude.{ℕ, List, [], map, Option, Some, None, slice_get, if◌then◌else◌}
+-- What the identifiers of a unit name.
+use Rattle.std.specs.Prelude.{ℕ, List, [], ◌∷◌, ◌++◌, map, Option, Some, None, Bool, true, false, nat_eq, ◌<◌, length, if◌then◌else◌, IsTrue}
+use Rattle.std.specs.List.{find}
 use Rattle.std.specs.Option.{option_map, option_and_then}
 use Rattle.std.specs.Str.{bytes_eq}
+use Rattle.ld_base.specs.declared.numbers.PropNo.{PropNo}
 use Rattle.ld_base.specs.declared.numbers.RoleNo.{RoleNo}
 use Rattle.ld_base.specs.declared.numbers.ThingNo.{ThingNo}
 use Rattle.ld_model.specs.declared.names.Named.{Named}
 use Rattle.ld_model.specs.declared.names.Named.TheVariants.{Role, Thing, Prop, Unit as Whole}
+use Rattle.ld_model.specs.declared.names.Place.{Place}
+use Rattle.ld_model.specs.declared.property.Property.{Property}
+use Rattle.ld_model.specs.declared.role.Role.{Role as RoleOf}
+use Rattle.ld_model.specs.declared.rule.Rule.TheVariants.{CompletesUnit}
 use Rattle.ld_model.specs.declared.unit.Unit.{Unit as Course}
-use Rattle.ld_model.specs.Counting.{number_where}
+use Rattle.ld_model.specs.Counting.{each_numbered}
+use Rattle.ld_model.specs.Roles.{role_identifier, roles_of}
 use Rattle.ld_model.specs.Rules.{rule_number, completing_rule}
 use Rattle.ld_model.specs.Things.{Entry, things_of}
 
--- The identifiers of the roles and the things of a unit in document order, the numbers of the rules
--- that complete the things, and the unit's own identifier.
+-- An identifier, and what it names.
+abbrev pub Naming : Type 0
+Naming = List ℕ × Named
+
+abbrev pub role_naming : ℕ → RoleOf → List Naming
+role_naming n role = (role_identifier role, Role (record { 0 = n })) ∷ []
+
+abbrev pub property_naming : ℕ → Property → List Naming
+property_naming n property = (property.identifier, Prop (record { 0 = n })) ∷ []
+
+abbrev pub thing_naming : ℕ → Entry → List Naming
+thing_naming n entry = (entry.identifier, Thing (record { 0 = n })) ∷ []
+
+-- The unit itself, its roles, its properties and its things, each with its number.
+abbrev pub namings_of : Course → List Naming
+namings_of unit = (unit.identifier, Whole) ∷ (each_numbered role_naming (roles_of unit) ++ (each_numbered property_naming unit.properties ++ each_numbered thing_naming (things_of unit)))
+
+-- The names of a unit: what each identifier names, where each thing stands, and the number of the rule
+-- that says that a thing, or the unit, is done.
 pub record NameTable : Type 0 where
-  pub unit : List ℕ
-  pub roles : List (List ℕ)
-  pub things : List Entry
+  pub namings : List Naming
+  pub places : List Place
   pub rules : List (Option ℕ)
+  pub unit_rule : Option ℕ
+
+-- The number of the rule that says that the thing at the place is done.
+abbrev pub rule_at : Course → Place → Option ℕ
+rule_at unit place = option_and_then (rule_number unit) (completing_rule place)
 
 abbrev pub names_of : Course → NameTable
 names_of unit = record {
-  unit = unit.identifier;
-  roles = map (λ role. role.identifier) unit.roles;
-  things = things_of unit;
-  rules = map (λ entry. option_and_then (rule_number unit) (completing_rule entry.place)) (things_of unit);
+  namings = namings_of unit;
+  places = map (λ entry. entry.place) (things_of unit);
+  rules = map (λ entry. rule_at unit entry.place) (things_of unit);
+  unit_rule = rule_number unit CompletesUnit;
 }
 
-abbrev pub role_named : Option ℕ → Option Named
-role_named = option_map (λ n. Role (record { 0 = n }))
-
-abbrev pub thing_named : Option ℕ → Option Named
-thing_named = option_map (λ n. Thing (record { 0 = n }))
-
--- The first that is there.
-abbrev pub first_of_two : {A : Type 0} → Option A → Option A → Option A
-first_of_two None other = other
-first_of_two (Some x) other = Some x
-
--- What the identifier names: the unit, a role or a thing.
+-- What the identifier names.
 abbrev pub named_by : NameTable → List ℕ → Option Named
-named_by names id = if bytes_eq names.unit id then Some Whole else first_of_two (role_named (number_where (bytes_eq id) names.roles)) (thing_named (number_where (λ entry. bytes_eq id entry.identifier) names.things))
+named_by names id = option_map (λ naming. naming.1) (find (λ naming. bytes_eq id naming.0) names.namings)
 
--- The identifier of what is named.
+abbrev pub same_named : Named → Named → Bool
+same_named (Role a) (Role b) = nat_eq a.0 b.0
+same_named (Thing a) (Thing b) = nat_eq a.0 b.0
+same_named (Prop a) (Prop b) = nat_eq a.0 b.0
+same_named Whole Whole = true
+same_named _ _ = false
+
+-- The identifier that names it.
 abbrev pub identifier_at : NameTable → Named → Option (List ℕ)
-identifier_at names (Role r) = slice_get names.roles r.0
-identifier_at names (Thing t) = option_map (λ entry. entry.identifier) (slice_get names.things t.0)
-identifier_at names (Prop _) = None
-identifier_at names Whole = Some names.unit
+identifier_at names named = option_map (λ naming. naming.0) (find (λ naming. same_named named naming.1) names.namings)
+
+abbrev pub thing_among : Option Named → Option ℕ
+thing_among (Some (Thing t)) = Some t.0
+thing_among _ = None
+
+-- The number of the thing that the identifier names.
+abbrev pub thing_number : Course → List ℕ → Option ℕ
+thing_number unit id = thing_among (named_by (names_of unit) id)
+
+-- The identifiers, in document order.
+abbrev pub identifiers_in : NameTable → List (List ℕ)
+identifiers_in names = map (λ naming. naming.0) names.namings

@@ -5,6 +5,7 @@ use Rattle.std.specs.List.{list_any, list_all, sum_by}
 use Rattle.std.specs.Str.{bytes_eq}
 use Rattle.ld_model.specs.declared.unit.Unit.{Unit as Course}
 use Rattle.ld_model.specs.Members.{parts_of}
+use Rattle.ld_model.specs.Roles.{role_identifier, roles_of}
 use Rattle.ld_model.specs.Things.{things_of}
 
 -- No two of the texts are equal.
@@ -14,10 +15,10 @@ all_differ (x ∷ xs) = not (list_any (bytes_eq x) xs) && all_differ xs
 
 -- The identifiers of all parts of the unit, its own first.
 abbrev pub identifiers_of : Course → List (List ℕ)
-identifiers_of unit = unit.identifier ∷ (map (λ role. role.identifier) unit.roles ++ map (λ entry. entry.identifier) (things_of unit))
+identifiers_of unit = unit.identifier ∷ (map role_identifier (roles_of unit) ++ (map (λ property. property.identifier) unit.properties ++ map (λ entry. entry.identifier) (things_of unit)))
 
 abbrev pub names_a_role : Course → List ℕ → Bool
-names_a_role unit id = list_any (λ role. bytes_eq role.identifier id) unit.roles
+names_a_role unit id = list_any (λ role. bytes_eq (role_identifier role) id) (roles_of unit)
 
 abbrev pub names_an_activity : Course → List ℕ → Bool
 names_an_activity unit id = list_any (λ activity. bytes_eq activity.identifier id) unit.activities
@@ -28,7 +29,7 @@ references_hold unit = list_all (λ part. names_a_role unit part.role && names_a
 
 -- At most 60 roles, 400 activities and 4,000 items.
 abbrev pub is_within_limits : Course → Bool
-is_within_limits unit = nat_le (length unit.roles) 60 && (nat_le (length unit.activities) 400 && nat_le (sum_by (λ activity. length activity.items) unit.activities) 4000)
+is_within_limits unit = nat_le (length (roles_of unit)) 60 && (nat_le (length unit.activities) 400 && nat_le (sum_by (λ activity. length activity.items) unit.activities) 4000)
 
 abbrev pub is_valid : Course → Bool
 is_valid unit = all_differ (identifiers_of unit) && (references_hold unit && is_within_limits unit)

@@ -1,34 +1,58 @@
-//! Activities of a unit and the items that they show.
+//! Activities of a unit and structures of them.
+use crate::completion::{Completion, OnCompletion};
+use crate::item::{ItemList, ReferenceList};
 use ld_base::id::Id;
 use ld_base::items::Items;
 use ld_base::plain_text::PlainText;
 
-/// A reference to a resource that is shown to a person.
-#[derive(Drop)]
-pub struct Item {
-    pub identifier: Id,
-    pub href: PlainText,
-    pub title: Option<PlainText>,
-}
-
-/// Items in document order.
-pub type ItemList = Items<Item>;
-
-/// When a thing is completed.
+/// Whether an activity is learned by, or supports those who learn.
 #[derive(Clone, Copy, Debug, PartialEq, Eq)]
-pub enum Completion {
-    /// The person says so.
-    UserChoice,
+pub enum ActivityKind {
+    Learning,
+    Support,
 }
 
 /// Something that a person does.
 #[derive(Drop)]
 pub struct Activity {
     pub identifier: Id,
+    pub kind: ActivityKind,
     pub title: Option<PlainText>,
+    /// Whether the activity is shown at first.
+    pub visible: bool,
+    pub learning_objectives: ItemList,
+    pub prerequisites: ItemList,
+    /// The roles whose members a support activity supports.
+    pub supports: ReferenceList,
+    pub environments: ReferenceList,
     pub items: ItemList,
     pub complete: Option<Completion>,
+    pub on_completion: Option<OnCompletion>,
 }
 
 /// Activities in document order.
 pub type ActivityList = Items<Activity>;
+
+/// Whether a structure's children are done one after another, or some of them in any order.
+#[derive(Clone, Copy, Debug, PartialEq, Eq)]
+pub enum StructureKind {
+    Sequence,
+    Selection,
+}
+
+/// A structure of activities and of further structures.
+#[derive(Drop)]
+pub struct Structure {
+    pub identifier: Id,
+    pub kind: StructureKind,
+    pub title: Option<PlainText>,
+    /// Whether the structure is shown at first.
+    pub visible: bool,
+    /// The number of children of a selection that have to be done; all where it is absent.
+    pub number_to_select: Option<u32>,
+    pub environments: ReferenceList,
+    pub children: ReferenceList,
+}
+
+/// Structures in document order.
+pub type StructureList = Items<Structure>;

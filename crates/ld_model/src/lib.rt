@@ -4,7 +4,14 @@
 
 pub mod activity;
 pub mod cell;
+pub mod completion;
+pub mod condition;
+pub mod environment;
+pub mod expression;
+pub mod item;
 pub mod method;
 pub mod names;
+pub mod property;
 pub mod role;
+pub mod rule;
 pub mod unit;

@@ -1,4 +1,5 @@
 //! The method of a unit: plays, their acts one after another, and who does what in an act.
+use crate::completion::{Completion, OnCompletion};
 use ld_base::id::Id;
 use ld_base::items::Items;
 use ld_base::plain_text::PlainText;
@@ -10,7 +11,7 @@ pub struct RolePart {
     pub title: Option<PlainText>,
     /// The role.
     pub role: Id,
-    /// The activity that the role's members do.
+    /// The activity or the structure that the role's members do, or the environment that they see.
     pub target: Id,
 }
 
@@ -23,6 +24,8 @@ pub struct Act {
     pub identifier: Id,
     pub title: Option<PlainText>,
     pub role_parts: RolePartList,
+    pub complete: Option<Completion>,
+    pub on_completion: Option<OnCompletion>,
 }
 
 /// Acts in document order.
@@ -33,7 +36,11 @@ pub type ActList = Items<Act>;
 pub struct Play {
     pub identifier: Id,
     pub title: Option<PlainText>,
+    /// Whether the play is shown at first.
+    pub visible: bool,
     pub acts: ActList,
+    pub complete: Option<Completion>,
+    pub on_completion: Option<OnCompletion>,
 }
 
 /// Plays in document order.
@@ -43,4 +50,6 @@ pub type PlayList = Items<Play>;
 #[derive(Drop)]
 pub struct Method {
     pub plays: PlayList,
+    pub complete: Option<Completion>,
+    pub on_completion: Option<OnCompletion>,
 }
