@@ -2,6 +2,7 @@ pub mod Cells
 pub mod Counting
 pub mod Members
 pub mod Names
+pub mod RoleRows
 pub mod Roles
 pub mod Rules
 pub mod State

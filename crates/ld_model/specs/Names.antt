@@ -10,11 +10,11 @@ use Rattle.ld_model.specs.declared.names.Named.{Named}
 use Rattle.ld_model.specs.declared.names.Named.TheVariants.{Role, Thing, Prop, Unit as Whole}
 use Rattle.ld_model.specs.declared.names.Place.{Place}
 use Rattle.ld_model.specs.declared.property.Property.{Property}
-use Rattle.ld_model.specs.declared.role.Role.{Role as RoleOf}
+use Rattle.ld_model.specs.RoleRows.{RoleRow}
 use Rattle.ld_model.specs.declared.rule.Rule.TheVariants.{CompletesUnit}
 use Rattle.ld_model.specs.declared.unit.Unit.{Unit as Course}
 use Rattle.ld_model.specs.Counting.{each_numbered}
-use Rattle.ld_model.specs.Roles.{role_identifier, roles_of}
+use Rattle.ld_model.specs.Roles.{roles_of}
 use Rattle.ld_model.specs.Rules.{rule_number, completing_rule}
 use Rattle.ld_model.specs.Things.{Entry, things_of}
 
@@ -22,8 +22,8 @@ use Rattle.ld_model.specs.Things.{Entry, things_of}
 abbrev pub Naming : Type 0
 Naming = List ℕ × Named
 
-abbrev pub role_naming : ℕ → RoleOf → List Naming
-role_naming n role = (role_identifier role, Role (record { 0 = n })) ∷ []
+abbrev pub role_naming : ℕ → RoleRow → List Naming
+role_naming n role = (role.identifier, Role (record { 0 = n })) ∷ []
 
 abbrev pub property_naming : ℕ → Property → List Naming
 property_naming n property = (property.identifier, Prop (record { 0 = n })) ∷ []

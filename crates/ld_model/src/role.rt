@@ -2,6 +2,7 @@
 use ld_base::id::Id;
 use ld_base::items::Items;
 use ld_base::plain_text::PlainText;
+use std::marker::Model;
 
 /// Whether a role is one of learners or of staff.
 #[derive(Clone, Copy, Debug, PartialEq, Eq)]
@@ -24,7 +25,8 @@ pub enum MatchPersons {
     NotExclusively,
 }
 
-/// A role that persons of a run can hold.
+/// A role that persons of a run can hold, seen by contracts as a list of rows: its own, and behind it
+/// those of the roles within it.
 #[derive(Drop)]
 pub struct Role {
     pub identifier: Id,
@@ -39,6 +41,20 @@ pub struct Role {
     pub max_persons: Option<u32>,
     /// The roles within this one.
     pub roles: Vec<Role>,
+}
+
+impl Model for Role {
+    ghost use Rattle.std.specs.Prelude.{List, ◌∷◌, length, ℕ};
+    ghost use Rattle.std.proofs.Common.{arith};
+    ghost use Rattle.ld_model.specs.RoleRows.{RoleRow, rows_within, most_rows_within};
+
+    ghost Value = { List RoleRow };
+
+    ghost view = { λ role. record { identifier = role.identifier; kind = role.kind; title = role.title; create_new = role.create_new; match_persons = role.match_persons; min_persons = role.min_persons; max_persons = role.max_persons; depth = 0 } ∷ rows_within role.roles.items };
+
+    ghost size = { length };
+
+    ghost size_decreases = { λ role h. omega (arith, most_rows_within role.roles.items) };
 }
 
 /// Roles in document order.
