@@ -1,5 +1,8 @@
 //! The numbers by which a run speaks of the parts of its unit, each counted from 0.
+ghost use Rattle.std.specs.Prelude.{◌≡◌, IfOk};
+
 use crate::items::Items;
+use crate::memory::NoMemory;
 
 /// A role, in document order.
 #[derive(Clone, Copy, Debug, PartialEq, Eq, PartialOrd, Ord, Hash)]
@@ -30,4 +33,14 @@ pub type PersonList = Items<PersonNo>;
 pub struct Fired {
     pub rejected: u32,
     pub sent: u32,
+}
+
+/// The number that counts so far. No machine holds a list on which it fails.
+pub fn number(index: usize) -> Result<u32, NoMemory>
+    ensures { IfOk result (λ n. n ≡ index) }
+{
+    match u32::try_from(index) {
+        Ok(number) => Ok(number),
+        Err(_) => Err(NoMemory),
+    }
 }

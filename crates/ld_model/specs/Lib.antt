@@ -1,10 +1,12 @@
 pub mod Cells
 pub mod Counting
+pub mod Identifiers
 pub mod Members
 pub mod Names
 pub mod RoleRows
 pub mod Roles
 pub mod Rules
 pub mod State
+pub mod ThingView
 pub mod Things
 pub mod Validity

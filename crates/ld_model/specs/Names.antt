@@ -1,6 +1,5 @@
 -- What the identifiers of a unit name.
-use Rattle.std.specs.Prelude.{ℕ, List, [], ◌∷◌, ◌++◌, map, Option, Some, None, Bool, true, false, nat_eq, ◌<◌, length, if◌then◌else◌, IsTrue}
-use Rattle.std.specs.List.{find}
+use Rattle.std.specs.Prelude.{ℕ, ◌+◌, ◌-◌, List, [], ◌∷◌, map, Option, Some, None, Bool, ◌≡◌, ◌<◌, nat_lt, length, position, slice_get, if◌then◌else◌, ⊤}
 use Rattle.std.specs.Option.{option_map, option_and_then}
 use Rattle.std.specs.Str.{bytes_eq}
 use Rattle.ld_base.specs.declared.numbers.PropNo.{PropNo}
@@ -9,36 +8,20 @@ use Rattle.ld_base.specs.declared.numbers.ThingNo.{ThingNo}
 use Rattle.ld_model.specs.declared.names.Named.{Named}
 use Rattle.ld_model.specs.declared.names.Named.TheVariants.{Role, Thing, Prop, Unit as Whole}
 use Rattle.ld_model.specs.declared.names.Place.{Place}
-use Rattle.ld_model.specs.declared.property.Property.{Property}
-use Rattle.ld_model.specs.RoleRows.{RoleRow}
 use Rattle.ld_model.specs.declared.rule.Rule.TheVariants.{CompletesUnit}
 use Rattle.ld_model.specs.declared.unit.Unit.{Unit as Course}
-use Rattle.ld_model.specs.Counting.{each_numbered}
+use Rattle.ld_model.specs.Identifiers.{identifiers_of}
 use Rattle.ld_model.specs.Roles.{roles_of}
 use Rattle.ld_model.specs.Rules.{rule_number, completing_rule}
-use Rattle.ld_model.specs.Things.{Entry, things_of}
+use Rattle.ld_model.specs.Things.{things_of}
 
--- An identifier, and what it names.
-abbrev pub Naming : Type 0
-Naming = List ℕ × Named
-
-abbrev pub role_naming : ℕ → RoleRow → List Naming
-role_naming n role = (role.identifier, Role (record { 0 = n })) ∷ []
-
-abbrev pub property_naming : ℕ → Property → List Naming
-property_naming n property = (property.identifier, Prop (record { 0 = n })) ∷ []
-
-abbrev pub thing_naming : ℕ → Entry → List Naming
-thing_naming n entry = (entry.identifier, Thing (record { 0 = n })) ∷ []
-
--- The unit itself, its roles, its properties and its things, each with its number.
-abbrev pub namings_of : Course → List Naming
-namings_of unit = (unit.identifier, Whole) ∷ (each_numbered role_naming (roles_of unit) ++ (each_numbered property_naming unit.properties ++ each_numbered thing_naming (things_of unit)))
-
--- The names of a unit: what each identifier names, where each thing stands, and the number of the rule
+-- The names of a unit: its identifiers (its own, and then those of its roles, its properties and its
+-- things), how many roles and properties there are, where each thing stands, and the number of the rule
 -- that says that a thing, or the unit, is done.
 pub record NameTable : Type 0 where
-  pub namings : List Naming
+  pub identifiers : List (List ℕ)
+  pub roles : ℕ
+  pub properties : ℕ
   pub places : List Place
   pub rules : List (Option ℕ)
   pub unit_rule : Option ℕ
@@ -49,35 +32,68 @@ rule_at unit place = option_and_then (rule_number unit) (completing_rule place)
 
 abbrev pub names_of : Course → NameTable
 names_of unit = record {
-  namings = namings_of unit;
+  identifiers = identifiers_of unit;
+  roles = length (roles_of unit);
+  properties = length unit.properties;
   places = map (λ entry. entry.place) (things_of unit);
   rules = map (λ entry. rule_at unit entry.place) (things_of unit);
   unit_rule = rule_number unit CompletesUnit;
 }
 
+-- How many identifiers stand before the first property, and before the first thing.
+abbrev pub before_properties : NameTable → ℕ
+before_properties names = 1 + names.roles
+
+abbrev pub before_things : NameTable → ℕ
+before_things names = before_properties names + names.properties
+
+-- What the identifier at this index names.
+abbrev pub named_at : NameTable → ℕ → Named
+named_at names index =
+    if nat_lt index 1 then Whole else
+    if nat_lt index (before_properties names) then Role (record { 0 = index - 1 }) else
+    if nat_lt index (before_things names) then Prop (record { 0 = index - before_properties names }) else
+    Thing (record { 0 = index - before_things names })
+
 -- What the identifier names.
 abbrev pub named_by : NameTable → List ℕ → Option Named
-named_by names id = option_map (λ naming. naming.1) (find (λ naming. bytes_eq id naming.0) names.namings)
+named_by names id = option_map (named_at names) (position (bytes_eq id) names.identifiers)
 
-abbrev pub same_named : Named → Named → Bool
-same_named (Role a) (Role b) = nat_eq a.0 b.0
-same_named (Thing a) (Thing b) = nat_eq a.0 b.0
-same_named (Prop a) (Prop b) = nat_eq a.0 b.0
-same_named Whole Whole = true
-same_named _ _ = false
+-- The index of the identifier of what is named.
+abbrev pub index_of : NameTable → Named → ℕ
+index_of names Whole = 0
+index_of names (Role r) = 1 + r.0
+index_of names (Prop p) = before_properties names + p.0
+index_of names (Thing t) = before_things names + t.0
 
--- The identifier that names it.
+-- The identifier of what is named.
 abbrev pub identifier_at : NameTable → Named → Option (List ℕ)
-identifier_at names named = option_map (λ naming. naming.0) (find (λ naming. same_named named naming.1) names.namings)
+identifier_at names named = slice_get names.identifiers (index_of names named)
+
+-- The unit has a part of this number.
+abbrev pub HasPart : NameTable → Named → Type 0
+HasPart names Whole = ⊤
+HasPart names (Role r) = r.0 < names.roles
+HasPart names (Prop p) = p.0 < names.properties
+HasPart names (Thing t) = t.0 < length names.places
+
+abbrev pub rule_among : List (Option ℕ) → ℕ → Option ℕ
+rule_among rules thing = option_and_then (λ rule. rule) (slice_get rules thing)
+
+-- The number of the rule that says that what is named is done.
+abbrev pub rule_named : NameTable → Named → Option ℕ
+rule_named names Whole = names.unit_rule
+rule_named names (Role _) = None
+rule_named names (Prop _) = None
+rule_named names (Thing t) = rule_among names.rules t.0
 
 abbrev pub thing_among : Option Named → Option ℕ
+thing_among None = None
+thing_among (Some Whole) = None
+thing_among (Some (Role _)) = None
+thing_among (Some (Prop _)) = None
 thing_among (Some (Thing t)) = Some t.0
-thing_among _ = None
 
 -- The number of the thing that the identifier names.
 abbrev pub thing_number : Course → List ℕ → Option ℕ
 thing_number unit id = thing_among (named_by (names_of unit) id)
-
--- The identifiers, in document order.
-abbrev pub identifiers_in : NameTable → List (List ℕ)
-identifiers_in names = map (λ naming. naming.0) names.namings

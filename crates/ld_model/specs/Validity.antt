@@ -6,16 +6,7 @@ use Rattle.std.specs.Str.{bytes_eq}
 use Rattle.ld_model.specs.declared.unit.Unit.{Unit as Course}
 use Rattle.ld_model.specs.Members.{parts_of}
 use Rattle.ld_model.specs.Roles.{roles_of}
-use Rattle.ld_model.specs.Things.{things_of}
-
--- No two of the texts are equal.
-abbrev pub all_differ : List (List ℕ) → Bool
-all_differ [] = true
-all_differ (x ∷ xs) = not (list_any (bytes_eq x) xs) && all_differ xs
-
--- The identifiers of all parts of the unit, its own first.
-abbrev pub identifiers_of : Course → List (List ℕ)
-identifiers_of unit = unit.identifier ∷ (map (λ role. role.identifier) (roles_of unit) ++ (map (λ property. property.identifier) unit.properties ++ map (λ entry. entry.identifier) (things_of unit)))
+use Rattle.ld_model.specs.Identifiers.{identifiers_of, all_differ}
 
 abbrev pub names_a_role : Course → List ℕ → Bool
 names_a_role unit id = list_any (λ role. bytes_eq role.identifier id) (roles_of unit)
