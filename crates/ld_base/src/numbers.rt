@@ -1,5 +1,5 @@
 //! The numbers by which a run speaks of the parts of its unit, each counted from 0.
-ghost use Rattle.std.specs.Prelude.{◌≡◌, IfOk};
+ghost use Rattle.std.specs.Prelude.{◌≡◌, ◌<◌, ◌^◌, IfOk, OnOk};
 
 use crate::items::Items;
 use crate::memory::NoMemory;
@@ -37,7 +37,8 @@ pub struct Fired {
 
 /// The number that counts so far. No machine holds a list on which it fails.
 pub fn number(index: usize) -> Result<u32, NoMemory>
-    ensures { IfOk result (λ n. n ≡ index) }
+    ensures number { IfOk result (λ n. n ≡ index) }
+    ensures within { OnOk result (index < 2 ^ 32) }
 {
     match u32::try_from(index) {
         Ok(number) => Ok(number),

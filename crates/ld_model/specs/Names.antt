@@ -8,11 +8,13 @@ use Rattle.ld_base.specs.declared.numbers.ThingNo.{ThingNo}
 use Rattle.ld_model.specs.declared.names.Named.{Named}
 use Rattle.ld_model.specs.declared.names.Named.TheVariants.{Role, Thing, Prop, Unit as Whole}
 use Rattle.ld_model.specs.declared.names.Place.{Place}
+use Rattle.ld_model.specs.declared.rule.Rule.{Rule}
 use Rattle.ld_model.specs.declared.rule.Rule.TheVariants.{CompletesUnit}
+use Rattle.ld_model.specs.Counting.{number_where}
 use Rattle.ld_model.specs.declared.unit.Unit.{Unit as Course}
 use Rattle.ld_model.specs.Identifiers.{identifiers_of}
 use Rattle.ld_model.specs.Roles.{roles_of}
-use Rattle.ld_model.specs.Rules.{rule_number, completing_rule}
+use Rattle.ld_model.specs.Rules.{rules_of, rule_number, same_rule, completing_rule}
 use Rattle.ld_model.specs.Things.{things_of}
 
 -- The names of a unit: its identifiers (its own, and then those of its roles, its properties and its
@@ -26,9 +28,9 @@ pub record NameTable : Type 0 where
   pub rules : List (Option ℕ)
   pub unit_rule : Option ℕ
 
--- The number of the rule that says that the thing at the place is done.
-abbrev pub rule_at : Course → Place → Option ℕ
-rule_at unit place = option_and_then (rule_number unit) (completing_rule place)
+-- The number among the rules of the one that says that the thing at the place is done.
+abbrev pub number_at : List Rule → Place → Option ℕ
+number_at rules place = option_and_then (λ rule. number_where (same_rule rule) rules) (completing_rule place)
 
 abbrev pub names_of : Course → NameTable
 names_of unit = record {
@@ -36,7 +38,7 @@ names_of unit = record {
   roles = length (roles_of unit);
   properties = length unit.properties;
   places = map (λ entry. entry.place) (things_of unit);
-  rules = map (λ entry. rule_at unit entry.place) (things_of unit);
+  rules = map (λ entry. number_at (rules_of unit) entry.place) (things_of unit);
   unit_rule = rule_number unit CompletesUnit;
 }
 
