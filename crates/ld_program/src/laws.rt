@@ -1,0 +1,41 @@
+//! Laws of the definitions of a run. Each function does nothing: its contract is the law, and holds
+//! of every unit, every state or history that it names, and every command.
+ghost use Rattle.std.specs.Prelude.{ℤ, List, ◌≡◌, true, false, None};
+ghost use Rattle.ld_base.specs.declared.numbers.RuleNo.{RuleNo};
+ghost use Rattle.ld_base.specs.declared.numbers.ThingNo.{ThingNo};
+ghost use Rattle.ld_lines.specs.declared.command.RunCommand.{RunCommand};
+ghost use Rattle.ld_model.specs.State.{RunState};
+ghost use Rattle.ld_model.specs.declared.cell.CellName.TheVariants as cell;
+ghost use Rattle.ld_model.specs.declared.cell.Owner.{Owner};
+ghost use Rattle.ld_model.specs.declared.unit.Unit.{Unit as Course};
+ghost use Rattle.ld_program.specs.Histories.{is_marked_yes, Given, run_after};
+ghost use Rattle.ld_program.specs.Step.{is_started, step};
+
+/// What is completed stays completed: a mark that says yes says yes after any command, at any moment,
+/// be the command done or refused.
+pub fn completed_stays_completed()
+    ensures { (unit : Course) (s : RunState) (moment : ℤ) (command : RunCommand) (rule : RuleNo) (owner : Owner) → is_marked_yes s rule owner ≡ true → is_marked_yes (step unit s moment command).state rule owner ≡ true }
+{
+}
+
+/// What is started stays started.
+pub fn started_stays_started()
+    ensures { (unit : Course) (s : RunState) (moment : ℤ) (command : RunCommand) → is_started s ≡ true → is_started (step unit s moment command).state ≡ true }
+{
+}
+
+/// No act opens before the start, and nothing is completed before it: a command that leaves the run
+/// unstarted leaves each act's opening and each mark as they were.
+pub fn nothing_opens_unless_started()
+    ensures openings { (unit : Course) (s : RunState) (moment : ℤ) (command : RunCommand) → is_started (step unit s moment command).state ≡ false → (thing : ThingNo) → (step unit s moment command).state.cells (cell.ActOpened thing) ≡ s.cells (cell.ActOpened thing) }
+    ensures marks { (unit : Course) (s : RunState) (moment : ℤ) (command : RunCommand) → is_started (step unit s moment command).state ≡ false → (rule : RuleNo) (owner : Owner) → (step unit s moment command).state.cells (cell.Mark rule owner) ≡ s.cells (cell.Mark rule owner) }
+{
+}
+
+/// As long as a run is not started, whatever commands it has had, no act has opened and no mark says
+/// yes.
+pub fn unstarted_run_is_untouched()
+    ensures openings { (unit : Course) (made : ℤ) (history : List Given) → is_started (run_after unit made history) ≡ false → (thing : ThingNo) → (run_after unit made history).cells (cell.ActOpened thing) ≡ None }
+    ensures marks { (unit : Course) (made : ℤ) (history : List Given) → is_started (run_after unit made history) ≡ false → (rule : RuleNo) (owner : Owner) → is_marked_yes (run_after unit made history) rule owner ≡ false }
+{
+}
