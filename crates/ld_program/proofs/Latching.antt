@@ -36,10 +36,15 @@ both_true true c h = (refl, h)
 both_true false c h = cc
 
 -- Marks with one name are of one rule and one owner.
-pub one_mark : (rule : RuleNo) (owner : Owner) (site : Site) → same_cell (Mark rule owner) (mark_of site) ≡ true → Mark rule owner ≡ mark_of site
-one_mark rule owner site same =
+pub one_rule_and_owner : (rule : RuleNo) (owner : Owner) (site : Site) → same_cell (Mark rule owner) (mark_of site) ≡ true → (rule.0 ≡ site.rule) × (owner ≡ site.owner)
+one_rule_and_owner rule owner site same =
     let parts = both_true (nat_eq rule.0 site.rule) (same_owner owner site.owner) same in
-    λ i. Mark (record { 0 = eqb-true rule.0 site.rule parts.0 i }) (one_owner owner site.owner parts.1 i)
+    (eqb-true rule.0 site.rule parts.0, one_owner owner site.owner parts.1)
+
+one_mark : (rule : RuleNo) (owner : Owner) (site : Site) → same_cell (Mark rule owner) (mark_of site) ≡ true → Mark rule owner ≡ mark_of site
+one_mark rule owner site same =
+    let parts = one_rule_and_owner rule owner site same in
+    λ i. Mark (record { 0 = parts.0 i }) (parts.1 i)
 
 -- ---- what an effect leaves
 

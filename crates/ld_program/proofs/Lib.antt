@@ -13,3 +13,5 @@ pub mod Indents
 pub mod Kept
 pub mod Latching
 pub mod Unstarted
+pub mod Places
+pub mod Openings

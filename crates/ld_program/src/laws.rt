@@ -1,15 +1,19 @@
 //! Laws of the definitions of a run. Each function does nothing: its contract is the law, and holds
 //! of every unit, every state or history that it names, and every command.
-ghost use Rattle.std.specs.Prelude.{ℤ, List, ◌≡◌, true, false, None};
+ghost use Rattle.std.specs.Prelude.{ℕ, ℤ, List, ◌≡◌, true, false, None, Some};
 ghost use Rattle.ld_base.specs.declared.numbers.RuleNo.{RuleNo};
 ghost use Rattle.ld_base.specs.declared.numbers.ThingNo.{ThingNo};
 ghost use Rattle.ld_lines.specs.declared.command.RunCommand.{RunCommand};
+ghost use Rattle.ld_lines.specs.declared.command.RunCommand.TheVariants as verb;
 ghost use Rattle.ld_model.specs.State.{RunState};
+ghost use Rattle.ld_model.specs.Things.{thing_number};
 ghost use Rattle.ld_model.specs.declared.cell.CellName.TheVariants as cell;
 ghost use Rattle.ld_model.specs.declared.cell.Owner.{Owner};
+ghost use Rattle.ld_model.specs.declared.method.Act.{Act};
 ghost use Rattle.ld_model.specs.declared.unit.Unit.{Unit as Course};
-ghost use Rattle.ld_program.specs.Histories.{is_marked_yes, Given, run_after};
-ghost use Rattle.ld_program.specs.Step.{is_started, step};
+ghost use Rattle.ld_program.specs.Histories.{is_marked_yes, opened_at, Given, run_after};
+ghost use Rattle.ld_program.specs.Step.{Work, done, is_started, step};
+ghost use Rattle.ld_program.specs.Tests.{act_at};
 
 /// What is completed stays completed: a mark that says yes says yes after any command, at any moment,
 /// be the command done or refused.
@@ -37,5 +41,13 @@ pub fn nothing_opens_unless_started()
 pub fn unstarted_run_is_untouched()
     ensures openings { (unit : Course) (made : ℤ) (history : List Given) → is_started (run_after unit made history) ≡ false → (thing : ThingNo) → (run_after unit made history).cells (cell.ActOpened thing) ≡ None }
     ensures marks { (unit : Course) (made : ℤ) (history : List Given) → is_started (run_after unit made history) ≡ false → (rule : RuleNo) (owner : Owner) → is_marked_yes (run_after unit made history) rule owner ≡ false }
+{
+}
+
+/// The start opens the first act of each play: whatever commands a run has had, a start of it that
+/// is done leaves the first act of each play opened at the moment of that start. (In a valid unit
+/// identifiers differ, so that the thing of an act's identifier is the act itself.)
+pub fn start_opens_first_acts()
+    ensures { (unit : Course) (made : ℤ) (history : List Given) (moment : ℤ) (work : Work) → (step unit (run_after unit made history) moment verb.Start).reply ≡ done work → (play : ℕ) (act : Act) → act_at unit play 0 ≡ Some act → opened_at (step unit (run_after unit made history) moment verb.Start).state (thing_number unit act.identifier) ≡ Some moment }
 {
 }
