@@ -15,3 +15,4 @@ pub mod Latching
 pub mod Unstarted
 pub mod Places
 pub mod Openings
+pub mod Told
