@@ -1,11 +1,11 @@
 -- What each part of a step keeps, the step keeps.
-use Rattle.std.proofs.Common.{◌≡◌, ℕ, suc, zero, ◌+◌, ◌==◌, ℤ, List, [], ◌∷◌, Bool, true, false, ◌&&◌, Option, Some, None, length, IfSome, if◌then◌else◌}
+use Rattle.std.proofs.Common.{ℕ, suc, zero, ◌+◌, ◌==◌, ℤ, List, [], ◌∷◌, Bool, true, false, ◌&&◌, Option, Some, None, length, IfSome, if◌then◌else◌}
 use Rattle.std.specs.List.{fold}
 use Rattle.ld_lines.specs.declared.command.RunCommand.{RunCommand}
 use Rattle.ld_model.specs.Rules.{Site, sites_of}
 use Rattle.ld_model.specs.State.{RunState}
 use Rattle.ld_model.specs.declared.unit.Unit.{Unit as Course}
-use Rattle.ld_program.specs.Firing.{Tally, Settling, site_visit, sweep, settling, settling_within, quiet_at, after_turn, tally_from, turns_of}
+use Rattle.ld_program.specs.Firing.{Tally, Settling, site_visit, sweep, settling_within, quiet_at, after_turn, tally_from, turns_of}
 use Rattle.ld_program.specs.Step.{Outcome, step, at_moment, changed, settled_if, is_started, is_not_open, has_change, finished, refusal, after_first, after_checks, first_cause, causes}
 
 -- Each visit of a site keeps the fact.

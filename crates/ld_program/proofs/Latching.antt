@@ -11,15 +11,15 @@ use Rattle.ld_model.specs.Rules.{Rule, completes_activity, opens_act, completes_
 use Rattle.ld_model.specs.State.{RunState, with_cell, says_yes}
 use Rattle.ld_model.specs.Things.{thing_number}
 use Rattle.ld_model.specs.declared.cell.CellName.{CellName}
-use Rattle.ld_model.specs.declared.cell.CellName.TheVariants.{Chosen, ActOpened, Started, Mark, Now}
+use Rattle.ld_model.specs.declared.cell.CellName.TheVariants.{Chosen, ActOpened, Started, Mark}
 use Rattle.ld_model.specs.declared.cell.Owner.{Owner}
 use Rattle.ld_model.specs.declared.cell.Owner.TheVariants.{Run, Person}
 use Rattle.ld_model.specs.declared.method.Act.{Act}
 use Rattle.ld_model.specs.declared.unit.Unit.{Unit as Course}
 use Rattle.ld_value.specs.Datum.{Datum, truth_datum}
-use Rattle.ld_program.specs.Firing.{Tally, site_visit, site_fired, visit_with, mark_of, mark_says, effect, open_act, open_thing}
-use Rattle.ld_program.specs.Histories.{is_marked_yes, Given, state_after}
-use Rattle.ld_program.specs.Step.{step, at_moment, changed, chosen_at, with_role_at}
+use Rattle.ld_program.specs.Firing.{Tally, site_visit, site_fired, mark_of, mark_says, effect, open_act, open_thing}
+use Rattle.ld_program.specs.Histories.{is_marked_yes}
+use Rattle.ld_program.specs.Step.{step, changed, chosen_at, with_role_at}
 use Rattle.ld_program.specs.Tests.{site_test, rule_test, is_marked, act_at}
 use Rattle.ld_program.proofs.Kept.{IsLasting, step_keeps}
 

@@ -1,21 +1,18 @@
 -- The start opens the first act of each play.
-use Rattle.std.proofs.Common.{◌≡◌, ◌⊎◌, inl, inr, ◌+◌, ◌==◌, ℕ, suc, zero, ℤ, List, [], ◌∷◌, ◌++◌, Bool, true, false, ◌&&◌, ◌||◌, Option, Some, None, is_some, length, nat_eq, refl, sym, ap, subst, ◌∙◌, if◌then◌else◌, slice_get, IfSome}
+use Rattle.std.proofs.Common.{◌≡◌, ◌⊎◌, inl, inr, ◌+◌, ◌==◌, ℕ, suc, zero, ℤ, List, [], ◌∷◌, Bool, true, false, ◌||◌, Option, Some, None, length, nat_eq, refl, sym, ap, subst, ◌∙◌, if◌then◌else◌, slice_get}
 use Rattle.std.specs.List.{fold}
 use Rattle.std.specs.Str.{bytes_eq}
 use Rattle.std.proofs.lemmas.Bool.{eqb-true}
 use Rattle.std.proofs.Math.Bool.{or-true}
 use Rattle.std.proofs.lemmas.Cmp.{nat_list_eq_equiv, nat_eq_equiv}
-use Rattle.ld_base.specs.declared.numbers.RuleNo.{RuleNo}
-use Rattle.ld_base.specs.declared.numbers.ThingNo.{ThingNo}
 use Rattle.ld_lines.specs.declared.command.RunCommand.TheVariants.{Start}
 use Rattle.ld_model.specs.Cells.{same_cell}
 use Rattle.ld_model.specs.Counting.{each_numbered}
-use Rattle.ld_model.specs.Rules.{Rule, completes_activity, opens_act, completes_part, Site, rules_of, sites_of, sites_of_rule, activity_rule, play_rules, act_rules, part_rule}
+use Rattle.ld_model.specs.Rules.{Rule, completes_activity, opens_act, completes_part, Site, rules_of, sites_of, sites_of_rule, activity_rule, play_rules, act_rules}
 use Rattle.ld_model.specs.State.{RunState, with_cell, says_yes, moment_in}
-use Rattle.ld_model.specs.Things.{Entry, things_of, thing_number, activity_entries, play_entries, act_entries, part_entries}
+use Rattle.ld_model.specs.Things.{Entry, things_of, thing_number, activity_entries, play_entries, act_entries}
 use Rattle.ld_model.specs.declared.cell.CellName.{CellName}
 use Rattle.ld_model.specs.declared.cell.CellName.TheVariants.{ActOpened, Mark, Now, Started}
-use Rattle.ld_model.specs.declared.cell.Owner.{Owner}
 use Rattle.ld_model.specs.declared.cell.Owner.TheVariants.{Run}
 use Rattle.ld_model.specs.declared.method.Act.{Act}
 use Rattle.ld_model.specs.declared.method.Play.{Play}
@@ -24,9 +21,9 @@ use Rattle.ld_model.specs.declared.unit.Unit.{Unit as Course}
 use Rattle.ld_value.specs.Datum.{Datum, text_datum, truth_datum, number_datum, moment_datum, span_datum}
 use Rattle.ld_program.specs.Firing.{Tally, Settling, site_visit, site_fired, visit_with, mark_of, mark_says, effect, open_act, open_thing, sweep, settling_within, quiet_at, after_turn, tally_from, turns_of}
 use Rattle.ld_program.specs.Histories.{is_marked_yes, opened_at, Given, run_after}
-use Rattle.ld_program.specs.Step.{Work, done, Outcome, step, is_started, is_back, has_change, is_not_open, at_moment, changed, settled_if, finished, refusal, after_first, after_checks, first_cause, causes}
+use Rattle.ld_program.specs.Step.{Work, done, Outcome, step, is_started, is_back, at_moment, settled_if, finished, after_first, after_checks, first_cause, causes}
 use Rattle.ld_program.specs.Tests.{site_test, rule_test, is_marked, act_at, act_in}
-use Rattle.ld_program.proofs.Kept.{VisitsKeep, HoldsSettled, visits_keep, settling_keeps, either_settled, after_turn_holds}
+use Rattle.ld_program.proofs.Kept.{VisitsKeep, HoldsSettled, visits_keep, settling_keeps, after_turn_holds}
 use Rattle.ld_program.proofs.Latching.{one_rule_and_owner, effect_leaves, either_tally}
 use Rattle.ld_program.proofs.Places.{IsIn, in_back, in_each, place_of, has_position}
 use Rattle.ld_program.proofs.Settled.{quiet_sweep}

@@ -1,12 +1,12 @@
 -- What is written tells which lines were answered and which count as not given.
-use Rattle.std.proofs.Common.{◌≡◌, ◌⊎◌, inl, inr, ℕ, List, [], ◌∷◌, ◌++◌, Bool, true, false, Option, Some, None, codes, decimal, get_or, nat_eq, refl, sym, ap, subst, ◌∙◌, arith, if◌then◌else◌, ◌==◌}
+use Rattle.std.proofs.Common.{◌≡◌, inl, inr, ℕ, List, [], ◌∷◌, ◌++◌, Bool, true, false, Option, Some, None, codes, get_or, nat_eq, refl, sym, ap, subst, ◌∙◌, if◌then◌else◌, ◌==◌}
 use Rattle.std.proofs.lemmas.Cmp.{nat_eq_equiv}
 use Rattle.std.proofs.lemmas.List.{append_cancel_left}
 use Rattle.ld_lines.specs.declared.command.Line.{Line}
 use Rattle.ld_lines.specs.declared.command.Line.TheVariants.{Create, OfRun}
 use Rattle.ld_lines.specs.declared.command.RunCommand.{RunCommand}
 use Rattle.ld_lines.specs.declared.command.RunCommand.TheVariants.{Enrol, Assign, Start, Complete, Tree}
-use Rattle.ld_program.specs.Answers.{AnswersLine, Leads, block_for, line_of, no_memory_block}
+use Rattle.ld_program.specs.Answers.{AnswersLine, Leads, line_of, no_memory_block}
 use Rattle.ld_program.specs.Reply.{reply_block, reply_text, refusal_text, line_done_text, done_text}
 use Rattle.ld_program.specs.Step.{Work, Reply, done, refused}
 use Rattle.ld_program.specs.World.{RunOf, WorldState, run_named, world_step}

@@ -1,5 +1,5 @@
 -- Until a run is started, no act opens and nothing is completed.
-use Rattle.std.proofs.Common.{◌≡◌, ◌+◌, ℕ, ℤ, List, [], ◌∷◌, Bool, true, false, ◌&&◌, Option, Some, None, is_some, length, refl, sym, ap, ◌∙◌, if◌then◌else◌, slice_get}
+use Rattle.std.proofs.Common.{◌≡◌, ◌+◌, ℕ, ℤ, List, [], ◌∷◌, Bool, true, false, ◌&&◌, Option, Some, None, is_some, refl, ap, ◌∙◌, if◌then◌else◌, slice_get}
 use Rattle.ld_base.specs.declared.numbers.RuleNo.{RuleNo}
 use Rattle.ld_base.specs.declared.numbers.ThingNo.{ThingNo}
 use Rattle.ld_lines.specs.declared.command.RunCommand.{RunCommand}
@@ -10,7 +10,7 @@ use Rattle.ld_model.specs.Rules.{Site, rules_of}
 use Rattle.ld_model.specs.State.{RunState, with_cell, says_yes, state_at_first}
 use Rattle.ld_model.specs.Things.{thing_number}
 use Rattle.ld_model.specs.declared.cell.CellName.{CellName}
-use Rattle.ld_model.specs.declared.cell.CellName.TheVariants.{Chosen, ActOpened, Started, Mark, Now}
+use Rattle.ld_model.specs.declared.cell.CellName.TheVariants.{ActOpened, Started, Mark, Now}
 use Rattle.ld_model.specs.declared.cell.Owner.{Owner}
 use Rattle.ld_model.specs.declared.unit.Unit.{Unit as Course}
 use Rattle.ld_value.specs.Datum.{Datum, truth_datum}

@@ -1,4 +1,3 @@
-use Rattle.std.proofs.Common.{◌++◌, [], ◌∷◌, ap}
 use Rattle.ld_program.proofs.Told.{block_tells, text_tells}
 use Rattle.ld_program.proofs.laws.no_reply_is_want_of_memory.Goals as goal
 
