@@ -36,7 +36,7 @@ unfolding settling_within
 settling_keeps unit P kept zero s holds = tt
 settling_keeps unit P kept (suc n) s holds =
     either_settled P ((sweep unit s).fired == 0) (Some (quiet_at s)) (after_turn (sweep unit s) (settling_within n unit (sweep unit s).state)) holds
-        (after_turn_holds P (sweep unit s) (settling_within n unit (sweep unit s).state) (settling_keeps unit P kept n (sweep unit s).state (sweep_keeps unit P kept s holds)))
+    (after_turn_holds P (sweep unit s) (settling_within n unit (sweep unit s).state) (settling_keeps unit P kept n (sweep unit s).state (sweep_keeps unit P kept s holds)))
 
 pub settled_if_keeps : (unit : Course) (P : RunState → Type 0) → VisitsKeep unit P → (b : Bool) (s : RunState) → P s → HoldsSettled P (settled_if b unit s)
 settled_if_keeps unit P kept true s holds = settling_keeps unit P kept (turns_of unit + 1) s holds
@@ -64,13 +64,13 @@ first_keeps unit P lasting s moment command (Some first) holds settled =
     let new : RunState = changed unit first.state moment command in
     let again : Bool = has_change command && is_started new in
     either_outcome P (is_not_open unit first.state command) (refusal s 31) (finished s first (settled_if again unit new)) holds
-        (finished_keeps P s first (settled_if again unit new) holds (settled_if_keeps unit P lasting.visits again new (lasting.changes first.state moment command settled)))
+    (finished_keeps P s first (settled_if again unit new) holds (settled_if_keeps unit P lasting.visits again new (lasting.changes first.state moment command settled)))
 
 checks_keep : (unit : Course) (P : RunState → Type 0) → IsLasting unit P → (s : RunState) (moment : ℤ) (command : RunCommand) (cause : Option ℕ) → P s → P (after_checks unit s moment command cause).state
 checks_keep unit P lasting s moment command (Some number) holds = holds
 checks_keep unit P lasting s moment command None holds =
     first_keeps unit P lasting s moment command (settled_if (is_started s) unit (at_moment s moment)) holds
-        (settled_if_keeps unit P lasting.visits (is_started s) (at_moment s moment) (lasting.moments s moment holds))
+    (settled_if_keeps unit P lasting.visits (is_started s) (at_moment s moment) (lasting.moments s moment holds))
 
 pub step_keeps : (unit : Course) (P : RunState → Type 0) → IsLasting unit P → (s : RunState) (moment : ℤ) (command : RunCommand) → P s → P (step unit s moment command).state
 unfolding step

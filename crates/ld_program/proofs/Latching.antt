@@ -132,10 +132,10 @@ mark_is_no_change rule owner = record { started = refl; chosen = λ thing person
 
 yes_lasts : (unit : Course) (rule : RuleNo) (owner : Owner) → IsLasting unit (IsYes rule owner)
 yes_lasts unit rule owner = record {
-    visits = visit_yes unit rule owner;
-    moments = λ s moment told. told;
-    changes = λ s moment command told. ap says_yes (change_leaves unit s moment command (Mark rule owner) (mark_is_no_change rule owner)) ∙ told;
-  }
+  visits = visit_yes unit rule owner;
+  moments = λ s moment told. told;
+  changes = λ s moment command told. ap says_yes (change_leaves unit s moment command (Mark rule owner) (mark_is_no_change rule owner)) ∙ told;
+}
 
 pub stays_yes : (unit : Course) (s : RunState) (moment : ℤ) (command : RunCommand) (rule : RuleNo) (owner : Owner) → is_marked_yes s rule owner ≡ true → is_marked_yes (step unit s moment command).state rule owner ≡ true
 stays_yes unit s moment command rule owner told = step_keeps unit (IsYes rule owner) (yes_lasts unit rule owner) s moment command told

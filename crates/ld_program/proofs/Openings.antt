@@ -150,12 +150,12 @@ own_visit unit moment thing number t opens will =
     let marked : RunState = with_cell s (mark_of site) (Some (truth_datum true)) in
     let verdict : site_test unit s site ≡ true = ap (λ (rule : Option Rule). is_marked s (Some number) Run || rule_test unit s rule Run) opens.rule ∙ or-true (is_marked s (Some number) Run) in
     let fired : HasOpened moment thing (site_fired unit s site true) = record {
-        now = effect_leaves unit marked (slice_get (rules_of unit) number) Now (λ other. refl) ∙ will.now;
-        opened = ap (λ (rule : Option Rule). (effect unit marked rule).cells (ActOpened (record { 0 = thing }))) opens.rule ∙ effect_opens unit marked thing number opens ∙ will.now;
-      } in
+      now = effect_leaves unit marked (slice_get (rules_of unit) number) Now (λ other. refl) ∙ will.now;
+      opened = ap (λ (rule : Option Rule). (effect unit marked rule).cells (ActOpened (record { 0 = thing }))) opens.rule ∙ effect_opens unit marked thing number opens ∙ will.now;
+    } in
     let visited : HasOpened moment thing (visit_with unit t site true).state =
-        either_known (HasOpened moment thing) (mark_says (s.cells (mark_of site)) true) t (record { state = site_fired unit s site true; fired = t.fired + 1; rejected = t.rejected; sent = t.sent })
-            (λ says. record { now = will.now; opened = opened_if_marked moment thing number s will (says_true (s.cells (mark_of site)) says) }) fired in
+    either_known (HasOpened moment thing) (mark_says (s.cells (mark_of site)) true) t (record { state = site_fired unit s site true; fired = t.fired + 1; rejected = t.rejected; sent = t.sent })
+    (λ says. record { now = will.now; opened = opened_if_marked moment thing number s will (says_true (s.cells (mark_of site)) says) }) fired in
     subst (λ (v : Bool). HasOpened moment thing (visit_with unit t site v).state) (sym verdict) visited
 
 -- The visit of any site.
@@ -178,8 +178,9 @@ unmarked_visit unit moment thing number t site false opens will unmarked differs
 
 will_visit : (unit : Course) (moment : ℤ) (thing number : ℕ) (t : Tally) (site : Site) → Opens unit thing number → WillOpen moment thing number t.state → WillOpen moment thing number (site_visit unit t site).state
 will_visit unit moment thing number t site opens will = elim will.opened [
-    inl opened ↦ (let has = opened_visit unit moment thing t site (record { now = will.now; opened = opened }) in record { now = has.now; opened = inl has.opened })
-  | inr unmarked ↦ unmarked_visit unit moment thing number t site (same_cell (Mark (record { 0 = number }) Run) (mark_of site)) opens will unmarked refl ]
+  | inl opened ↦ (let has = opened_visit unit moment thing t site (record { now = will.now; opened = opened }) in record { now = has.now; opened = inl has.opened })
+  | inr unmarked ↦ unmarked_visit unit moment thing number t site (same_cell (Mark (record { 0 = number }) Run) (mark_of site)) opens will unmarked refl
+]
 
 -- ---- sweeps and settlings
 
@@ -187,7 +188,7 @@ visits_open : (unit : Course) (moment : ℤ) (thing number : ℕ) (t : Tally) (s
 visits_open unit moment thing number t [] opens there will = absurd there
 visits_open unit moment thing number t (site ∷ sites) opens (inl is) will =
     visits_keep unit (HasOpened moment thing) (opened_visit unit moment thing) (site_visit unit t site) sites
-        (subst (λ (o : Site). HasOpened moment thing (site_visit unit t o).state) is (own_visit unit moment thing number t opens will))
+    (subst (λ (o : Site). HasOpened moment thing (site_visit unit t o).state) is (own_visit unit moment thing number t opens will))
 visits_open unit moment thing number t (site ∷ sites) opens (inr there) will =
     visits_open unit moment thing number (site_visit unit t site) sites opens there (will_visit unit moment thing number t site opens will)
 
@@ -205,8 +206,8 @@ settling_opens unit moment thing number (suc n) s opens will =
     let swept : Tally = sweep unit s in
     let has : HasOpened moment thing swept.state = sweep_opens unit moment thing number s opens will in
     either_quiet (HasOpened moment thing) (swept.fired == 0) (Some (quiet_at s)) (after_turn swept (settling_within n unit swept.state))
-        (λ quiet. subst (λ (t : Tally). HasOpened moment thing t.state) (quiet_sweep unit s (eqb-true swept.fired 0 quiet)) has)
-        (after_turn_holds (HasOpened moment thing) swept (settling_within n unit swept.state) (settling_keeps unit (HasOpened moment thing) (opened_visit unit moment thing) n swept.state has))
+    (λ quiet. subst (λ (t : Tally). HasOpened moment thing t.state) (quiet_sweep unit s (eqb-true swept.fired 0 quiet)) has)
+    (after_turn_holds (HasOpened moment thing) swept (settling_within n unit swept.state) (settling_keeps unit (HasOpened moment thing) (opened_visit unit moment thing) n swept.state has))
 
 -- ---- the start
 
@@ -220,7 +221,7 @@ started_at s moment = with_cell (at_moment s moment) Started (Some (moment_datum
 first_opened : (unit : Course) (moment : ℤ) (thing number : ℕ) (s : RunState) (work : Work) → Opens unit thing number → is_marked_yes s (record { 0 = number }) Run ≡ false → (after_first unit s moment Start (Some (quiet_at (at_moment s moment)))).reply ≡ done work → HasOpened moment thing (after_first unit s moment Start (Some (quiet_at (at_moment s moment)))).state
 first_opened unit moment thing number s work opens unmarked accepted =
     finished_opened moment thing s (quiet_at (at_moment s moment)) (settled_if true unit (started_at s moment)) work
-        (settling_opens unit moment thing number (turns_of unit + 1) (started_at s moment) opens (record { now = refl; opened = inr unmarked })) accepted
+    (settling_opens unit moment thing number (turns_of unit + 1) (started_at s moment) opens (record { now = refl; opened = inr unmarked })) accepted
 
 checks_opened : (unit : Course) (moment : ℤ) (thing number : ℕ) (s : RunState) (cause : Option ℕ) (work : Work) → Opens unit thing number → is_started s ≡ false → is_marked_yes s (record { 0 = number }) Run ≡ false → (after_checks unit s moment Start cause).reply ≡ done work → HasOpened moment thing (after_checks unit s moment Start cause).state
 checks_opened unit moment thing number s (Some cause) work opens before unmarked accepted = cc

@@ -32,7 +32,7 @@ either_tells false x y this other = other
 refusal_tells : (number : ℕ) → Tells (refusal_text number)
 refusal_tells number =
     either_tells (number == 30) (codes "no 30 turn-budget") (if number == 31 then codes "no 31 not-open" else codes "no 1 bad-line") (λ rest more same. differ_at 3 _ _ refl same)
-        (either_tells (number == 31) (codes "no 31 not-open") (codes "no 1 bad-line") (λ rest more same. differ_at 3 _ _ refl same) (λ rest more same. differ_at 3 _ _ refl same))
+    (either_tells (number == 31) (codes "no 31 not-open") (codes "no 1 bad-line") (λ rest more same. differ_at 3 _ _ refl same) (λ rest more same. differ_at 3 _ _ refl same))
 
 done_tells : (run : Option RunOf) (command : RunCommand) (work : Work) → Tells (done_text run command work)
 done_tells run (Enrol person) work = λ rest more same. differ_at 0 _ _ refl same

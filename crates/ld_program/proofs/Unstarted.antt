@@ -56,10 +56,10 @@ started_change unit s moment (Tree person) told = told
 
 started_lasts : (unit : Course) → IsLasting unit HasStarted
 started_lasts unit = record {
-    visits = started_visit unit;
-    moments = λ s moment told. told;
-    changes = started_change unit;
-  }
+  visits = started_visit unit;
+  moments = λ s moment told. told;
+  changes = started_change unit;
+}
 
 pub stays_started : (unit : Course) (s : RunState) (moment : ℤ) (command : RunCommand) → is_started s ≡ true → is_started (step unit s moment command).state ≡ true
 stays_started unit s moment command told = step_keeps unit HasStarted (started_lasts unit) s moment command told
@@ -105,7 +105,7 @@ first_unstarted unit name s moment command quiet =
     let again : Bool = has_change command && is_started new in
     let same : new.cells name ≡ s.cells name = change_leaves unit here moment command name quiet.0 ∙ rw quiet.1 refl in
     either_unstarted name s (is_not_open unit here command) (refusal s 31) (finished s (quiet_at here) (settled_if again unit new)) (λ still. refl)
-        (finished_unstarted unit name s new (quiet_at here) again (second_true (has_change command) (is_started new)) same)
+    (finished_unstarted unit name s new (quiet_at here) again (second_true (has_change command) (is_started new)) same)
 
 checks_unstarted : (unit : Course) (name : CellName) (s : RunState) (moment : ℤ) (command : RunCommand) (cause : Option ℕ) → IsQuiet name → is_started s ≡ false → LeavesUnstarted name s (after_checks unit s moment command cause).state
 checks_unstarted unit name s moment command (Some number) quiet still = λ still. refl
@@ -148,9 +148,9 @@ came_unstarted unit s moment command false is still = is
 
 untouched_step : (unit : Course) (s : RunState) (moment : ℤ) (command : RunCommand) → IsUntouched s → IsUntouched (step unit s moment command).state
 untouched_step unit s moment command untouched = record {
-    opened = λ still thing. opens_nothing unit s moment command still thing ∙ untouched.opened (came_unstarted unit s moment command (is_started s) refl still) thing;
-    marked = λ still rule owner. ap says_yes (marks_nothing unit s moment command still rule owner) ∙ untouched.marked (came_unstarted unit s moment command (is_started s) refl still) rule owner;
-  }
+  opened = λ still thing. opens_nothing unit s moment command still thing ∙ untouched.opened (came_unstarted unit s moment command (is_started s) refl still) thing;
+  marked = λ still rule owner. ap says_yes (marks_nothing unit s moment command still rule owner) ∙ untouched.marked (came_unstarted unit s moment command (is_started s) refl still) rule owner;
+}
 
 untouched_after : (unit : Course) (s : RunState) (history : List Given) → IsUntouched s → IsUntouched (state_after unit s history)
 untouched_after unit s [] untouched = untouched
