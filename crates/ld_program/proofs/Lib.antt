@@ -10,3 +10,9 @@ pub mod Held
 pub mod Settled
 pub mod Worlds
 pub mod Indents
+pub mod Kept
+pub mod Latching
+pub mod Unstarted
+pub mod Places
+pub mod Openings
+pub mod Told

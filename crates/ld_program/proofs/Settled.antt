@@ -38,7 +38,7 @@ visits_count : (unit : Course) (t : Tally) (sites : List Site) → CountsUp t (f
 visits_count unit t [] = (omega arith, λ same. refl)
 visits_count unit t (site ∷ sites) = step_up t (site_visit unit t site) (fold (site_visit unit) (site_visit unit t site) sites) (visit_counts unit t site) (visits_count unit (site_visit unit t site) sites)
 
-quiet_sweep : (unit : Course) (s : RunState) → (sweep unit s).fired ≡ 0 → sweep unit s ≡ tally_from s
+pub quiet_sweep : (unit : Course) (s : RunState) → (sweep unit s).fired ≡ 0 → sweep unit s ≡ tally_from s
 quiet_sweep unit s quiet = (visits_count unit (tally_from s) (sites_of unit (length s.persons))).1 quiet
 
 -- ---- a settling, sweep by sweep

@@ -12,7 +12,7 @@ use Rattle.ld_program.specs.Answers.{block_for}
 use Rattle.ld_program.specs.Reply.{reply_block, refusal_text, done_text}
 use Rattle.ld_program.specs.Step.{Work, Reply, done, refused, refusal, step}
 use Rattle.ld_program.specs.Turn.{IsAnswered, IsTold, IsToldOfRun, at_state, first_at_state, with_first_state, left_by}
-use Rattle.ld_program.specs.World.{RunOf, WorldState, WorldOutcome, line_outcome, world_step, world_refusal, no_work, run_named, with_state, step_run, with_outcome}
+use Rattle.ld_program.specs.World.{RunOf, WorldState, WorldOutcome, line_outcome, world_step, world_refusal, no_work, run_named, with_state, step_run, with_outcome, has_run}
 
 pub on_ok : {T E : Type 0} {P Q : Type 0} (r : Result T E) → OnOk r P → (P → Q) → OnOk r Q
 on_ok (Ok x) p f = f p
@@ -50,9 +50,9 @@ pub creates_nothing : (unit : Course) (runs : List RunOf) (moment : Moment) (nam
 unfolding world_step line_outcome
 creates_nothing unit runs moment name id differs = rw differs refl
 
-pub creates_no_second : (unit : Course) (run : RunOf) (moment : Moment) (name id : List ℕ) → bytes_eq unit.identifier id ≡ true → world_step (record { units = unit ∷ []; runs = run ∷ [] }) (Some (Create moment name id)) ≡ world_refusal (record { units = unit ∷ []; runs = run ∷ [] }) 3
+pub creates_no_second : (unit : Course) (runs : List RunOf) (moment : Moment) (name id : List ℕ) → bytes_eq unit.identifier id ≡ true → has_run runs ≡ true → world_step (record { units = unit ∷ []; runs = runs }) (Some (Create moment name id)) ≡ world_refusal (record { units = unit ∷ []; runs = runs }) 3
 unfolding world_step line_outcome
-creates_no_second unit run moment name id same = rw same refl
+creates_no_second unit runs moment name id same has = rw same (rw has refl)
 
 pub creates : (unit : Course) (moment : Moment) (name id : List ℕ) → bytes_eq unit.identifier id ≡ true → world_step (record { units = unit ∷ []; runs = [] }) (Some (Create moment name id)) ≡ record { reply = done no_work; world = record { units = unit ∷ []; runs = record { name = name; unit = unit; state = state_at_first moment.0 } ∷ [] } }
 unfolding world_step line_outcome

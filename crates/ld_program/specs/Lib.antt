@@ -23,3 +23,4 @@ pub mod Stepping
 pub mod Turn
 pub mod FiringView
 pub mod TreeView
+pub mod Histories

@@ -17,6 +17,8 @@ use std::marker::Brand;
 use std::sync::ledger::{Blank, Ledger};
 use std::test::Fail;
 
+mod refusals;
+
 const ROLES: &str = r#"{"roles":[{"identifier":"learner","kind":"learner"}]}"#;
 
 const ACTIVITIES: &str =
@@ -190,71 +192,6 @@ fn histories_are_answered(rt: HostRuntime) -> Result<(), Fail> {
         assert_eq!(rt; status, 0, "at {lines}");
         assert_eq!(rt; written.as_slice(), replies.as_bytes(), "at {lines}");
     }
-    Ok(())
-}
-
-#[test]
-fn a_run_refuses_what_it_should(rt: HostRuntime) -> Result<(), Fail> {
-    // What stands before `:` is said at that hour, in a run with ann, who holds the role, and bob,
-    // who does not.
-    let lines = r#"["2024-01-01T08:00:00Z","create","r","u1"]
-["2024-01-01T08:00:00Z","create","s","u1"]
-["2024-01-01T08:00:00Z","enrol","r","ann"]
-["2024-01-01T08:00:00Z","enrol","r","ann"]
-["2024-01-01T08:00:00Z","enrol","q","ann"]
-["2024-01-01T08:00:00Z","enrol","r","bob"]
-["2024-01-01T08:00:00Z","assign","r","ann","learner"]
-["2024-01-01T08:00:00Z","assign","r","ann","learner"]
-["2024-01-01T08:00:00Z","assign","r","ann","guest"]
-["2024-01-01T08:00:00Z","assign","r","zoe","learner"]
-["2024-01-01T08:00:00Z","tree","r","ann"]
-["2024-01-01T08:00:00Z","complete","r","ann","read"]
-["2024-01-01T07:59:59Z","start","r"]
-["2024-01-01T09:00:00Z","start","r"]
-["2024-01-01T09:00:00Z","start","r"]
-["2024-01-01T09:10:00Z","complete","r","ann","write"]
-["2024-01-01T09:10:00Z","complete","r","bob","read"]
-["2024-01-01T09:05:00Z","tree","r","bob"]
-["2024-01-01T09:04:59Z","tree","r","bob"]
-["2024-01-01T09:20:00Z","complete","r","ann","read"]
-["2024-01-01T09:30:00Z","assign","r","bob","learner"]
-["2024-01-01T09:30:00Z","tree","r","bob"]
-"#;
-    let replies = r#"ok create
-no 1 bad-line
-ok enrol turns=0 fired=0 rejected=0 sent=0
-no 1 bad-line
-no 1 bad-line
-ok enrol turns=0 fired=0 rejected=0 sent=0
-ok assign turns=0 fired=0 rejected=0 sent=0
-no 1 bad-line
-no 1 bad-line
-no 1 bad-line
-no 1 bad-line
-no 1 bad-line
-no 1 bad-line
-ok start turns=1 fired=1 rejected=0 sent=0
-no 1 bad-line
-no 1 bad-line
-no 31 not-open
-ok tree turns=0 fired=0 rejected=0 sent=0 lines=3
-unit u1 open "First"
-  play p open
-    act a open
-no 1 bad-line
-ok complete turns=1 fired=2 rejected=0 sent=0
-ok assign turns=0 fired=0 rejected=0 sent=0
-ok tree turns=0 fired=0 rejected=0 sent=0 lines=6
-unit u1 open "First"
-  play p open
-    act a open
-      part rp done
-        activity read open "Read"
-          item i1 text.html "Text"
-"#;
-    let (status, written) = ran(rt.alloc(), &first(lines.as_bytes()))?;
-    assert_eq!(rt; status, 0);
-    assert_eq!(rt; written.as_slice(), replies.as_bytes());
     Ok(())
 }
 

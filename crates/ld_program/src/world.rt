@@ -5,7 +5,7 @@ ghost use Rattle.ld_lines.specs.declared.command.Line.TheVariants as line;
 ghost use Rattle.ld_program.specs.Answers.{AnswersLine, line_of, block_for, no_memory_block};
 ghost use Rattle.ld_program.specs.Reply.{refusal_text};
 ghost use Rattle.ld_program.specs.Turn.{IsAnswered, IsTold, IsToldOfRun, with_first_state};
-ghost use Rattle.ld_program.specs.World.{first_world};
+ghost use Rattle.ld_program.specs.World.{first_world, has_run};
 ghost use Rattle.ld_program.specs.WorldView.{world_of, run_of};
 ghost use Rattle.std.specs.Option.{option_map};
 ghost use Rattle.ld_program.specs.StateView.{state_of};
@@ -113,7 +113,7 @@ impl World {
         if self.prepared.unit.identifier != *unit {
             return refuse(2, out);
         }
-        if let Some(_) = &self.run {
+        if self.has_run() {
             return refuse(3, out);
         }
         out.clear();
@@ -121,6 +121,13 @@ impl World {
         let state = State::new(alloc, moment);
         self.run = Some(Run { name, state });
         Ok(())
+    }
+
+    /// Whether a run was made.
+    fn has_run(&self) -> bool
+        ensures { result ≡ has_run (world_of self.now).runs }
+    {
+        self.run.is_some()
     }
 
     /// Does what is asked of the run of the name.

@@ -1,0 +1,54 @@
+-- What is where in lists whose elements are counted.
+use Rattle.std.proofs.Common.{◌≡◌, ◌⊎◌, inl, inr, ℕ, suc, zero, ◌+◌, List, [], ◌∷◌, ◌++◌, Bool, true, false, cond, Option, Some, slice_get, refl, sym, ap, subst, ◌∙◌, arith}
+use Rattle.std.specs.List.{position_from}
+use Rattle.ld_model.specs.Counting.{each_numbered, each_numbered_from}
+
+-- The element is in the list.
+abbrev pub IsIn : {A : Type 0} → A → List A → Type 0
+IsIn x [] = ⊥
+IsIn x (y ∷ ys) = (x ≡ y) ⊎ IsIn x ys
+
+in_front : {A : Type 0} (x : A) (xs ys : List A) → IsIn x xs → IsIn x (xs ++ ys)
+in_front x [] ys there = absurd there
+in_front x (y ∷ xs) ys (inl same) = inl same
+in_front x (y ∷ xs) ys (inr there) = inr (in_front x xs ys there)
+
+pub in_back : {A : Type 0} (x : A) (xs ys : List A) → IsIn x ys → IsIn x (xs ++ ys)
+in_back x [] ys there = there
+in_back x (y ∷ xs) ys there = inr (in_back x xs ys there)
+
+-- The place of an element.
+pub place_of : {A : Type 0} (x : A) (xs : List A) → IsIn x xs → (k : ℕ) × (slice_get xs k ≡ Some x)
+place_of x [] there = absurd there
+place_of x (y ∷ xs) (inl same) = (0, ap Some (sym same))
+place_of x (y ∷ xs) (inr there) = let rest = place_of x xs there in (suc rest.0, rest.1)
+
+-- What an element and its number give is among what all give.
+in_numbered : {A B : Type 0} (f : ℕ → A → List B) (n : ℕ) (xs : List A) (k : ℕ) (x : A) (y : B) → slice_get xs k ≡ Some x → IsIn y (f (n + k) x) → IsIn y (each_numbered_from f n xs)
+in_numbered f n [] k x y at there = cc
+in_numbered f n (z ∷ xs) zero x y at there =
+    let number : n + 0 ≡ n = omega arith in
+    let first : f (n + 0) x ≡ f n z = cc in
+    in_front y (f n z) (each_numbered_from f (n + 1) xs) (subst (IsIn y) first there)
+in_numbered f n (z ∷ xs) (suc k) x y at there =
+    let number : n + suc k ≡ n + 1 + k = omega arith in
+    in_back y (f n z) (each_numbered_from f (n + 1) xs) (in_numbered f (n + 1) xs k x y at (subst (λ (m : ℕ). IsIn y (f m x)) number there))
+
+pub in_each : {A B : Type 0} (f : ℕ → A → List B) (xs : List A) (k : ℕ) (x : A) (y : B) → slice_get xs k ≡ Some x → IsIn y (f k x) → IsIn y (each_numbered f xs)
+in_each f xs k x y at there =
+    let number : k ≡ 0 + k = omega arith in
+    in_numbered f 0 xs k x y at (subst (λ (m : ℕ). IsIn y (f m x)) number there)
+
+first_or_later : (b : Bool) (i : ℕ) (rest : Option ℕ) → (j : ℕ) × (rest ≡ Some j) → (j : ℕ) × (cond b (Some i) rest ≡ Some j)
+first_or_later true i rest found = (i, refl)
+first_or_later false i rest found = found
+
+first_passes : (b : Bool) (i : ℕ) (rest : Option ℕ) → b ≡ true → (j : ℕ) × (cond b (Some i) rest ≡ Some j)
+first_passes true i rest passes = (i, refl)
+first_passes false i rest passes = cc
+
+-- There is a first element that passes the test, if one does.
+pub has_position : {A : Type 0} (test : A → Bool) (i : ℕ) (xs : List A) (x : A) → IsIn x xs → test x ≡ true → (j : ℕ) × (position_from test i xs ≡ Some j)
+has_position test i [] x there passes = absurd there
+has_position test i (y ∷ xs) x (inl same) passes = first_passes (test y) i (position_from test (i + 1) xs) (ap test (sym same) ∙ passes)
+has_position test i (y ∷ xs) x (inr there) passes = first_or_later (test y) i (position_from test (i + 1) xs) (has_position test (i + 1) xs x there passes)
