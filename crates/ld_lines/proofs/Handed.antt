@@ -73,6 +73,12 @@ Handed-next (WholeLine line) handed out = (_, on handed out.piece out.takes (lin
 Handed-next OverLine handed out = (_, out.bytes.0, out.bytes.1, on handed out.piece out.takes (out.bytes.0 ∷ []) out.bytes.2)
 Handed-next NoLine handed out =
     let none = out.bytes.0 in
-    (_, finished handed out.piece out.takes none out.bytes.1 out.bytes.2, ended handed out.piece out.takes none, all_of handed out.piece out.takes out.bytes.2)
+    let count = counted handed out.piece out.takes in (
+      _,
+      finished handed out.piece out.takes none out.bytes.1 out.bytes.2,
+      ended handed out.piece out.takes none,
+      rw (← count) out.bytes.3,
+      all_of handed out.piece out.takes out.bytes.2,
+    )
 Handed-next Fault handed out = (_, stopped handed out.piece out.takes out.bytes.0 out.bytes.1)
 Handed-next TooLong handed out = (_, stopped handed out.piece out.takes out.bytes.0 out.bytes.1)

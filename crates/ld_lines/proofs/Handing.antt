@@ -130,7 +130,7 @@ HandsOut-none {old} {mid} {new} {before} {between} {now} passed cut limit =
       after_end = after_end NoLine passed cut;
       piece = passed.piece ++ cut.piece;
       takes = taken NoLine passed cut;
-      bytes = (none, cut.cuts_of.1, told);
+      bytes = (none, cut.cuts_of.1, told, cut.cuts_of.3);
       progress = tt;
       limit = limit;
     }

@@ -24,12 +24,12 @@ FitsLines old before NoLine new now = KnowsEnd old before → IsEnd now × IfSom
 FitsLines old before Fault new now = Unit {0}
 FitsLines old before TooLong new now = Unit {0}
 
--- The answer fits the bytes that were held or taken, whatever comes behind them. At a stop no line
--- among them is ended, and the end was not told.
+-- The answer fits the bytes that were held or taken, whatever comes behind them. The end is told below
+-- the limit alone. At a stop no line among them is ended, and the end was not told.
 abbrev pub FitsBytes : List ℕ → Answer → Reading → Type 0
 FitsBytes bytes (WholeLine line) new = IsWhole line × Leaves bytes (line ∷ []) new
 FitsBytes bytes OverLine new = (long : List ℕ) × (65536 < length long) × Leaves bytes (long ∷ []) new
-FitsBytes bytes NoLine new = (lines_of bytes ≡ []) × (new.held ≡ []) × (new.ended ≡ true)
+FitsBytes bytes NoLine new = (lines_of bytes ≡ []) × (new.held ≡ []) × (new.ended ≡ true) × (new.taken < 2 ^ 40)
 FitsBytes bytes Fault new = (ended_lines_of bytes ≡ []) × (new.ended ≡ false) × (new.taken < 2 ^ 40)
 FitsBytes bytes TooLong new = (ended_lines_of bytes ≡ []) × (new.ended ≡ false) × (new.taken ≡ 2 ^ 40)
 

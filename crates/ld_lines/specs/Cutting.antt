@@ -45,7 +45,7 @@ pub record Fetches (old : Reading) (before : Option (List ℕ)) (new : Reading) 
 abbrev pub CutsOf : List ℕ → Answer → Reading → Type 0
 CutsOf bytes (WholeLine line) new = Ends bytes line new × (length line ≤ 65536)
 CutsOf bytes OverLine new = (long : List ℕ) × Ends bytes long new × (65536 < length long)
-CutsOf bytes NoLine new = (bytes ≡ []) × (new.held ≡ []) × (new.ended ≡ true)
+CutsOf bytes NoLine new = (bytes ≡ []) × (new.held ≡ []) × (new.ended ≡ true) × (new.taken < 2 ^ 40)
 CutsOf bytes Fault new = HasNoFeed bytes × (new.ended ≡ false)
 CutsOf bytes TooLong new = HasNoFeed bytes × (new.ended ≡ false)
 

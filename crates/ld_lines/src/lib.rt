@@ -8,4 +8,5 @@ pub mod lines;
 pub mod next;
 pub mod read;
 mod reader;
+pub mod refusal;
 pub mod stop;

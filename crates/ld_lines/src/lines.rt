@@ -49,7 +49,8 @@ impl Lines {
     /// memory.
     ///
     /// The lines are of one source: each call is given the same. Once it told its end, it is not
-    /// asked again, and every further answer is `End`.
+    /// asked again, and every further answer is `End`. The end comes only where fewer than 2^40 bytes
+    /// were taken.
     ///
     /// # Errors
     /// `ReadFault` only where the source's count of faults rose. `InputTooLong` exactly where 2^40

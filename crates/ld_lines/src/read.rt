@@ -227,3 +227,6 @@ pub fn read_command(alloc: Global, bytes: &[u8]) -> Result<Line, LineFault>
     let words = texts(alloc, items)?;
     line(alloc, &words)
 }
+
+#[cfg(test)]
+mod tests;

@@ -32,7 +32,7 @@ impl Model for Reader {
 
     ghost view = { λ r. record { line = r.buffer.line; reading = record { held = r.buffer.held; taken = r.taken; ended = r.ended } } };
 
-    ghost invariant = { λ r. (r.taken ≤ 2 ^ 40) × (r.ended ≡ true → r.buffer.held ≡ []) };
+    ghost invariant = { λ r. (r.taken ≤ 2 ^ 40) × (r.ended ≡ true → r.buffer.held ≡ []) × (r.ended ≡ true → r.taken < 2 ^ 40) };
 }
 
 impl Reader {
@@ -68,6 +68,7 @@ impl Reader {
         ensures fetches { Fetches self.old.reading (S.left source.old) self.new.reading (S.left source.new) }
         ensures count { IfOk result (λ n. self.new.reading.taken ≡ self.old.reading.taken + n) }
         ensures end { IfOk result (λ n. n ≡ 0 → IsEnd (S.left source.new)) }
+        ensures below { IfOk result (λ n. n ≡ 0 → self.new.reading.taken < 2 ^ 40) }
         ensures limit { self.new.reading.taken ≤ 2 ^ 40 }
         ensures err { OnErr result (self.new.reading ≡ self.old.reading) }
         ensures read_fault { result ≡ Err LineStop.ReadFault → Rose (S.faults source.old) (S.faults source.new) }
@@ -193,6 +194,7 @@ impl Reader {
     fn cut_last(&mut self) -> Cut
         requires clear { HasNoFeed self.old.reading.held }
         requires room { length self.old.reading.held ≤ 65536 }
+        requires below { self.old.reading.taken < 2 ^ 40 }
         ensures cuts { CutsOf self.old.reading.held (answer_of_cut self.new.line (Ok result)) self.new.reading }
         ensures taken { self.new.reading.taken ≡ self.old.reading.taken }
     {
@@ -231,8 +233,9 @@ impl Reader {
         self.buffer.cut(at);
     }
 
-    /// Cuts off what is held: the source told its end.
+    /// Cuts off what is held: the source told its end, below the limit of all bytes.
     fn finish(&mut self)
+        requires below { self.old.reading.taken < 2 ^ 40 }
         ensures line { self.new.line ≡ self.old.reading.held }
         ensures held { self.new.reading.held ≡ [] }
         ensures taken { self.new.reading.taken ≡ self.old.reading.taken }
