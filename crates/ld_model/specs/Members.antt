@@ -7,12 +7,8 @@ use Rattle.ld_model.specs.declared.method.Play.{Play}
 use Rattle.ld_model.specs.declared.method.RolePart.{RolePart}
 use Rattle.ld_model.specs.declared.unit.Unit.{Unit as Course}
 use Rattle.ld_model.specs.Counting.{number_where, numbers_below}
-use Rattle.ld_model.specs.Roles.{roles_of}
+use Rattle.ld_model.specs.Names.{role_number}
 use Rattle.ld_model.specs.State.{PersonState, RunState}
-
--- The number of the role of this identifier.
-abbrev pub role_number : Course → List ℕ → Option ℕ
-role_number unit id = number_where (λ role. bytes_eq role.identifier id) (roles_of unit)
 
 -- The number of the activity of this identifier among the activities.
 abbrev pub activity_number : Course → List ℕ → Option ℕ

@@ -96,6 +96,17 @@ thing_among (Some (Role _)) = None
 thing_among (Some (Prop _)) = None
 thing_among (Some (Thing t)) = Some t.0
 
+abbrev pub role_among : Option Named → Option ℕ
+role_among None = None
+role_among (Some Whole) = None
+role_among (Some (Role r)) = Some r.0
+role_among (Some (Prop _)) = None
+role_among (Some (Thing _)) = None
+
+-- The number of the role that the identifier names.
+abbrev pub role_number : Course → List ℕ → Option ℕ
+role_number unit id = role_among (named_by (names_of unit) id)
+
 -- The number of the thing that the identifier names.
 abbrev pub thing_number : Course → List ℕ → Option ℕ
 thing_number unit id = thing_among (named_by (names_of unit) id)

@@ -11,7 +11,7 @@ use Rattle.std.specs.Cmp.Lexicographic.{slice_cmp}
 use Rattle.std.specs.List.{list_any}
 use Rattle.std.specs.Ordering.{nat_cmp}
 use Rattle.std.specs.Str.{bytes_eq}
-use Rattle.ld_model.specs.Validity.{all_differ}
+use Rattle.ld_model.specs.Identifiers.{all_differ}
 
 abbrev texts_of : List (Bor (List ℕ)) → List (List ℕ)
 texts_of = map (λ text. text.now)

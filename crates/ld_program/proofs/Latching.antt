@@ -6,10 +6,13 @@ use Rattle.ld_base.specs.declared.numbers.ThingNo.{ThingNo}
 use Rattle.ld_lines.specs.declared.command.RunCommand.{RunCommand}
 use Rattle.ld_lines.specs.declared.command.RunCommand.TheVariants.{Enrol, Assign, Start, Complete, Tree}
 use Rattle.ld_model.specs.Cells.{same_cell, same_owner}
-use Rattle.ld_model.specs.Members.{person_number, role_number}
-use Rattle.ld_model.specs.Rules.{Rule, completes_activity, opens_act, completes_part, rules_of, Site}
+use Rattle.ld_model.specs.Members.{person_number}
+use Rattle.ld_model.specs.Names.{role_number}
+use Rattle.ld_model.specs.Rules.{rules_of, Site}
+use Rattle.ld_model.specs.declared.rule.Rule.{Rule}
+use Rattle.ld_model.specs.declared.rule.Rule.TheVariants.{CompletesActivity, OpensAct, CompletesPart}
 use Rattle.ld_model.specs.State.{RunState, with_cell, says_yes}
-use Rattle.ld_model.specs.Things.{thing_number}
+use Rattle.ld_model.specs.Names.{thing_number}
 use Rattle.ld_model.specs.declared.cell.CellName.{CellName}
 use Rattle.ld_model.specs.declared.cell.CellName.TheVariants.{Chosen, ActOpened, Started, Mark}
 use Rattle.ld_model.specs.declared.cell.Owner.{Owner}
@@ -62,9 +65,9 @@ act_leaves unit s (Some act) name other = opening_leaves s (thing_number unit ac
 
 pub effect_leaves : (unit : Course) (s : RunState) (rule : Option Rule) (name : CellName) → IsNoOpening name → (effect unit s rule).cells name ≡ s.cells name
 effect_leaves unit s None name other = refl
-effect_leaves unit s (Some (completes_activity a)) name other = refl
-effect_leaves unit s (Some (opens_act p a)) name other = act_leaves unit s (act_at unit p a) name other
-effect_leaves unit s (Some (completes_part p a r)) name other = refl
+effect_leaves unit s (Some (CompletesActivity a)) name other = refl
+effect_leaves unit s (Some (OpensAct p a)) name other = act_leaves unit s (act_at unit p a) name other
+effect_leaves unit s (Some (CompletesPart p a r)) name other = refl
 
 -- ---- a mark that says yes
 

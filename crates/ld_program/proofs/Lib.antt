@@ -3,7 +3,6 @@ pub mod Replaying
 pub mod Differing
 pub mod Flattened
 pub mod JsonTrees
-pub mod PartIdentifiers
 pub mod Ranges
 pub mod Copied
 pub mod Held
@@ -16,3 +15,4 @@ pub mod Unstarted
 pub mod Places
 pub mod Openings
 pub mod Told
+pub mod RoleRows

@@ -8,7 +8,9 @@ use Rattle.std.proofs.lemmas.Cmp.{nat_list_eq_equiv, nat_eq_equiv}
 use Rattle.ld_lines.specs.declared.command.RunCommand.TheVariants.{Start}
 use Rattle.ld_model.specs.Cells.{same_cell}
 use Rattle.ld_model.specs.Counting.{each_numbered}
-use Rattle.ld_model.specs.Rules.{Rule, completes_activity, opens_act, completes_part, Site, rules_of, sites_of, sites_of_rule, activity_rule, play_rules, act_rules}
+use Rattle.ld_model.specs.Rules.{Site, rules_of, sites_of, sites_of_rule, activity_rule, play_rules, act_rules}
+use Rattle.ld_model.specs.declared.rule.Rule.{Rule}
+use Rattle.ld_model.specs.declared.rule.Rule.TheVariants.{CompletesActivity, OpensAct, CompletesPart}
 use Rattle.ld_model.specs.State.{RunState, with_cell, says_yes, moment_in}
 use Rattle.ld_model.specs.Things.{Entry, things_of, thing_number, activity_entries, play_entries, act_entries}
 use Rattle.ld_model.specs.declared.cell.CellName.{CellName}
@@ -43,17 +45,17 @@ has_thing unit p act first =
     let in_unit : IsIn entry (things_of unit) = in_back entry (each_numbered activity_entries unit.activities) (each_numbered play_entries unit.method.plays) (in_each play_entries unit.method.plays p play.0 entry play.1 in_play) in
     has_position (λ (e : Entry). bytes_eq e.identifier act.identifier) 0 (things_of unit) entry in_unit (nat_list_eq_equiv.refl act.identifier)
 
-has_rule : (unit : Course) (p : ℕ) (act : Act) → act_at unit p 0 ≡ Some act → (number : ℕ) × (slice_get (rules_of unit) number ≡ Some (opens_act p 0))
+has_rule : (unit : Course) (p : ℕ) (act : Act) → act_at unit p 0 ≡ Some act → (number : ℕ) × (slice_get (rules_of unit) number ≡ Some (OpensAct p 0))
 has_rule unit p act first =
     let play = play_of_act unit p (slice_get unit.method.plays p) act refl first in
-    let in_play : IsIn (opens_act p 0) (play_rules p play.0) = in_each (act_rules p) play.0.acts 0 act (opens_act p 0) play.2 (inl refl) in
-    place_of (opens_act p 0) (rules_of unit) (in_back (opens_act p 0) (each_numbered activity_rule unit.activities) (each_numbered play_rules unit.method.plays) (in_each play_rules unit.method.plays p play.0 (opens_act p 0) play.1 in_play))
+    let in_play : IsIn (OpensAct p 0) (play_rules p play.0) = in_each (act_rules p) play.0.acts 0 act (OpensAct p 0) play.2 (inl refl) in
+    place_of (OpensAct p 0) (rules_of unit) (in_back (OpensAct p 0) (each_numbered activity_rule unit.activities) (each_numbered play_rules unit.method.plays) (in_each play_rules unit.method.plays p play.0 (OpensAct p 0) play.1 in_play))
 
 abbrev site_for : ℕ → Site
 site_for number = record { rule = number; owner = Run }
 
-has_site : (unit : Course) (persons number p : ℕ) → slice_get (rules_of unit) number ≡ Some (opens_act p 0) → IsIn (site_for number) (sites_of unit persons)
-has_site unit persons number p rule = in_each (sites_of_rule persons) (rules_of unit) number (opens_act p 0) (site_for number) rule (inl refl)
+has_site : (unit : Course) (persons number p : ℕ) → slice_get (rules_of unit) number ≡ Some (OpensAct p 0) → IsIn (site_for number) (sites_of unit persons)
+has_site unit persons number p rule = in_each (sites_of_rule persons) (rules_of unit) number (OpensAct p 0) (site_for number) rule (inl refl)
 
 -- ---- an act that has opened
 
@@ -76,9 +78,9 @@ act_keeps unit s (Some act) moment thing has = opening_keeps s (thing_number uni
 
 effect_keeps : (unit : Course) (s : RunState) (rule : Option Rule) (moment : ℤ) (thing : ℕ) → HasOpened moment thing s → (effect unit s rule).cells (ActOpened (record { 0 = thing })) ≡ Some (moment_datum moment)
 effect_keeps unit s None moment thing has = has.opened
-effect_keeps unit s (Some (completes_activity a)) moment thing has = has.opened
-effect_keeps unit s (Some (opens_act p a)) moment thing has = act_keeps unit s (act_at unit p a) moment thing has
-effect_keeps unit s (Some (completes_part p a r)) moment thing has = has.opened
+effect_keeps unit s (Some (CompletesActivity a)) moment thing has = has.opened
+effect_keeps unit s (Some (OpensAct p a)) moment thing has = act_keeps unit s (act_at unit p a) moment thing has
+effect_keeps unit s (Some (CompletesPart p a r)) moment thing has = has.opened
 
 now_visit : (unit : Course) (t : Tally) (site : Site) → (site_visit unit t site).state.cells Now ≡ t.state.cells Now
 now_visit unit t site = visit_leaves unit t site Now (λ thing. refl) (λ other. refl)
@@ -109,14 +111,14 @@ record Opens (unit : Course) (thing number : ℕ) : Type 0 where
   act : Act
   first : act_at unit play 0 ≡ Some act
   is_thing : thing_number unit act.identifier ≡ Some thing
-  rule : slice_get (rules_of unit) number ≡ Some (opens_act play 0)
+  rule : slice_get (rules_of unit) number ≡ Some (OpensAct play 0)
 
 if_true : {A : Type 0} (b : Bool) (x y : A) → b ≡ true → (if b then x else y) ≡ x
 if_true true x y is = refl
 if_true false x y is = cc
 
 -- Setting the act open.
-effect_opens : (unit : Course) (s : RunState) (thing number : ℕ) (opens : Opens unit thing number) → (effect unit s (Some (opens_act opens.play 0))).cells (ActOpened (record { 0 = thing })) ≡ s.cells Now
+effect_opens : (unit : Course) (s : RunState) (thing number : ℕ) (opens : Opens unit thing number) → (effect unit s (Some (OpensAct opens.play 0))).cells (ActOpened (record { 0 = thing })) ≡ s.cells Now
 effect_opens unit s thing number opens =
     ap (λ (a : Option Act). (open_act unit s a).cells (ActOpened (record { 0 = thing }))) opens.first
     ∙ ap (λ (o : Option ℕ). (open_thing s o).cells (ActOpened (record { 0 = thing }))) opens.is_thing

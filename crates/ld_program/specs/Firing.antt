@@ -4,9 +4,11 @@ use Rattle.std.specs.List.{fold}
 use Rattle.ld_value.specs.Datum.{Datum, truth_datum, same_truth}
 use Rattle.ld_base.specs.declared.numbers.RuleNo.{RuleNo}
 use Rattle.ld_base.specs.declared.numbers.ThingNo.{ThingNo}
-use Rattle.ld_model.specs.Rules.{Rule, completes_activity, opens_act, completes_part, rules_of, Site, sites_of}
+use Rattle.ld_model.specs.Rules.{rules_of, Site, sites_of}
+use Rattle.ld_model.specs.declared.rule.Rule.{Rule}
+use Rattle.ld_model.specs.declared.rule.Rule.TheVariants.{CompletesActivity, CompletesStructure, OpensAct, CompletesPart, CompletesAct, CompletesPlay, CompletesUnit, JudgesCondition}
 use Rattle.ld_model.specs.State.{RunState, with_cell}
-use Rattle.ld_model.specs.Things.{thing_number}
+use Rattle.ld_model.specs.Names.{thing_number}
 use Rattle.ld_model.specs.declared.cell.CellName.{CellName}
 use Rattle.ld_model.specs.declared.cell.CellName.TheVariants.{ActOpened, Mark, Now}
 use Rattle.ld_model.specs.declared.method.Act.{Act}
@@ -43,9 +45,14 @@ open_act unit s (Some act) = open_thing s (thing_number unit act.identifier)
 -- or sent on completion yet.)
 abbrev pub effect : Course → RunState → Option Rule → RunState
 effect unit s None = s
-effect unit s (Some (completes_activity _)) = s
-effect unit s (Some (opens_act p a)) = open_act unit s (act_at unit p a)
-effect unit s (Some (completes_part _ _ _)) = s
+effect unit s (Some (CompletesActivity _)) = s
+effect unit s (Some (OpensAct p a)) = open_act unit s (act_at unit p a)
+effect unit s (Some (CompletesPart _ _ _)) = s
+effect unit s (Some (CompletesStructure _)) = s
+effect unit s (Some (CompletesAct _ _)) = s
+effect unit s (Some (CompletesPlay _)) = s
+effect unit s (Some CompletesUnit) = s
+effect unit s (Some (JudgesCondition _)) = s
 
 -- First the mark takes the verdict, and then the effect follows.
 abbrev pub site_fired : Course → RunState → Site → Bool → RunState
@@ -83,11 +90,7 @@ unfoldable pub settling_within : ℕ → Course → RunState → Option Settling
 settling_within zero unit s = None
 settling_within (suc n) unit s = if (sweep unit s).fired == 0 then Some (quiet_at s) else after_turn (sweep unit s) (settling_within n unit (sweep unit s).state)
 
--- The number of sweeps of a settling that may fire.
-abbrev pub turns_of : Course → ℕ
-turns_of unit = 64
-
 -- The settling of a run. It passes the budget, and there is none, where one sweep more than the
 -- budget fires.
 abbrev pub settling : Course → RunState → Option Settling
-settling unit s = settling_within (turns_of unit + 1) unit s
+settling unit s = settling_within (unit.turns + 1) unit s

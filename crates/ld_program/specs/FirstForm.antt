@@ -9,14 +9,17 @@ use Rattle.serde_json.specs.Find.{get, as_object, as_array, as_str, as_bool, as_
 use Rattle.ld_base.specs.Identifier.{has_identifier_form}
 use Rattle.ld_base.specs.Outside.{Files}
 use Rattle.ld_model.specs.declared.activity.Activity.{Activity}
-use Rattle.ld_model.specs.declared.activity.Completion.{Completion}
-use Rattle.ld_model.specs.declared.activity.Completion.TheVariants.{UserChoice}
-use Rattle.ld_model.specs.declared.activity.Item.{Item}
+use Rattle.ld_model.specs.declared.completion.Completion.{Completion}
+use Rattle.ld_model.specs.declared.completion.Completion.TheVariants.{UserChoice}
+use Rattle.ld_model.specs.declared.item.Item.{Item}
 use Rattle.ld_model.specs.declared.method.Act.{Act}
 use Rattle.ld_model.specs.declared.method.Method.{Method}
 use Rattle.ld_model.specs.declared.method.Play.{Play}
 use Rattle.ld_model.specs.declared.method.RolePart.{RolePart}
-use Rattle.ld_model.specs.declared.role.Role.{Role}
+use Rattle.ld_model.specs.RoleRows.{RoleRow}
+use Rattle.ld_model.specs.declared.activity.ActivityKind.TheVariants.{Learning}
+use Rattle.ld_model.specs.declared.role.CreateNew.TheVariants.{NotAllowed}
+use Rattle.ld_model.specs.declared.role.MatchPersons.TheVariants.{NotExclusively}
 use Rattle.ld_model.specs.declared.role.RoleKind.{RoleKind}
 use Rattle.ld_model.specs.declared.role.RoleKind.TheVariants.{Learner, Staff}
 use Rattle.ld_model.specs.declared.unit.Level.{Level}
@@ -86,13 +89,14 @@ sole_of xs = provided (nat_eq (length xs) 1) xs
 abbrev pub role_kind_of : List ℕ → Option RoleKind
 role_kind_of text = if bytes_eq text (codes "learner") then Some Learner else (if bytes_eq text (codes "staff") then Some Staff else None)
 
-unfoldable pub role_of : Data → Option Role
+-- A role, which has none within it.
+unfoldable pub role_of : Data → Option (List RoleRow)
 role_of d = do
   _ ← only (codes "identifier" ∷ codes "kind" ∷ codes "title" ∷ []) d
   id ← get (codes "identifier") d >>= identifier_of
   kind ← get (codes "kind") d >>= as_str >>= role_kind_of
   title ← title_of (get (codes "title") d)
-  Some (record { identifier = id; kind = kind; title = title })
+  Some (record { identifier = id; kind = kind; title = title; create_new = NotAllowed; match_persons = NotExclusively; min_persons = 0; max_persons = None; depth = 0 } ∷ [])
 
 unfoldable pub item_of : Data → Option Item
 item_of d = do
@@ -100,7 +104,7 @@ item_of d = do
   id ← get (codes "identifier") d >>= identifier_of
   href ← get (codes "href") d >>= href_of
   title ← title_of (get (codes "title") d)
-  Some (record { identifier = id; href = href; title = title })
+  Some (record { identifier = id; href = href; title = title; visible = true })
 
 abbrev pub choice_of : Bool → Option Completion
 choice_of b = provided b UserChoice
@@ -118,7 +122,7 @@ activity_of d = do
   title ← title_of (get (codes "title") d)
   items ← optional_list item_of (get (codes "items") d)
   complete ← get (codes "complete") d >>= completion_of
-  Some (record { identifier = id; title = title; items = items; complete = Some complete })
+  Some (record { identifier = id; kind = Learning; title = title; visible = true; learning_objectives = []; prerequisites = []; supports = []; environments = []; items = items; complete = Some complete; on_completion = None })
 
 unfoldable pub part_of : Data → Option RolePart
 part_of d = do
@@ -135,7 +139,7 @@ act_of d = do
   id ← get (codes "identifier") d >>= identifier_of
   title ← title_of (get (codes "title") d)
   parts ← get (codes "role-parts") d >>= list_of part_of >>= sole_of
-  Some (record { identifier = id; title = title; role_parts = parts })
+  Some (record { identifier = id; title = title; role_parts = parts; complete = None; on_completion = None })
 
 unfoldable pub play_of : Data → Option Play
 play_of d = do
@@ -143,13 +147,13 @@ play_of d = do
   id ← get (codes "identifier") d >>= identifier_of
   title ← title_of (get (codes "title") d)
   acts ← get (codes "acts") d >>= list_of act_of >>= sole_of
-  Some (record { identifier = id; title = title; acts = acts })
+  Some (record { identifier = id; title = title; visible = true; acts = acts; complete = None; on_completion = None })
 
 unfoldable pub method_of : Data → Option Method
 method_of d = do
   _ ← only (codes "plays" ∷ []) d
   plays ← get (codes "plays") d >>= list_of play_of >>= sole_of
-  Some (record { plays = plays })
+  Some (record { plays = plays; complete = None; on_completion = None })
 
 abbrev pub level_of : List ℕ → Option Level
 level_of text = if bytes_eq text (codes "A") then Some A else (if bytes_eq text (codes "B") then Some B else (if bytes_eq text (codes "C") then Some C else None))
@@ -159,7 +163,7 @@ level_of text = if bytes_eq text (codes "A") then Some A else (if bytes_eq text 
 abbrev pub some_of : {T : Type 0} → List T → Option (List T)
 some_of xs = provided (nat_le 1 (length xs)) xs
 
-unfoldable pub roles_of : Data → Option (List Role)
+unfoldable pub roles_of : Data → Option (List (List RoleRow))
 roles_of d = do
   _ ← only (codes "roles" ∷ []) d
   get (codes "roles") d >>= list_of role_of >>= some_of
@@ -173,15 +177,15 @@ abbrev pub format_of : ℕ → Option ℕ
 format_of n = provided (nat_eq n 1) n
 
 -- The unit of the document `unit.json`, with the roles and activities of the other two.
-unfoldable pub unit_of : List Role → List Activity → Data → Option Course
+unfoldable pub unit_of : List (List RoleRow) → List Activity → Data → Option Course
 unit_of roles activities d = do
   _ ← only (codes "format" ∷ codes "identifier" ∷ codes "level" ∷ codes "title" ∷ codes "method" ∷ []) d
-  _ ← get (codes "format") d >>= as_number >>= as_u64 >>= format_of
+  format ← get (codes "format") d >>= as_number >>= as_u64 >>= format_of
   id ← get (codes "identifier") d >>= identifier_of
   level ← get (codes "level") d >>= as_str >>= level_of
   title ← title_of (get (codes "title") d)
   method ← get (codes "method") d >>= method_of
-  Some (record { identifier = id; level = level; title = title; roles = roles; activities = activities; method = method })
+  Some (record { format = format; identifier = id; level = level; title = title; turns = 64; metadata = None; learning_objectives = []; prerequisites = []; roles = roles; properties = []; environments = []; activities = activities; structures = []; method = method; conditions = [] })
 
 -- ---- the folder
 

@@ -1,7 +1,6 @@
 pub mod Answers
 pub mod Firing
 pub mod FirstForm
-pub mod Identifiers
 pub mod InFolder
 pub mod Json
 pub mod Maybe

@@ -6,12 +6,13 @@ use Rattle.ld_base.specs.declared.numbers.PersonNo.{PersonNo}
 use Rattle.ld_base.specs.declared.numbers.ThingNo.{ThingNo}
 use Rattle.ld_lines.specs.declared.command.RunCommand.{RunCommand}
 use Rattle.ld_lines.specs.declared.command.RunCommand.TheVariants.{Enrol, Assign, Start, Complete, Tree}
-use Rattle.ld_model.specs.Members.{role_number, activity_number, person_number, is_member_at, holds_role}
+use Rattle.ld_model.specs.Members.{activity_number, person_number, is_member_at, holds_role}
+use Rattle.ld_model.specs.Names.{role_number}
 use Rattle.ld_model.specs.State.{PersonState, RunState, with_cell, moment_in}
-use Rattle.ld_model.specs.Things.{thing_number}
+use Rattle.ld_model.specs.Names.{thing_number}
 use Rattle.ld_model.specs.declared.activity.Activity.{Activity}
-use Rattle.ld_model.specs.declared.activity.Completion.{Completion}
-use Rattle.ld_model.specs.declared.activity.Completion.TheVariants.{UserChoice}
+use Rattle.ld_model.specs.declared.completion.Completion.{Completion}
+use Rattle.ld_model.specs.declared.completion.Completion.TheVariants.{UserChoice}
 use Rattle.ld_model.specs.declared.cell.CellName.TheVariants.{Chosen, Now, Started}
 use Rattle.ld_model.specs.declared.unit.Unit.{Unit as Course}
 use Rattle.ld_program.specs.Firing.{Settling, quiet_at, settling}
@@ -62,6 +63,7 @@ holds_already unit s person role = holds_at s (person_number s person) (role_num
 
 abbrev pub is_by_choice : Option Completion → Bool
 is_by_choice (Some UserChoice) = true
+is_by_choice (Some _) = false
 is_by_choice None = false
 
 abbrev pub activity_by_choice : Option Activity → Bool

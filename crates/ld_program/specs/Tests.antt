@@ -6,12 +6,14 @@ use Rattle.ld_base.specs.declared.numbers.RuleNo.{RuleNo}
 use Rattle.ld_base.specs.declared.numbers.ThingNo.{ThingNo}
 use Rattle.ld_model.specs.Counting.{numbers_below}
 use Rattle.ld_model.specs.Members.{is_member_of, has_member, is_mine, all_persons, activity_number}
-use Rattle.ld_model.specs.Rules.{Rule, completes_activity, opens_act, completes_part, rules_of, rule_number, Site}
+use Rattle.ld_model.specs.Rules.{rules_of, rule_number, Site}
+use Rattle.ld_model.specs.declared.rule.Rule.{Rule}
+use Rattle.ld_model.specs.declared.rule.Rule.TheVariants.{CompletesActivity, CompletesStructure, OpensAct, CompletesPart, CompletesAct, CompletesPlay, CompletesUnit, JudgesCondition}
 use Rattle.ld_model.specs.State.{RunState, says_yes}
-use Rattle.ld_model.specs.Things.{thing_number}
+use Rattle.ld_model.specs.Names.{thing_number}
 use Rattle.ld_model.specs.declared.activity.Activity.{Activity}
-use Rattle.ld_model.specs.declared.activity.Completion.{Completion}
-use Rattle.ld_model.specs.declared.activity.Completion.TheVariants.{UserChoice}
+use Rattle.ld_model.specs.declared.completion.Completion.{Completion}
+use Rattle.ld_model.specs.declared.completion.Completion.TheVariants.{UserChoice}
 use Rattle.ld_model.specs.declared.cell.CellName.TheVariants.{Chosen, ActOpened, Mark}
 use Rattle.ld_model.specs.declared.cell.Owner.{Owner}
 use Rattle.ld_model.specs.declared.cell.Owner.TheVariants.{Run, Person}
@@ -37,10 +39,11 @@ has_chosen s None p = false
 has_chosen s (Some thing) p = says_yes (s.cells (Chosen (record { 0 = thing }) (of_person p)))
 
 -- The completion rule of the activity holds for the person. Without a rule there is nothing to wait
--- for.
+-- for. (No unit that is read has a rule of another form yet.)
 abbrev pub completion_holds : Course → RunState → Activity → Option Completion → ℕ → Bool
 completion_holds unit s activity None p = true
 completion_holds unit s activity (Some UserChoice) p = has_chosen s (thing_number unit activity.identifier) p
+completion_holds unit s activity (Some _) p = false
 
 abbrev pub activity_test : Course → RunState → Option Activity → ℕ → Bool
 activity_test unit s None p = false
@@ -66,7 +69,7 @@ opening_test (suc _) = false
 
 abbrev pub activity_is_done : Course → RunState → Option ℕ → ℕ → Bool
 activity_is_done unit s None p = false
-activity_is_done unit s (Some a) p = is_done unit s (completes_activity a) (of_person p)
+activity_is_done unit s (Some a) p = is_done unit s (CompletesActivity a) (of_person p)
 
 -- What the role-part refers to is done for the person.
 abbrev pub target_is_done : Course → RunState → RolePart → ℕ → Bool
@@ -85,13 +88,19 @@ abbrev pub part_test_in : Course → RunState → Option Act → ℕ → Bool
 part_test_in unit s None r = false
 part_test_in unit s (Some act) r = part_test unit s act (slice_get act.role_parts r)
 
--- What the rule asks of the state, for its owner.
+-- What the rule asks of the state, for its owner. (No unit that is read has a rule of another kind
+-- than the first three yet.)
 abbrev pub rule_test : Course → RunState → Option Rule → Owner → Bool
 rule_test unit s None owner = false
-rule_test unit s (Some (completes_activity a)) (Person p) = activity_test unit s (slice_get unit.activities a) p.0
-rule_test unit s (Some (completes_activity a)) Run = false
-rule_test unit s (Some (opens_act p a)) owner = opening_test a
-rule_test unit s (Some (completes_part p a r)) owner = part_test_in unit s (act_at unit p a) r
+rule_test unit s (Some (CompletesActivity a)) (Person p) = activity_test unit s (slice_get unit.activities a) p.0
+rule_test unit s (Some (CompletesActivity a)) Run = false
+rule_test unit s (Some (OpensAct p a)) owner = opening_test a
+rule_test unit s (Some (CompletesPart p a r)) owner = part_test_in unit s (act_at unit p a) r
+rule_test unit s (Some (CompletesStructure _)) owner = false
+rule_test unit s (Some (CompletesAct _ _)) owner = false
+rule_test unit s (Some (CompletesPlay _)) owner = false
+rule_test unit s (Some CompletesUnit) owner = false
+rule_test unit s (Some (JudgesCondition _)) owner = false
 
 -- The test of a site: what is once marked stays so.
 abbrev pub site_test : Course → RunState → Site → Bool

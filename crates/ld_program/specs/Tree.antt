@@ -7,11 +7,11 @@ use Rattle.ld_base.specs.declared.numbers.ThingNo.{ThingNo}
 use Rattle.ld_json.specs.Print.{json_text}
 use Rattle.ld_model.specs.Counting.{each_numbered}
 use Rattle.ld_model.specs.Members.{is_member_of, activity_number}
-use Rattle.ld_model.specs.Rules.{completes_part}
+use Rattle.ld_model.specs.declared.rule.Rule.TheVariants.{CompletesPart}
 use Rattle.ld_model.specs.State.{RunState, says_yes}
-use Rattle.ld_model.specs.Things.{thing_number}
+use Rattle.ld_model.specs.Names.{thing_number}
 use Rattle.ld_model.specs.declared.activity.Activity.{Activity}
-use Rattle.ld_model.specs.declared.activity.Item.{Item}
+use Rattle.ld_model.specs.declared.item.Item.{Item}
 use Rattle.ld_model.specs.declared.cell.CellName.TheVariants.{Vis}
 use Rattle.ld_model.specs.declared.cell.Owner.TheVariants.{Run}
 use Rattle.ld_model.specs.declared.method.Act.{Act}
@@ -87,7 +87,7 @@ part_line part done = record { depth = 3; word = codes "part"; identifier = part
 
 -- A role-part and what it refers to, for a member of its role.
 abbrev pub part_lines : Course → RunState → ℕ → ℕ → ℕ → ℕ → RolePart → List TreeLine
-part_lines unit s person p a r part = if is_member_of unit s part.role person then part_line part (is_done unit s (completes_part p a r) Run) ∷ target_lines unit s person part else []
+part_lines unit s person p a r part = if is_member_of unit s part.role person then part_line part (is_done unit s (CompletesPart p a r) Run) ∷ target_lines unit s person part else []
 
 abbrev pub act_line : Act → TreeLine
 act_line act = record { depth = 2; word = codes "act"; identifier = act.identifier; note = codes "open"; title = act.title }

@@ -6,12 +6,13 @@ ghost use Rattle.ld_model.specs.declared.unit.Unit.{Unit as Course};
 ghost use Rattle.ld_lines.specs.declared.command.RunCommand.TheVariants as command;
 ghost use Rattle.ld_model.specs.Members.{activity_number};
 
-use crate::lookup::{activity_number, holds_by_name, person_number, role_number};
+use crate::lookup::{activity_number, holds_by_name, person_number};
 use crate::prepared::PreparedUnit;
 use crate::state::State;
 use ld_base::id::Id;
 use ld_lines::command::RunCommand;
-use ld_model::activity::{Activity, Completion};
+use ld_model::activity::Activity;
+use ld_model::completion::Completion;
 use ld_model::cell::CellName;
 use ld_model::unit::Unit;
 use ld_value::moment::Moment;
@@ -65,11 +66,11 @@ fn is_enrolled(state: &State, person: &Id) -> bool
 }
 
 /// Whether the person holds this very role.
-fn holds_already(unit: &Unit, state: &State, person: &Id, role: &Id) -> bool
-    ensures { result ≡ holds_already unit.now (state_of state.now) person.now role.now }
+fn holds_already(prepared: &PreparedUnit, state: &State, person: &Id, role: &Id) -> bool
+    ensures { result ≡ holds_already prepared.now.unit (state_of state.now) person.now role.now }
 {
     match person_number(state, person) {
-        Some(number) => holds_by_name(unit, state, number, role),
+        Some(number) => holds_by_name(&prepared.unit, &prepared.plan, state, number, role),
         None => false,
     }
 }
@@ -121,10 +122,10 @@ fn assign_cause(
     if !is_enrolled(state, person) {
         return Some(8);
     }
-    if role_number(&prepared.unit, role).is_none() {
+    if prepared.plan.role_number(role).is_none() {
         return Some(11);
     }
-    if holds_already(&prepared.unit, state, person, role) {
+    if holds_already(prepared, state, person, role) {
         return Some(12);
     }
     None

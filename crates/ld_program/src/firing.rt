@@ -10,12 +10,12 @@ ghost use Rattle.ld_model.specs.Rules.{rules_of, sites_of_rule, person_site};
 ghost use Rattle.ld_program.specs.Firing.{mark_says, mark_of, open_thing, effect, site_fired, site_visit, sweep, settling};
 ghost use Rattle.ld_program.specs.FiringView.{tally_of, settling_of};
 ghost use Rattle.ld_program.specs.LookupView.{HasFewPersons};
-ghost use Rattle.ld_program.specs.PlanView.{IsPlanOf, rule_of};
+ghost use Rattle.ld_program.specs.PlanView.{IsPlanOf};
 ghost use Rattle.ld_program.specs.StateView.{state_of, cell_in};
 
-use crate::number::number;
+use ld_base::numbers::number;
 use crate::plan::Plan;
-use crate::rules::Rule;
+use ld_model::rule::{Rule, RuleKind};
 use crate::state::State;
 use crate::verdict::{act_at, site_test};
 use ld_base::memory::NoMemory;
@@ -23,9 +23,6 @@ use ld_base::numbers::{PersonNo, RuleNo, ThingNo};
 use ld_model::cell::{CellName, Owner};
 use ld_model::unit::Unit;
 use ld_value::value::Value;
-
-/// The number of sweeps of a settling that may fire.
-const TURN_BUDGET: u32 = 64;
 
 /// What has fired in a sweep: firings, rejected writes and notices sent.
 #[derive(Clone, Copy, Debug, PartialEq, Eq)]
@@ -167,14 +164,12 @@ fn visit_rule(
 ) -> Result<(), NoMemory>
     requires plan { IsPlanOf unit.now plan.now }
     requires persons { HasFewPersons state.old }
-    ensures ok { OnOk result (tally_of state.new counts.new ≡ fold (site_visit unit.now) (tally_of state.old counts.old) (sites_of_rule (length state.old.persons.items) number (rule_of rule))) }
+    ensures ok { OnOk result (tally_of state.new counts.new ≡ fold (site_visit unit.now) (tally_of state.old counts.old) (sites_of_rule (length state.old.persons.items) number rule)) }
     ensures persons { OnOk result ((state_of state.new).persons ≡ (state_of state.old).persons) }
 {
-    match rule {
-        Rule::CompletesActivity(_) => visit_persons(unit, plan, state, counts, number),
-        Rule::OpensAct(_, _) | Rule::CompletesPart(_, _, _) => {
-            visit(unit, plan, state, counts, number, Owner::Run)
-        }
+    match rule.kind() {
+        RuleKind::Person => visit_persons(unit, plan, state, counts, number),
+        RuleKind::Run => visit(unit, plan, state, counts, number, Owner::Run),
     }
 }
 
@@ -225,7 +220,7 @@ pub fn settle(unit: &Unit, plan: &Plan, state: &mut State) -> Result<Option<Sums
         rejected: 0,
         sent: 0,
     };
-    for _turn in 0..TURN_BUDGET + 1 {
+    for _turn in 0..unit.turns as u64 + 1 {
         let counts = sweep(unit, plan, state)?;
         if counts.fired == 0 {
             return Ok(Some(sums));

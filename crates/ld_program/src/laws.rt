@@ -7,7 +7,7 @@ ghost use Rattle.ld_lines.specs.declared.command.Line.{Line};
 ghost use Rattle.ld_lines.specs.declared.command.RunCommand.{RunCommand};
 ghost use Rattle.ld_lines.specs.declared.command.RunCommand.TheVariants as verb;
 ghost use Rattle.ld_model.specs.State.{RunState};
-ghost use Rattle.ld_model.specs.Things.{thing_number};
+ghost use Rattle.ld_model.specs.Names.{thing_number};
 ghost use Rattle.ld_model.specs.declared.cell.CellName.TheVariants as cell;
 ghost use Rattle.ld_model.specs.declared.cell.Owner.{Owner};
 ghost use Rattle.ld_model.specs.declared.method.Act.{Act};

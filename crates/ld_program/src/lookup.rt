@@ -3,28 +3,17 @@
 //! This is the plain program with which faster ones are compared: it may be slow on a large unit.
 ghost use Rattle.std.specs.Prelude.{◌≡◌, Some, IfSome, ◌<◌, ◌^◌, length};
 ghost use Rattle.std.specs.List.{list_any, flat_map};
-ghost use Rattle.ld_model.specs.Members.{role_number, activity_number, person_number, holds_role, is_member, is_member_at, is_member_of, has_member, is_mine};
-ghost use Rattle.ld_model.specs.Rules.{rule_number};
-ghost use Rattle.ld_model.specs.Things.{thing_number};
+ghost use Rattle.ld_model.specs.Members.{activity_number, person_number, holds_role, is_member, is_member_at, is_member_of, has_member, is_mine};
+ghost use Rattle.ld_model.specs.Names.{role_number};
 ghost use Rattle.ld_program.specs.LookupView.{HasFewPersons, makes_mine};
+ghost use Rattle.ld_program.specs.PlanView.{IsPlanOf};
 ghost use Rattle.ld_program.specs.StateView.{state_of, person_state};
 
+use crate::plan::Plan;
 use crate::state::{Person, State};
 use ld_base::id::Id;
 use ld_model::method::{Act, RolePart};
 use ld_model::unit::Unit;
-
-/// The number of the role of this identifier.
-pub fn role_number(unit: &Unit, id: &Id) -> Option<usize>
-    ensures { result ≡ role_number unit.now id.now }
-{
-    for (r, role) in unit.roles.as_slice().iter().enumerate() {
-        if role.identifier == *id {
-            return Some(r);
-        }
-    }
-    None
-}
 
 /// The number of the person of this name.
 pub fn person_number(state: &State, name: &Id) -> Option<usize>
@@ -75,33 +64,36 @@ fn is_member(state: &State, role: usize, person: u32) -> bool
 }
 
 /// Whether the person is a member of the role of this identifier.
-pub fn is_member_of(unit: &Unit, state: &State, role: &Id, person: u32) -> bool
+pub fn is_member_of(unit: &Unit, plan: &Plan, state: &State, role: &Id, person: u32) -> bool
+    requires { IsPlanOf unit.now plan.now }
     ensures { result ≡ is_member_of unit.now (state_of state.now) role.now person }
 {
-    match role_number(unit, role) {
-        Some(number) => is_member(state, number, person),
+    match plan.role_number(role) {
+        Some(number) => is_member(state, number as usize, person),
         None => false,
     }
 }
 
 /// Whether the person of this number holds the role of this identifier.
-pub fn holds_by_name(unit: &Unit, state: &State, person: usize, role: &Id) -> bool
+pub fn holds_by_name(unit: &Unit, plan: &Plan, state: &State, person: usize, role: &Id) -> bool
+    requires { IsPlanOf unit.now plan.now }
     ensures { result ≡ is_member_at (state_of state.now) (role_number unit.now role.now) person }
 {
-    match (state.persons.get(person), role_number(unit, role)) {
-        (Some(person), Some(role)) => holds_role(person, role),
+    match (state.persons.get(person), plan.role_number(role)) {
+        (Some(person), Some(role)) => holds_role(person, role as usize),
         _ => false,
     }
 }
 
 /// Whether the role of this identifier has a member.
 #[tactic(auto, using(crate::proofs::Ranges::range_more))]
-pub fn has_member(unit: &Unit, state: &State, role: &Id) -> bool
-    requires { HasFewPersons state.now }
+pub fn has_member(unit: &Unit, plan: &Plan, state: &State, role: &Id) -> bool
+    requires plan { IsPlanOf unit.now plan.now }
+    requires persons { HasFewPersons state.now }
     ensures { result ≡ has_member unit.now (state_of state.now) role.now }
 {
     for person in 0..state.persons.len() as u32 {
-        if is_member_of(unit, state, role, person) {
+        if is_member_of(unit, plan, state, role, person) {
             return true;
         }
     }
@@ -109,11 +101,12 @@ pub fn has_member(unit: &Unit, state: &State, role: &Id) -> bool
 }
 
 /// Whether the thing of this identifier is the person's.
-pub fn is_mine(unit: &Unit, state: &State, id: &Id, person: u32) -> bool
+pub fn is_mine(unit: &Unit, plan: &Plan, state: &State, id: &Id, person: u32) -> bool
+    requires { IsPlanOf unit.now plan.now }
     ensures { result ≡ is_mine unit.now (state_of state.now) id.now person }
 {
     for play in unit.method.plays.as_slice() {
-        if is_mine_in(unit, state, play.acts.as_slice(), id, person) {
+        if is_mine_in(unit, plan, state, play.acts.as_slice(), id, person) {
             return true;
         }
     }
@@ -121,11 +114,19 @@ pub fn is_mine(unit: &Unit, state: &State, id: &Id, person: u32) -> bool
 }
 
 /// Whether a role-part of the acts makes the thing of this identifier the person's.
-fn is_mine_in(unit: &Unit, state: &State, acts: &[Act], id: &Id, person: u32) -> bool
+fn is_mine_in(
+    unit: &Unit,
+    plan: &Plan,
+    state: &State,
+    acts: &[Act],
+    id: &Id,
+    person: u32,
+) -> bool
+    requires { IsPlanOf unit.now plan.now }
     ensures { result ≡ list_any (makes_mine unit.now (state_of state.now) id.now person) (flat_map (λ act. act.role_parts) acts.now) }
 {
     for act in acts {
-        if is_mine_by(unit, state, act.role_parts.as_slice(), id, person) {
+        if is_mine_by(unit, plan, state, act.role_parts.as_slice(), id, person) {
             return true;
         }
     }
@@ -133,11 +134,19 @@ fn is_mine_in(unit: &Unit, state: &State, acts: &[Act], id: &Id, person: u32) ->
 }
 
 /// Whether one of the role-parts makes the thing of this identifier the person's.
-fn is_mine_by(unit: &Unit, state: &State, parts: &[RolePart], id: &Id, person: u32) -> bool
+fn is_mine_by(
+    unit: &Unit,
+    plan: &Plan,
+    state: &State,
+    parts: &[RolePart],
+    id: &Id,
+    person: u32,
+) -> bool
+    requires { IsPlanOf unit.now plan.now }
     ensures { result ≡ list_any (makes_mine unit.now (state_of state.now) id.now person) parts.now }
 {
     for part in parts {
-        if part.target == *id && is_member_of(unit, state, &part.role, person) {
+        if part.target == *id && is_member_of(unit, plan, state, &part.role, person) {
             return true;
         }
     }

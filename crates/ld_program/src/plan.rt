@@ -1,52 +1,60 @@
-//! The plan of a unit: its things and its rules as lists, made once and used by all its runs.
+//! The plan of a unit: its names and its rules, made once and used by all its runs.
 ghost use Rattle.std.specs.Prelude.{◌≡◌, ◌<◌, ◌^◌, length, IfOk};
-ghost use Rattle.ld_program.specs.PlanView.{IsPlanOf, rule_of, number_in, thing_in};
+ghost use Rattle.ld_model.specs.Identifiers.{HasDistinctIdentifiers};
+ghost use Rattle.ld_program.specs.PlanView.{IsPlanOf, role_in, thing_in, number_in};
 
-use crate::number::number;
-use crate::rules::{Rule, list_rules};
-use crate::things::{ThingEntry, list_things};
 use ld_base::id::Id;
 use ld_base::memory::NoMemory;
+use ld_base::numbers::number;
+use ld_model::names::{Named, Names};
+use ld_model::rule::{Rule, list_rules};
 use ld_model::unit::Unit;
 use std::alloc::Global;
 
-/// The things and the rules of a unit. A number of either is a place in its list.
+/// The names and the rules of a unit. The number of a rule is its place in the list.
 #[derive(Drop)]
 pub struct Plan {
-    pub things: Vec<ThingEntry>,
+    pub names: Names,
     pub rules: Vec<Rule>,
 }
 
 impl Plan {
-    /// The plan of the unit. The numbers of the unit's parts fit 32 bits, or else there is no memory.
+    /// The plan of the unit, no two of whose parts have one identifier.
     pub fn of(alloc: Global, unit: &Unit) -> Result<Plan, NoMemory>
+        requires { HasDistinctIdentifiers unit.now }
         ensures { IfOk result (IsPlanOf unit.now) }
     {
-        let things = list_things(alloc, unit)?;
+        let names = Names::of(alloc, unit)?;
         let rules = list_rules(alloc, unit)?;
-        number(things.len())?;
         number(rules.len())?;
         number(unit.activities.len())?;
-        Ok(Plan { things, rules })
+        Ok(Plan { names, rules })
+    }
+
+    /// The number of the role of this identifier.
+    pub fn role_number(&self, id: &Id) -> Option<u32>
+        ensures { result ≡ role_in self.now id.now }
+    {
+        match self.names.number(id)? {
+            Named::Role(role) => Some(role.0),
+            _ => None,
+        }
     }
 
     /// The number of the thing of this identifier.
     pub fn thing_number(&self, id: &Id) -> Option<u32>
-        requires { length self.now.things.items < 2 ^ 32 }
         ensures { result ≡ thing_in self.now id.now }
     {
-        for (t, thing) in self.things.iter().enumerate() {
-            if thing.identifier == *id {
-                return Some(t as u32);
-            }
+        match self.names.number(id)? {
+            Named::Thing(thing) => Some(thing.0),
+            _ => None,
         }
-        None
     }
 
     /// The number of the rule.
     pub fn rule_number(&self, rule: Rule) -> Option<u32>
         requires { length self.now.rules.items < 2 ^ 32 }
-        ensures { result ≡ number_in self.now (rule_of rule) }
+        ensures { result ≡ number_in self.now rule }
     {
         for (number, known) in self.rules.iter().enumerate() {
             if rule.is(*known) {

@@ -1,5 +1,6 @@
 //! A unit with the plan of its things and rules.
 ghost use Rattle.std.specs.Prelude.{◌≡◌, IfOk};
+ghost use Rattle.ld_model.specs.Identifiers.{HasDistinctIdentifiers};
 ghost use Rattle.ld_program.specs.PlanView.{IsPlanOf};
 
 use crate::plan::Plan;
@@ -18,6 +19,7 @@ pub struct PreparedUnit {
 impl PreparedUnit {
     /// The unit with its plan.
     pub fn new(alloc: Global, unit: Unit) -> Result<PreparedUnit, NoMemory>
+        requires { HasDistinctIdentifiers unit }
         ensures { IfOk result (λ prepared. prepared.unit ≡ unit) }
     {
         let plan = Plan::of(alloc, &unit)?;

@@ -1,5 +1,6 @@
 //! Answering the lines of a source, one after the other.
 ghost use Rattle.std.specs.Prelude.{◌≡◌, ◌≤◌, ◌<◌, ℕ, [], ◌∷◌, false, true, Err, Ok, Option, List, None, ◌^◌};
+ghost use Rattle.ld_model.specs.Identifiers.{HasDistinctIdentifiers};
 ghost use Rattle.ld_base.specs.Outside.{Rose, then_piece};
 ghost use Rattle.ld_base.specs.Roomy.{room_of};
 ghost use Rattle.ld_lines.specs.Answer.{Answer, HandsOut};
@@ -85,6 +86,7 @@ fn answer_lines<S: Source, K: Sink>(
 /// Answers the lines of the source from the world of the unit on. Where memory is wanting nothing
 /// was taken and nothing was written.
 pub fn replay<S: Source, K: Sink>(alloc: Global, unit: Unit, source: &mut S, sink: &mut K) -> Ending
+    requires { HasDistinctIdentifiers unit }
     ensures done { result ≡ Ending.Done → AnsweredAll (first_world (unit ∷ [])) (S.left source.old) (S.left source.new) (K.written sink.old) (K.written sink.new) }
     ensures read { result ≡ Ending.ReadFault → AnsweredTaken (λ n. n < 2 ^ 40) (first_world (unit ∷ [])) (S.left source.old) (S.left source.new) (K.written sink.old) (K.written sink.new) }
     ensures long { result ≡ Ending.InputTooLong → AnsweredTaken (λ n. n ≡ 2 ^ 40) (first_world (unit ∷ [])) (S.left source.old) (S.left source.new) (K.written sink.old) (K.written sink.new) }

@@ -7,7 +7,7 @@ ghost use Rattle.ld_program.specs.Stepping.{work_of};
 ghost use Rattle.ld_program.specs.TreeView.{line_view};
 
 use crate::lookup::person_number;
-use crate::number::number;
+use ld_base::numbers::number;
 use crate::prepared::PreparedUnit;
 use crate::state::State;
 use crate::tree::{TreeLine, tree_lines};

@@ -8,14 +8,15 @@ ghost use Rattle.ld_model.specs.State.{RunState};
 ghost use Rattle.ld_program.specs.FiringView.{settling_of};
 ghost use Rattle.ld_program.specs.StateView.{state_of};
 ghost use Rattle.ld_program.specs.Step.{step, settled_if, is_not_open, changed, has_change, after_first, with_role_at, chosen_at};
-ghost use Rattle.ld_model.specs.Members.{person_number, role_number};
-ghost use Rattle.ld_model.specs.Things.{thing_number};
+ghost use Rattle.ld_model.specs.Members.{person_number};
+ghost use Rattle.ld_model.specs.Names.{role_number};
+ghost use Rattle.ld_model.specs.Names.{thing_number};
 ghost use Rattle.ld_program.specs.Stepping.{OutcomeIs};
 
 use crate::causes::{first_cause, is_started};
 use crate::firing::{Sums, settle};
-use crate::lookup::{person_number, role_number};
-use crate::number::number;
+use crate::lookup::person_number;
+use ld_base::numbers::number;
 use crate::prepared::PreparedUnit;
 use crate::state::State;
 use crate::tree::is_open;
@@ -181,10 +182,10 @@ fn assign(
     let Some(person) = person_number(state, person) else {
         return Ok(());
     };
-    let Some(role) = role_number(&prepared.unit, role) else {
+    let Some(role) = prepared.plan.role_number(role) else {
         return Ok(());
     };
-    state.hold(person, RoleNo(number(role)?))
+    state.hold(person, RoleNo(role))
 }
 
 /// The person has said that the activity is completed.

@@ -2,18 +2,19 @@
 //!
 //! This is the plain program with which faster ones are compared: it may be slow on a large unit.
 ghost use Rattle.std.specs.Prelude.{◌≡◌, ◌<◌, ◌^◌, Some, length, option_copied};
-ghost use Rattle.ld_model.specs.Rules.{completes_activity};
+ghost use Rattle.ld_model.specs.declared.rule.Rule.TheVariants.{CompletesActivity};
 ghost use Rattle.ld_program.specs.LookupView.{HasFewPersons};
-ghost use Rattle.ld_program.specs.PlanView.{IsPlanOf, rule_of, number_in, thing_in};
+ghost use Rattle.ld_program.specs.PlanView.{IsPlanOf, number_in, thing_in};
 ghost use Rattle.ld_program.specs.StateView.{state_of};
-ghost use Rattle.ld_program.specs.Tests.{is_marked, has_chosen, activity_test, act_at, has_opened, opening_test, target_is_done, all_members_done, part_test, part_test_in, rule_test, site_test};
+ghost use Rattle.ld_program.specs.Tests.{is_marked, has_chosen, completion_holds, activity_test, act_at, has_opened, opening_test, target_is_done, all_members_done, part_test, part_test_in, rule_test, site_test};
 
 use crate::lookup::{activity_number, has_member, is_member_of, is_mine};
 use crate::plan::Plan;
-use crate::rules::Rule;
+use ld_model::rule::Rule;
 use crate::state::State;
 use ld_base::numbers::{PersonNo, RuleNo, ThingNo};
-use ld_model::activity::{Activity, Completion};
+use ld_model::activity::Activity;
+use ld_model::completion::Completion;
 use ld_model::cell::{CellName, Owner};
 use ld_model::method::{Act, RolePart};
 use ld_model::unit::Unit;
@@ -31,7 +32,7 @@ pub fn is_marked(state: &State, number: Option<u32>, owner: Owner) -> bool
 /// Whether the thing that the rule completes is done for the owner.
 pub fn is_done(plan: &Plan, state: &State, rule: Rule, owner: Owner) -> bool
     requires { length plan.now.rules.items < 2 ^ 32 }
-    ensures { result ≡ is_marked (state_of state.now) (number_in plan.now (rule_of rule)) owner }
+    ensures { result ≡ is_marked (state_of state.now) (number_in plan.now rule) owner }
 {
     is_marked(state, plan.rule_number(rule), owner)
 }
@@ -52,30 +53,32 @@ fn activity_test(unit: &Unit, plan: &Plan, state: &State, activity: &Activity, p
     requires { IsPlanOf unit.now plan.now }
     ensures { result ≡ activity_test unit.now (state_of state.now) (Some activity.now) person }
 {
-    if !is_mine(unit, state, &activity.identifier, person) {
+    if !is_mine(unit, plan, state, &activity.identifier, person) {
         return false;
     }
     match activity.complete {
-        Some(completion) => completion_holds(plan, state, activity, completion, person),
+        Some(ref completion) => completion_holds(unit, plan, state, activity, completion, person),
         None => true,
     }
 }
 
 /// Whether the completion rule of the activity holds for the person.
 fn completion_holds(
+    unit: &Unit,
     plan: &Plan,
     state: &State,
     activity: &Activity,
-    completion: Completion,
+    completion: &Completion,
     person: u32,
 ) -> bool
-    requires { length plan.now.things.items < 2 ^ 32 }
-    ensures { result ≡ has_chosen (state_of state.now) (thing_in plan.now activity.now.identifier) person }
+    requires { IsPlanOf unit.now plan.now }
+    ensures { result ≡ completion_holds unit.now (state_of state.now) activity.now (Some completion.now) person }
 {
     match completion {
         Completion::UserChoice => {
             has_chosen(state, plan.thing_number(&activity.identifier), person)
         }
+        _ => false,
     }
 }
 
@@ -126,7 +129,7 @@ fn all_members_done(unit: &Unit, plan: &Plan, state: &State, part: &RolePart) ->
     ensures { result ≡ all_members_done unit.now (state_of state.now) part.now }
 {
     for person in 0..state.persons.len() as u32 {
-        if is_member_of(unit, state, &part.role, person)
+        if is_member_of(unit, plan, state, &part.role, person)
             && !target_is_done(unit, plan, state, part, person)
         {
             return false;
@@ -142,7 +145,7 @@ fn part_test(unit: &Unit, plan: &Plan, state: &State, act: &Act, part: &RolePart
     ensures { result ≡ part_test unit.now (state_of state.now) act.now (Some part.now) }
 {
     has_opened(state, plan.thing_number(&act.identifier))
-        && has_member(unit, state, &part.role)
+        && has_member(unit, plan, state, &part.role)
         && all_members_done(unit, plan, state, part)
 }
 
@@ -162,7 +165,7 @@ fn part_test_in(unit: &Unit, plan: &Plan, state: &State, act: &Act, part: u32) -
 fn rule_test(unit: &Unit, plan: &Plan, state: &State, rule: Rule, owner: Owner) -> bool
     requires plan { IsPlanOf unit.now plan.now }
     requires persons { HasFewPersons state.now }
-    ensures { result ≡ rule_test unit.now (state_of state.now) (Some (rule_of rule)) owner }
+    ensures { result ≡ rule_test unit.now (state_of state.now) (Some rule) owner }
 {
     match rule {
         Rule::CompletesActivity(activity) => { completion_test(unit, plan, state, activity, owner) }
@@ -171,13 +174,18 @@ fn rule_test(unit: &Unit, plan: &Plan, state: &State, rule: Rule, owner: Owner) 
             Some(act) => part_test_in(unit, plan, state, act, part),
             None => false,
         },
+        Rule::CompletesStructure(_)
+        | Rule::CompletesAct(_, _)
+        | Rule::CompletesPlay(_)
+        | Rule::CompletesUnit
+        | Rule::JudgesCondition(_) => false,
     }
 }
 
 /// What the completion of the activity of this number asks, for its owner.
 fn completion_test(unit: &Unit, plan: &Plan, state: &State, activity: u32, owner: Owner) -> bool
     requires { IsPlanOf unit.now plan.now }
-    ensures { result ≡ rule_test unit.now (state_of state.now) (Some (completes_activity activity)) owner }
+    ensures { result ≡ rule_test unit.now (state_of state.now) (Some (CompletesActivity activity)) owner }
 {
     let Owner::Person(person) = owner else {
         return false;

@@ -2,6 +2,7 @@
 ghost use Rattle.std.specs.Prelude.{◌≡◌, ◌≤◌, ◌++◌, [], ◌∷◌, None, Some, IfOk, OnOk, OnErr};
 ghost use Rattle.ld_base.specs.Roomy.{room_of, KeepsRoom};
 ghost use Rattle.ld_lines.specs.declared.command.Line.TheVariants as line;
+ghost use Rattle.ld_model.specs.Identifiers.{HasDistinctIdentifiers};
 ghost use Rattle.ld_program.specs.Answers.{AnswersLine, line_of, block_for, no_memory_block};
 ghost use Rattle.ld_program.specs.Reply.{refusal_text};
 ghost use Rattle.ld_program.specs.Turn.{IsAnswered, IsTold, IsToldOfRun, with_first_state};
@@ -41,8 +42,9 @@ pub struct World {
 }
 
 impl World {
-    /// The world of the unit before the first line.
+    /// The world of the unit, no two of whose parts have one identifier, before the first line.
     pub fn new(alloc: Global, unit: Unit) -> Result<World, NoMemory>
+        requires { HasDistinctIdentifiers unit }
         ensures { IfOk result (λ world. world_of world ≡ first_world (unit ∷ [])) }
     {
         Ok(World {

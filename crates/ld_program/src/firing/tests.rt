@@ -8,10 +8,11 @@ use ld_base::id::Id;
 use ld_base::items::Items;
 use ld_base::numbers::{PersonNo, PropNo, RoleNo, ThingNo};
 use ld_base::text::Text;
-use ld_model::activity::{Activity, Completion};
+use ld_model::activity::{Activity, ActivityKind};
+use ld_model::completion::Completion;
 use ld_model::cell::{CellName, Owner};
 use ld_model::method::{Act, Method, Play, RolePart};
-use ld_model::role::{Role, RoleKind};
+use ld_model::role::{CreateNew, MatchPersons, Role, RoleKind};
 use ld_model::unit::{Level, Unit};
 use ld_value::moment::Moment;
 use ld_value::value::Value;
@@ -35,6 +36,11 @@ fn reading_unit(alloc: Global) -> Result<Unit, Fail> {
         identifier: id(alloc, "reader")?,
         kind: RoleKind::Learner,
         title: None,
+        create_new: CreateNew::NotAllowed,
+        match_persons: MatchPersons::NotExclusively,
+        min_persons: 0,
+        max_persons: None,
+        roles: Vec::new(alloc),
     })?;
     let mut activities = Items::new(alloc);
     activities.push(Activity {
@@ -42,10 +48,26 @@ fn reading_unit(alloc: Global) -> Result<Unit, Fail> {
         title: None,
         items: Items::new(alloc),
         complete: Some(Completion::UserChoice),
+        on_completion: None,
+        kind: ActivityKind::Learning,
+        visible: true,
+        learning_objectives: Items::new(alloc),
+        prerequisites: Items::new(alloc),
+        supports: Items::new(alloc),
+        environments: Items::new(alloc),
     })?;
     Ok(Unit {
         identifier: id(alloc, "unit")?,
         level: Level::A,
+        format: 1,
+        turns: 64,
+        metadata: None,
+        learning_objectives: Items::new(alloc),
+        prerequisites: Items::new(alloc),
+        properties: Items::new(alloc),
+        environments: Items::new(alloc),
+        structures: Items::new(alloc),
+        conditions: Items::new(alloc),
         title: None,
         roles,
         activities,
@@ -66,14 +88,23 @@ fn reading_method(alloc: Global) -> Result<Method, Fail> {
         identifier: id(alloc, "act")?,
         title: None,
         role_parts,
+        complete: None,
+        on_completion: None,
     })?;
     let mut plays = Items::new(alloc);
     plays.push(Play {
         identifier: id(alloc, "play")?,
         title: None,
         acts,
+        visible: true,
+        complete: None,
+        on_completion: None,
     })?;
-    Ok(Method { plays })
+    Ok(Method {
+        plays,
+        complete: None,
+        on_completion: None,
+    })
 }
 
 /// A run of persons who all hold the role.

@@ -7,8 +7,11 @@ ghost use Rattle.ld_program.specs.Maybe.{◌>>=◌ as ◌then◌};
 
 use crate::reader::lists::{Part, optional_list_at};
 use crate::reader::values::{href_at, identifier_at, only, title_at};
+use ld_base::items::Items;
 use ld_base::memory::NoMemory;
-use ld_model::activity::{Activity, ActivityList, Completion, Item};
+use ld_model::activity::{Activity, ActivityKind, ActivityList};
+use ld_model::completion::Completion;
+use ld_model::item::Item;
 use serde_json::Value;
 use std::alloc::Global;
 
@@ -33,6 +36,7 @@ impl Part for Item {
             identifier,
             href,
             title,
+            visible: true,
         }))
     }
 }
@@ -59,9 +63,16 @@ impl Part for Activity {
         };
         Ok(Some(Activity {
             identifier,
+            kind: ActivityKind::Learning,
             title,
+            visible: true,
+            learning_objectives: Items::new(alloc),
+            prerequisites: Items::new(alloc),
+            supports: Items::new(alloc),
+            environments: Items::new(alloc),
             items,
             complete: Some(complete),
+            on_completion: None,
         }))
     }
 }

@@ -1,5 +1,6 @@
 //! The unit that a folder of a shelf holds.
-ghost use Rattle.std.specs.Prelude.{◌≡◌, ◌≤◌, IfOk};
+ghost use Rattle.std.specs.Prelude.{◌≡◌, ◌≤◌, IfOk, IfSome};
+ghost use Rattle.ld_model.specs.Identifiers.{HasDistinctIdentifiers};
 ghost use Rattle.ld_base.specs.Outside.{Rose};
 ghost use Rattle.ld_json.specs.Files.{file_name};
 ghost use Rattle.ld_json.specs.declared.file.FileNo.TheVariants as file_numbers;
@@ -32,6 +33,7 @@ pub fn read_folder<H: Shelf>(
     folder: &str,
 ) -> Result<Option<Unit>, FolderStop>
     ensures read { IfOk result (HasUnit (H.files shelf.old) folder.now) }
+    ensures distinct { IfOk result (λ unit. IfSome unit HasDistinctIdentifiers) }
     ensures fault { result ≡ Err FolderStop.ShelfFault → Rose (H.faults shelf.old) (H.faults shelf.new) }
     ensures counts { H.faults shelf.old ≤ H.faults shelf.new }
     ensures same { H.files shelf.new ≡ H.files shelf.old }

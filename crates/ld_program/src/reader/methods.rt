@@ -62,6 +62,8 @@ impl Part for Act {
             identifier,
             title,
             role_parts,
+            complete: None,
+            on_completion: None,
         }))
     }
 }
@@ -86,7 +88,10 @@ impl Part for Play {
         Ok(Some(Play {
             identifier,
             title,
+            visible: true,
             acts,
+            complete: None,
+            on_completion: None,
         }))
     }
 }
@@ -105,5 +110,9 @@ pub(super) fn method_at(alloc: Global, node: &Value, name: &str) -> Result<Optio
     let Some(plays) = sole_list_at::<Play>(alloc, member, "plays")? else {
         return Ok(None);
     };
-    Ok(Some(Method { plays }))
+    Ok(Some(Method {
+        plays,
+        complete: None,
+        on_completion: None,
+    }))
 }

@@ -8,7 +8,7 @@ ghost use Rattle.ld_program.specs.Maybe.{◌>>=◌ as ◌then◌};
 use crate::reader::lists::{Part, read_list};
 use crate::reader::values::{identifier_at, only, text_at, title_at};
 use ld_base::memory::NoMemory;
-use ld_model::role::{Role, RoleKind, RoleList};
+use ld_model::role::{CreateNew, MatchPersons, Role, RoleKind, RoleList};
 use serde_json::Value;
 use std::alloc::Global;
 
@@ -33,6 +33,11 @@ impl Part for Role {
             identifier,
             kind,
             title,
+            create_new: CreateNew::NotAllowed,
+            match_persons: MatchPersons::NotExclusively,
+            min_persons: 0,
+            max_persons: None,
+            roles: Vec::new(alloc),
         }))
     }
 }

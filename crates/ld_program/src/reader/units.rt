@@ -7,6 +7,7 @@ ghost use Rattle.ld_program.specs.Maybe.{◌>>=◌ as ◌then◌};
 
 use crate::reader::methods::method_at;
 use crate::reader::values::{identifier_at, only, text_at, title_at};
+use ld_base::items::Items;
 use ld_base::memory::NoMemory;
 use ld_model::activity::ActivityList;
 use ld_model::role::RoleList;
@@ -27,7 +28,7 @@ pub(super) fn read_unit(
     let Some(_) = only(node, &["format", "identifier", "level", "title", "method"]) else {
         return Ok(None);
     };
-    let Some(_) = format_at(node, "format") else {
+    let Some(format) = format_at(node, "format") else {
         return Ok(None);
     };
     let Some(identifier) = identifier_at(alloc, node, "identifier")? else {
@@ -43,24 +44,33 @@ pub(super) fn read_unit(
         return Ok(None);
     };
     Ok(Some(Unit {
+        format,
         identifier,
         level,
         title,
+        turns: 64,
+        metadata: None,
+        learning_objectives: Items::new(alloc),
+        prerequisites: Items::new(alloc),
         roles,
+        properties: Items::new(alloc),
+        environments: Items::new(alloc),
         activities,
+        structures: Items::new(alloc),
         method,
+        conditions: Items::new(alloc),
     }))
 }
 
 /// The number of the format at this member, which is 1.
-fn format_at(node: &Value, name: &str) -> Option<u64>
+fn format_at(node: &Value, name: &str) -> Option<u32>
     ensures { result ≡ (get name.now (view node.now) then as_number then as_u64 then format_of) }
 {
     let format = node.get(name)?.as_u64()?;
     if format != 1 {
         return None;
     }
-    Some(format)
+    Some(1)
 }
 
 /// The level at this member.

@@ -1,14 +1,18 @@
 //! Whether a unit is valid.
-ghost use Rattle.std.specs.Prelude.{◌≡◌, IfOk, length, nat_le};
-ghost use Rattle.std.specs.List.{list_all, sum_by};
+ghost use Rattle.std.specs.Prelude.{◌≡◌, ◌+◌, ◌<◌, true, IfOk, IfSome, IfNone, length, nat_le};
+ghost use Rattle.std.specs.List.{list_all, list_any, sum_by};
+ghost use Rattle.std.specs.Str.{bytes_eq};
+ghost use Rattle.ld_model.specs.Identifiers.{HasDistinctIdentifiers};
+ghost use Rattle.ld_model.specs.RoleRows.{joined};
 ghost use Rattle.ld_model.specs.Validity.{is_valid, is_within_limits, names_a_role, names_an_activity, references_hold};
 ghost use Rattle.ld_program.specs.References.{act_holds, part_holds, play_holds};
 
-use crate::reader::identifiers::{all_differ, identifiers_of};
+use crate::reader::identifiers::has_distinct_identifiers;
 use ld_base::id::Id;
 use ld_base::memory::NoMemory;
 use ld_model::activity::Activity;
 use ld_model::method::{Act, Play, RolePart};
+use ld_model::role::Role;
 use ld_model::unit::Unit;
 use std::alloc::Global;
 
@@ -25,7 +29,8 @@ const MOST_ITEMS: usize = 4000;
 /// is within the limits. It takes time as n times the logarithm of n for n identifiers, and for
 /// each role-part as the roles and the activities, which are few by then.
 pub fn is_valid_unit(alloc: Global, unit: &Unit) -> Result<bool, NoMemory>
-    ensures { IfOk result (λ valid. valid ≡ is_valid unit.now) }
+    ensures valid { IfOk result (λ valid. valid ≡ is_valid unit.now) }
+    ensures distinct { IfOk result (λ valid. valid ≡ true → HasDistinctIdentifiers unit.now) }
 {
     if !is_within_limits(unit) {
         return Ok(false);
@@ -33,15 +38,15 @@ pub fn is_valid_unit(alloc: Global, unit: &Unit) -> Result<bool, NoMemory>
     if !references_hold(unit) {
         return Ok(false);
     }
-    let identifiers = identifiers_of(alloc, unit)?;
-    all_differ(alloc, &identifiers)
+    let differ = has_distinct_identifiers(alloc, unit)?;
+    Ok(differ)
 }
 
 /// Whether the unit has no more roles, activities and items than a unit may have.
 fn is_within_limits(unit: &Unit) -> bool
     ensures { result ≡ is_within_limits unit.now }
 {
-    if unit.roles.len() > MOST_ROLES {
+    if roles_left(unit.roles.as_slice(), MOST_ROLES).is_none() {
         return false;
     }
     if unit.activities.len() > MOST_ACTIVITIES {
@@ -101,10 +106,34 @@ fn parts_hold(unit: &Unit, parts: &[RolePart]) -> bool
 fn names_a_role(unit: &Unit, id: &Id) -> bool
     ensures { result ≡ names_a_role unit.now id.now }
 {
-    unit.roles
-        .as_slice()
-        .iter()
-        .any(|role| role.identifier == *id)
+    has_role(unit.roles.as_slice(), id)
+}
+
+/// Whether one of the roles, or one within them, has the identifier.
+fn has_role(roles: &[Role], id: &Id) -> bool
+    ensures { result ≡ list_any (λ role. bytes_eq role.identifier id.now) (joined roles.now) }
+{
+    for role in roles {
+        if role.identifier == *id {
+            return true;
+        }
+        if has_role(&role.roles, id) {
+            return true;
+        }
+    }
+    false
+}
+
+/// How many of so many are left behind the roles and those within them; None where they are more.
+fn roles_left(roles: &[Role], left: usize) -> Option<usize>
+    ensures some { IfSome result (λ rest. rest + length (joined roles.now) ≡ left) }
+    ensures none { IfNone result (left < length (joined roles.now)) }
+{
+    let mut left = left;
+    for role in roles {
+        left = roles_left(&role.roles, left.checked_sub(1)?)?;
+    }
+    Some(left)
 }
 
 /// Whether an activity has the identifier.

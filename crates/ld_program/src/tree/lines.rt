@@ -4,7 +4,8 @@ ghost use Rattle.ld_program.specs.Tree.{done_or_open, state_by, item_line, activ
 ghost use Rattle.ld_program.specs.TreeView.{line_view};
 
 use super::TreeLine;
-use ld_model::activity::{Activity, Item};
+use ld_model::activity::Activity;
+use ld_model::item::Item;
 use ld_model::method::{Act, Play, RolePart};
 use ld_model::unit::Unit;
 

@@ -8,10 +8,12 @@ use ld_base::items::Items;
 use ld_base::numbers::{PersonNo, RoleNo, RuleNo, ThingNo};
 use ld_base::plain_text::PlainText;
 use ld_base::text::Text;
-use ld_model::activity::{Activity, ActivityList, Completion, Item};
+use ld_model::activity::{Activity, ActivityKind, ActivityList};
+use ld_model::completion::Completion;
+use ld_model::item::Item;
 use ld_model::cell::{CellName, Owner};
 use ld_model::method::{Act, Method, Play, RolePart};
-use ld_model::role::{Role, RoleKind, RoleList};
+use ld_model::role::{CreateNew, MatchPersons, Role, RoleKind, RoleList};
 use ld_model::unit::{Level, Unit};
 use ld_value::moment::Moment;
 use ld_value::value::Value;
@@ -35,6 +37,11 @@ fn roles(alloc: Global) -> Result<RoleList, Fail> {
         identifier: id_of(alloc, "learner")?,
         kind: RoleKind::Learner,
         title: None,
+        create_new: CreateNew::NotAllowed,
+        match_persons: MatchPersons::NotExclusively,
+        min_persons: 0,
+        max_persons: None,
+        roles: Vec::new(alloc),
     };
     only(alloc, role)
 }
@@ -45,12 +52,20 @@ fn activities(alloc: Global) -> Result<ActivityList, Fail> {
         identifier: id_of(alloc, "i1")?,
         href: PlainText::of(alloc, "text.html")?,
         title: Some(PlainText::of(alloc, "Text")?),
+        visible: true,
     };
     let activity = Activity {
         identifier: id_of(alloc, "read")?,
         title: Some(PlainText::of(alloc, "Read")?),
         items: only(alloc, item)?,
         complete: Some(Completion::UserChoice),
+        on_completion: None,
+        kind: ActivityKind::Learning,
+        visible: true,
+        learning_objectives: Items::new(alloc),
+        prerequisites: Items::new(alloc),
+        supports: Items::new(alloc),
+        environments: Items::new(alloc),
     };
     only(alloc, activity)
 }
@@ -67,20 +82,38 @@ fn method(alloc: Global) -> Result<Method, Fail> {
         identifier: id_of(alloc, "a")?,
         title: None,
         role_parts: only(alloc, part)?,
+        complete: None,
+        on_completion: None,
     };
     let play = Play {
         identifier: id_of(alloc, "p")?,
         title: None,
         acts: only(alloc, act)?,
+        visible: true,
+        complete: None,
+        on_completion: None,
     };
     let plays = only(alloc, play)?;
-    Ok(Method { plays })
+    Ok(Method {
+        plays,
+        complete: None,
+        on_completion: None,
+    })
 }
 
 fn unit(alloc: Global) -> Result<Unit, Fail> {
     Ok(Unit {
         identifier: id_of(alloc, "u1")?,
         level: Level::A,
+        format: 1,
+        turns: 64,
+        metadata: None,
+        learning_objectives: Items::new(alloc),
+        prerequisites: Items::new(alloc),
+        properties: Items::new(alloc),
+        environments: Items::new(alloc),
+        structures: Items::new(alloc),
+        conditions: Items::new(alloc),
         title: Some(PlainText::of(alloc, "First")?),
         roles: roles(alloc)?,
         activities: activities(alloc)?,

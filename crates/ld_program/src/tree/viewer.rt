@@ -12,15 +12,16 @@ ghost use Rattle.ld_program.specs.TreeView.{AddsLines};
 use super::TreeLine;
 use super::lines::{act_line, activity_line, item_line, part_line, play_line};
 use crate::lookup::{activity_number, is_member_of};
-use crate::number::number;
+use ld_base::numbers::number;
 use crate::plan::Plan;
-use crate::rules::Rule;
+use ld_model::rule::Rule;
 use crate::state::State;
 use crate::verdict::{has_opened, is_done};
 use ld_base::id::Id;
 use ld_base::memory::NoMemory;
 use ld_base::numbers::{PersonNo, ThingNo};
-use ld_model::activity::{Activity, Item};
+use ld_model::activity::Activity;
+use ld_model::item::Item;
 use ld_model::cell::{CellName, Owner};
 use ld_model::method::{Act, Play, RolePart};
 use ld_model::unit::Unit;
@@ -144,7 +145,7 @@ impl<'u, 's> Viewer<'u, 's> {
         requires { IsPlanOf self.now.unit.now self.now.plan.now }
         ensures { OnOk result (AddsLines lines.old.items lines.new.items (part_lines self.now.unit.now (state_of self.now.state.now) self.now.person p a r part.now)) }
     {
-        if !is_member_of(self.unit, self.state, &part.role, self.person) {
+        if !is_member_of(self.unit, self.plan, self.state, &part.role, self.person) {
             return Ok(());
         }
         let done = is_done(

@@ -4,7 +4,7 @@ use Rattle.std.specs.Cmp.Lexicographic.{slice_cmp}
 use Rattle.std.specs.List.{list_any}
 use Rattle.std.specs.Ordering.{nat_cmp}
 use Rattle.std.specs.Str.{bytes_eq}
-use Rattle.ld_model.specs.Validity.{all_differ}
+use Rattle.ld_model.specs.Identifiers.{all_differ}
 use Rattle.ld_program.proofs.reader.identifiers.all_differ.Given as goal
 
 abbrev pub invariant-loop-text : goal.invariant-loop-text
