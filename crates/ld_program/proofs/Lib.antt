@@ -16,3 +16,4 @@ pub mod Unstarted
 pub mod Places
 pub mod Openings
 pub mod Told
+pub mod Refused
