@@ -1,6 +1,5 @@
 -- A refused command changes nothing, and one that is done keeps its moment.
-use Rattle.std.proofs.Common.{◌≡◌, ℕ, ℤ, List, [], ◌∷◌, ◌++◌, Bool, true, false, ◌&&◌, Option, Some, None, refl, sym, ap, subst, ◌∙◌, if◌then◌else◌}
-use Rattle.std.specs.List.{find}
+use Rattle.std.proofs.Common.{◌≡◌, ℕ, ℤ, List, [], ◌∷◌, ◌++◌, Bool, true, false, ◌&&◌, Option, Some, None, refl, sym, ap, ◌∙◌, if◌then◌else◌}
 use Rattle.std.specs.Str.{bytes_eq}
 use Rattle.ld_lines.specs.declared.command.Line.{Line}
 use Rattle.ld_lines.specs.declared.command.Line.TheVariants.{Create, OfRun}
@@ -9,10 +8,10 @@ use Rattle.ld_lines.specs.declared.command.RunCommand.TheVariants.{Enrol, Assign
 use Rattle.ld_model.specs.State.{RunState, state_at_first}
 use Rattle.ld_model.specs.declared.cell.CellName.TheVariants.{Now}
 use Rattle.ld_model.specs.declared.unit.Unit.{Unit as Course}
-use Rattle.ld_value.specs.Datum.{Datum, moment_datum}
+use Rattle.ld_value.specs.Datum.{moment_datum}
 use Rattle.ld_program.specs.Firing.{Settling}
-use Rattle.ld_program.specs.Step.{Work, Reply, done, refused, Outcome, Cause, step, is_started, is_back, is_not_open, has_change, at_moment, changed, settled_if, finished, refusal, after_first, after_checks, first_cause, causes}
-use Rattle.ld_program.specs.World.{RunOf, WorldState, WorldOutcome, world_step, line_outcome, make_run, step_run, with_outcome, with_state, run_named, unit_named, has_run, world_refusal, no_work}
+use Rattle.ld_program.specs.Step.{Work, done, refused, Outcome, Cause, step, is_started, is_back, is_not_open, has_change, at_moment, changed, settled_if, finished, refusal, after_first, after_checks, first_cause, causes}
+use Rattle.ld_program.specs.World.{RunOf, WorldState, WorldOutcome, world_step, line_outcome, make_run, step_run, with_state, run_named, unit_named, has_run, world_refusal, no_work}
 use Rattle.ld_program.proofs.Kept.{HoldsSettled, VisitsKeep, settled_if_keeps}
 use Rattle.ld_program.proofs.Latching.{change_leaves}
 use Rattle.ld_program.proofs.Unstarted.{visit_leaves}
@@ -114,7 +113,7 @@ first_at unit s moment command (Some first) at work is =
     let again : Bool = has_change command && is_started new in
     let here : IsAt moment new = change_leaves unit first.state moment command Now (record { started = refl; chosen = λ thing owner. refl }) ∙ at in
     either_done moment (is_not_open unit first.state command) (refusal s 31) (finished s first (settled_if again unit new)) (λ work is. cc)
-        (finished_at moment s first (settled_if again unit new) (settled_if_keeps unit (IsAt moment) (now_visit unit moment) again new here)) work is
+    (finished_at moment s first (settled_if again unit new) (settled_if_keeps unit (IsAt moment) (now_visit unit moment) again new here)) work is
 
 checks_at : (unit : Course) (s : RunState) (moment : ℤ) (command : RunCommand) (cause : Option ℕ) → IsDoneAt moment (after_checks unit s moment command cause)
 checks_at unit s moment command (Some cause) work is = cc

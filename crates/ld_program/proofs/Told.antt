@@ -34,7 +34,7 @@ refusal_tells : (number : ℕ) → Tells (refusal_text number)
 unfolding digits
 refusal_tells number =
     either_tells (number == 30) _ _ (record { block = λ rest more same. differ_at 3 _ _ refl same })
-        (either_tells (number == 31) _ _ (record { block = λ rest more same. differ_at 3 _ _ refl same }) (record { block = λ rest more same. differ_at 3 _ _ refl same }))
+    (either_tells (number == 31) _ _ (record { block = λ rest more same. differ_at 3 _ _ refl same }) (record { block = λ rest more same. differ_at 3 _ _ refl same }))
 
 done_tells : (run : Option RunOf) (command : RunCommand) (work : Work) → Tells (done_text run command work)
 done_tells run (Enrol person) work = record { block = λ rest more same. differ_at 0 _ _ refl same }

@@ -56,16 +56,14 @@ pub fn start_opens_first_acts()
 pub fn refused_changes_nothing()
     ensures run { (unit : Course) (s : RunState) (moment : ℤ) (command : RunCommand) (number : ℕ) → (step unit s moment command).reply ≡ refused number → (step unit s moment command).state ≡ s }
     ensures world { (w : WorldState) (line : Option Line) (number : ℕ) → (world_step w line).reply ≡ refused number → (world_step w line).world ≡ w }
-{
-}
+{}
 
 /// A run never goes back in time: a command that is done is not before the last moment of its run,
 /// and leaves its own moment as the last one.
 pub fn moments_never_go_back()
     ensures later { (unit : Course) (s : RunState) (moment : ℤ) (command : RunCommand) (work : Work) → (step unit s moment command).reply ≡ done work → is_back s moment ≡ false }
     ensures kept { (unit : Course) (s : RunState) (moment : ℤ) (command : RunCommand) (work : Work) → (step unit s moment command).reply ≡ done work → (step unit s moment command).state.cells cell.Now ≡ Some (moment_datum moment) }
-{
-}
+{}
 
 /// No reply is `no 99 no-memory`, and no text begins both with a reply block and with the block for
 /// want of memory: so what is written tells, line by line, which lines count as not given.
