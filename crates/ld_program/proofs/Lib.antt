@@ -16,3 +16,4 @@ pub mod Places
 pub mod Openings
 pub mod Told
 pub mod RoleRows
+pub mod Refused

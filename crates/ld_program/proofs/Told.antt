@@ -1,5 +1,6 @@
 -- What is written tells which lines were answered and which count as not given.
 use Rattle.std.proofs.Common.{◌≡◌, inl, inr, ℕ, List, [], ◌∷◌, ◌++◌, Bool, true, false, Option, Some, None, codes, get_or, nat_eq, refl, sym, ap, subst, ◌∙◌, if◌then◌else◌, ◌==◌}
+use Rattle.std.specs.Fmt.{digits}
 use Rattle.std.proofs.lemmas.Cmp.{nat_eq_equiv}
 use Rattle.std.proofs.lemmas.List.{append_cancel_left}
 use Rattle.ld_lines.specs.declared.command.Line.{Line}
@@ -16,8 +17,8 @@ abbrev pub IsTelling : List ℕ → Type 0
 IsTelling block = (rest more : List ℕ) → block ++ rest ≡ no_memory_block ++ more → ⊥
 
 -- The same of a reply without its end.
-abbrev Tells : List ℕ → Type 0
-Tells text = IsTelling (text ++ 10 ∷ [])
+record Tells (text : List ℕ) : Type 0 where
+  block : IsTelling (text ++ 10 ∷ [])
 
 -- Texts differ that differ at one place.
 differ_at : (place : ℕ) (x y : List ℕ) → nat_eq (get_or x place 0) (get_or y place 0) ≡ false → x ≡ y → ⊥
@@ -30,20 +31,21 @@ either_tells true x y this other = this
 either_tells false x y this other = other
 
 refusal_tells : (number : ℕ) → Tells (refusal_text number)
+unfolding digits
 refusal_tells number =
-    either_tells (number == 30) (codes "no 30 turn-budget") (if number == 31 then codes "no 31 not-open" else codes "no 1 bad-line") (λ rest more same. differ_at 3 _ _ refl same)
-    (either_tells (number == 31) (codes "no 31 not-open") (codes "no 1 bad-line") (λ rest more same. differ_at 3 _ _ refl same) (λ rest more same. differ_at 3 _ _ refl same))
+    either_tells (number == 30) _ _ (record { block = λ rest more same. differ_at 3 _ _ refl same })
+    (either_tells (number == 31) _ _ (record { block = λ rest more same. differ_at 3 _ _ refl same }) (record { block = λ rest more same. differ_at 3 _ _ refl same }))
 
 done_tells : (run : Option RunOf) (command : RunCommand) (work : Work) → Tells (done_text run command work)
-done_tells run (Enrol person) work = λ rest more same. differ_at 0 _ _ refl same
-done_tells run (Assign person role) work = λ rest more same. differ_at 0 _ _ refl same
-done_tells run Start work = λ rest more same. differ_at 0 _ _ refl same
-done_tells run (Complete person activity) work = λ rest more same. differ_at 0 _ _ refl same
-done_tells run (Tree person) work = λ rest more same. differ_at 0 _ _ refl same
+done_tells run (Enrol person) work = record { block = λ rest more same. differ_at 0 _ _ refl same }
+done_tells run (Assign person role) work = record { block = λ rest more same. differ_at 0 _ _ refl same }
+done_tells run Start work = record { block = λ rest more same. differ_at 0 _ _ refl same }
+done_tells run (Complete person activity) work = record { block = λ rest more same. differ_at 0 _ _ refl same }
+done_tells run (Tree person) work = record { block = λ rest more same. differ_at 0 _ _ refl same }
 
 line_tells : (w : WorldState) (line : Option Line) (work : Work) → Tells (line_done_text w line work)
-line_tells w None work = λ rest more same. differ_at 0 _ _ refl same
-line_tells w (Some (Create moment run unit)) work = λ rest more same. differ_at 0 _ _ refl same
+line_tells w None work = record { block = λ rest more same. differ_at 0 _ _ refl same }
+line_tells w (Some (Create moment run unit)) work = record { block = λ rest more same. differ_at 0 _ _ refl same }
 line_tells w (Some (OfRun moment run command)) work = done_tells (run_named run w.runs) command work
 
 reply_tells : (w : WorldState) (line : Option Line) (reply : Reply) → Tells (reply_text w line reply)
@@ -52,10 +54,11 @@ reply_tells w line (done work) = line_tells w line work
 
 pub block_tells : (w : WorldState) (line : Option Line) (reply : Reply) → IsTelling (reply_block w line reply)
 unfolding reply_block
-block_tells w line reply = reply_tells w line reply
+block_tells w line reply = (reply_tells w line reply).block
 
 pub text_tells : (w : WorldState) (line : Option Line) (reply : Reply) → reply_text w line reply ≡ codes "no 99 no-memory" → ⊥
-text_tells w line reply same = reply_tells w line reply [] [] (ap (λ (text : List ℕ). (text ++ 10 ∷ []) ++ []) same)
+unfolding digits
+text_tells w line reply same = (reply_tells w line reply).block [] [] (ap (λ (text : List ℕ). (text ++ 10 ∷ []) ++ []) same)
 
 -- ---- the world that a text leads to
 

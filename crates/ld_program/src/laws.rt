@@ -12,12 +12,13 @@ ghost use Rattle.ld_model.specs.declared.cell.CellName.TheVariants as cell;
 ghost use Rattle.ld_model.specs.declared.cell.Owner.{Owner};
 ghost use Rattle.ld_model.specs.declared.method.Act.{Act};
 ghost use Rattle.ld_model.specs.declared.unit.Unit.{Unit as Course};
+ghost use Rattle.ld_value.specs.Datum.{moment_datum};
 ghost use Rattle.ld_program.specs.Answers.{Leads, no_memory_block};
 ghost use Rattle.ld_program.specs.Histories.{is_marked_yes, opened_at, Given, run_after};
 ghost use Rattle.ld_program.specs.Reply.{reply_block, reply_text};
-ghost use Rattle.ld_program.specs.Step.{Work, Reply, done, is_started, step};
+ghost use Rattle.ld_program.specs.Step.{Work, Reply, done, refused, is_back, is_started, step};
 ghost use Rattle.ld_program.specs.Tests.{act_at};
-ghost use Rattle.ld_program.specs.World.{WorldState};
+ghost use Rattle.ld_program.specs.World.{WorldState, world_step};
 
 /// What is completed stays completed: a mark that says yes says yes after any command, at any moment,
 /// be the command done or refused.
@@ -49,6 +50,19 @@ pub fn unstarted_run_is_untouched()
 /// identifiers differ, so that the thing of an act's identifier is the act itself.)
 pub fn start_opens_first_acts()
     ensures { (unit : Course) (made : ℤ) (history : List Given) (moment : ℤ) (work : Work) → (step unit (run_after unit made history) moment verb.Start).reply ≡ done work → (play : ℕ) (act : Act) → act_at unit play 0 ≡ Some act → opened_at (step unit (run_after unit made history) moment verb.Start).state (thing_number unit act.identifier) ≡ Some moment }
+{}
+
+/// A refused command changes nothing of its run, and a refused line nothing of the world.
+pub fn refused_changes_nothing()
+    ensures run { (unit : Course) (s : RunState) (moment : ℤ) (command : RunCommand) (number : ℕ) → (step unit s moment command).reply ≡ refused number → (step unit s moment command).state ≡ s }
+    ensures world { (w : WorldState) (line : Option Line) (number : ℕ) → (world_step w line).reply ≡ refused number → (world_step w line).world ≡ w }
+{}
+
+/// A run never goes back in time: a command that is done is not before the last moment of its run,
+/// and leaves its own moment as the last one.
+pub fn moments_never_go_back()
+    ensures later { (unit : Course) (s : RunState) (moment : ℤ) (command : RunCommand) (work : Work) → (step unit s moment command).reply ≡ done work → is_back s moment ≡ false }
+    ensures kept { (unit : Course) (s : RunState) (moment : ℤ) (command : RunCommand) (work : Work) → (step unit s moment command).reply ≡ done work → (step unit s moment command).state.cells cell.Now ≡ Some (moment_datum moment) }
 {}
 
 /// No reply is `no 99 no-memory`, and no text begins both with a reply block and with the block for
