@@ -10,3 +10,5 @@ pub mod Held
 pub mod Settled
 pub mod Worlds
 pub mod Indents
+pub mod Refusals
+pub mod Fronts
