@@ -10,7 +10,7 @@ use Rattle.ld_model.specs.Members.{person_number}
 use Rattle.ld_model.specs.Names.{role_number}
 use Rattle.ld_model.specs.Rules.{rules_of, Site}
 use Rattle.ld_model.specs.declared.rule.Rule.{Rule}
-use Rattle.ld_model.specs.declared.rule.Rule.TheVariants.{CompletesActivity, OpensAct, CompletesPart}
+use Rattle.ld_model.specs.declared.rule.Rule.TheVariants.{CompletesActivity, CompletesStructure, OpensAct, CompletesPart, CompletesAct, CompletesPlay, CompletesUnit, JudgesCondition}
 use Rattle.ld_model.specs.State.{RunState, with_cell, says_yes}
 use Rattle.ld_model.specs.Names.{thing_number}
 use Rattle.ld_model.specs.declared.cell.CellName.{CellName}
@@ -68,6 +68,11 @@ effect_leaves unit s None name other = refl
 effect_leaves unit s (Some (CompletesActivity a)) name other = refl
 effect_leaves unit s (Some (OpensAct p a)) name other = act_leaves unit s (act_at unit p a) name other
 effect_leaves unit s (Some (CompletesPart p a r)) name other = refl
+effect_leaves unit s (Some (CompletesStructure _)) name other = refl
+effect_leaves unit s (Some (CompletesAct _ _)) name other = refl
+effect_leaves unit s (Some (CompletesPlay _)) name other = refl
+effect_leaves unit s (Some CompletesUnit) name other = refl
+effect_leaves unit s (Some (JudgesCondition _)) name other = refl
 
 -- ---- a mark that says yes
 

@@ -17,3 +17,5 @@ pub mod Openings
 pub mod Told
 pub mod RoleRows
 pub mod Refused
+pub mod Refusals
+pub mod Fronts

@@ -10,7 +10,7 @@ use Rattle.ld_model.specs.Cells.{same_cell}
 use Rattle.ld_model.specs.Counting.{each_numbered}
 use Rattle.ld_model.specs.Rules.{Site, rules_of, sites_of, sites_of_rule, activity_rule, play_rules, act_rules}
 use Rattle.ld_model.specs.declared.rule.Rule.{Rule}
-use Rattle.ld_model.specs.declared.rule.Rule.TheVariants.{CompletesActivity, OpensAct, CompletesPart}
+use Rattle.ld_model.specs.declared.rule.Rule.TheVariants.{CompletesActivity, CompletesStructure, OpensAct, CompletesPart, CompletesAct, CompletesPlay, CompletesUnit, JudgesCondition}
 use Rattle.ld_model.specs.State.{RunState, with_cell, says_yes, moment_in}
 use Rattle.ld_model.specs.Things.{Entry, things_of, thing_number, activity_entries, play_entries, act_entries}
 use Rattle.ld_model.specs.declared.cell.CellName.{CellName}
@@ -81,6 +81,11 @@ effect_keeps unit s None moment thing has = has.opened
 effect_keeps unit s (Some (CompletesActivity a)) moment thing has = has.opened
 effect_keeps unit s (Some (OpensAct p a)) moment thing has = act_keeps unit s (act_at unit p a) moment thing has
 effect_keeps unit s (Some (CompletesPart p a r)) moment thing has = has.opened
+effect_keeps unit s (Some (CompletesStructure _)) moment thing has = has.opened
+effect_keeps unit s (Some (CompletesAct _ _)) moment thing has = has.opened
+effect_keeps unit s (Some (CompletesPlay _)) moment thing has = has.opened
+effect_keeps unit s (Some CompletesUnit) moment thing has = has.opened
+effect_keeps unit s (Some (JudgesCondition _)) moment thing has = has.opened
 
 now_visit : (unit : Course) (t : Tally) (site : Site) → (site_visit unit t site).state.cells Now ≡ t.state.cells Now
 now_visit unit t site = visit_leaves unit t site Now (λ thing. refl) (λ other. refl)

@@ -92,12 +92,12 @@ all_given : (first : Option (List ℕ)) (bytes : List ℕ) (now : Option (List �
 all_given first bytes None e end = inl e
 all_given first bytes (Some rest) e end = inr (e ∙ ap Some (rw end (append-nil bytes)), ap Some end)
 
-told_end : (first : Option (List ℕ)) (at_first : WorldState) (bytes : List ℕ) (now before written : Option (List ℕ)) → (first ≡ None) ⊎ ((first ≡ Some bytes) × (now ≡ Some [])) → Answered at_first (lines_of bytes) before written → AnsweredAll at_first first now before written
-told_end None at_first bytes now before written found answered = tt
-told_end (Some all) at_first bytes now before written (inl e) answered = absurd (cc e)
-told_end (Some all) at_first bytes now before written (inr e) answered =
+told_end : (first : Option (List ℕ)) (at_first : WorldState) (bytes : List ℕ) (now before written : Option (List ℕ)) → (first ≡ None) ⊎ ((first ≡ Some bytes) × (now ≡ Some [])) → length bytes < 2 ^ 40 → Answered at_first (lines_of bytes) before written → AnsweredAll at_first first now before written
+told_end None at_first bytes now before written found below answered = tt
+told_end (Some all) at_first bytes now before written (inl e) below answered = absurd (cc e)
+told_end (Some all) at_first bytes now before written (inr e) below answered =
     let same : all ≡ bytes = cc e.0 in
-    (e.1, subst (λ b. Answered at_first (lines_of b) before written) (sym same) answered)
+    (e.1, rw same below, subst (λ b. Answered at_first (lines_of b) before written) (sym same) answered)
 
 -- A source that told its end.
 pub ended_well : {at_first : WorldState} {first before : Option (List ℕ)} {old new : Reading} {left now : Option (List ℕ)} {world : WorldState} {written : Option (List ℕ)} (next : WorldState) (text : List ℕ) → IsUnderWay at_first first before old left world written → (answer : Answer) → HandsOut old left answer new now → AnswersWhat world answer (Ok false) text next → AnsweredAll at_first first now before written
@@ -106,7 +106,7 @@ ended_well next text way OverLine out what = absurd (cc what.0)
 ended_well {at_first = at_first} {first = first} {before = before} {now = now} {world = world} {written = written} next text way NoLine out what =
     let s = Handed-next NoLine way.handed out in
     told_end first at_first s.0 now before written
-    (all_given first s.0 now s.1.left (s.1.knows_end out.bytes.2))
+    (all_given first s.0 now s.1.left (s.1.knows_end out.bytes.2)) s.3
     (way.text, (world, subst (λ ls. Leads at_first ls way.text world) (sym s.2) way.led), way.wrote)
 ended_well next text way Fault out what = absurd (cc what.0)
 ended_well next text way TooLong out what = absurd (cc what.0)

@@ -1,5 +1,5 @@
 -- What one turn of a replay does: a line is asked for, and is answered where there is one.
-use Rattle.std.specs.Prelude.{ℕ, List, [], ◌++◌, ◌≡◌, length, Bool, true, false, Option, Some, None, Result, Ok, Err}
+use Rattle.std.specs.Prelude.{ℕ, List, [], ◌++◌, ◌≡◌, ◌<◌, ◌^◌, length, Bool, true, false, Option, Some, None, Result, Ok, Err}
 use Rattle.ld_base.specs.Outside.{piece_then, then_piece}
 use Rattle.ld_lines.specs.Lines.{lines_of, ended_lines_of}
 use Rattle.ld_lines.specs.Answer.{Answer, WholeLine, OverLine, NoLine, Fault, TooLong}
@@ -23,10 +23,11 @@ AnswersWhat old TooLong told text new = (told ≡ Err InputTooLong) × (new ≡ 
 abbrev pub Answered : WorldState → List (List ℕ) → Option (List ℕ) → Option (List ℕ) → Type 0
 Answered world lines old new = (text : List ℕ) × Answers world lines text × (new ≡ then_piece old text)
 
--- The source gave all of its bytes and told its end, and their lines were answered.
+-- The source gave all of its bytes, of which there are fewer than 2^40, and told its end, and their
+-- lines were answered.
 abbrev pub AnsweredAll : WorldState → Option (List ℕ) → Option (List ℕ) → Option (List ℕ) → Option (List ℕ) → Type 0
 AnsweredAll world None left old new = Unit {0}
-AnsweredAll world (Some bytes) left old new = (left ≡ Some []) × Answered world (lines_of bytes) old new
+AnsweredAll world (Some bytes) left old new = (left ≡ Some []) × (length bytes < 2 ^ 40) × Answered world (lines_of bytes) old new
 
 -- So many bytes of the source were taken, and the lines that were ended in them were answered.
 abbrev pub AnsweredTaken : (ℕ → Type 0) → WorldState → Option (List ℕ) → Option (List ℕ) → Option (List ℕ) → Option (List ℕ) → Type 0

@@ -4,7 +4,7 @@ use Rattle.ld_base.specs.Outside.{Files, then_piece}
 use Rattle.ld_lines.specs.Commands.{command_of}
 use Rattle.ld_lines.specs.declared.command.Line.{Line}
 use Rattle.ld_model.specs.declared.unit.Unit.{Unit as Course}
-use Rattle.ld_program.specs.Reply.{reply_block}
+use Rattle.ld_program.specs.Reply.{reply_block, refusal_line}
 use Rattle.ld_program.specs.World.{WorldState, WorldOutcome, first_world, world_step}
 
 -- The command that a line is. A line of more than 65,536 bytes is none, whatever it holds.
@@ -17,7 +17,7 @@ block_for w line = reply_block (world_step w line).world line (world_step w line
 
 -- What is written where memory is wanting; the line then counts as not given.
 abbrev pub no_memory_block : List ℕ
-no_memory_block = codes "no 99 no-memory" ++ 10 ∷ []
+no_memory_block = refusal_line 99 ++ 10 ∷ []
 
 -- The text answers the line in the old world and leaves the new one.
 abbrev pub AnswersLine : WorldState → Option Line → List ℕ → WorldState → Type 0

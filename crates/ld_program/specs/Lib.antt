@@ -1,4 +1,5 @@
 pub mod Answers
+pub mod Appending
 pub mod Firing
 pub mod FirstForm
 pub mod InFolder

@@ -19,7 +19,8 @@ abbrev pub InFolder : Option (List ℕ) → (List ℕ → Type 0) → Type 0
 InFolder None Holds = ⊥
 InFolder (Some folder) Holds = Holds folder
 
--- `replay FOLDER` was done: the source told its end, and what was written answers all its lines.
+-- `replay FOLDER` was done: the source told its end below 2^40 bytes, and what was written answers all
+-- its lines.
 abbrev pub ReplayedAll : Option (List ℕ) → Option Files → Option (List ℕ) → Option (List ℕ) → Option (List ℕ) → Option (List ℕ) → Type 0
 ReplayedAll folder files before left old new = InFolder folder (λ name. FromUnit files name (λ unit. AnsweredAll (first_world (unit ∷ [])) before left old new))
 

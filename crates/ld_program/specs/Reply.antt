@@ -1,5 +1,6 @@
 -- The text of a reply.
-use Rattle.std.specs.Prelude.{ℕ, List, [], ◌∷◌, ◌++◌, Option, Some, None, Bool, true, false, length, codes, decimal, ◌==◌, ◌&&◌, nat_le, if◌then◌else◌}
+use Rattle.std.specs.Prelude.{ℕ, List, [], ◌∷◌, ◌++◌, Option, Some, None, Bool, true, false, length, codes, decimal, ◌==◌, ◌&&◌, nat_le, if◌then◌else◌, unwrap_or}
+use Rattle.ld_lines.specs.Refusals.{word_of_refusal}
 use Rattle.ld_lines.specs.declared.command.Line.{Line}
 use Rattle.ld_lines.specs.declared.command.Line.TheVariants.{Create, OfRun}
 use Rattle.ld_lines.specs.declared.command.RunCommand.{RunCommand}
@@ -15,9 +16,13 @@ use Rattle.ld_program.specs.World.{RunOf, WorldState, run_named}
 abbrev pub work_text : Work → List ℕ
 work_text work = codes " turns=" ++ (decimal work.turns ++ (codes " fired=" ++ (decimal work.fired ++ (codes " rejected=" ++ (decimal work.rejected ++ (codes " sent=" ++ decimal work.sent))))))
 
--- The word of a refusal that is told by its own number; every other is told as a bad line so far.
+-- `no NUMBER WORD`
+abbrev pub refusal_line : ℕ → List ℕ
+refusal_line number = codes "no " ++ (decimal number ++ (32 ∷ unwrap_or (word_of_refusal number) []))
+
+-- These two are told by their own number, and every other is told as a bad line so far.
 abbrev pub refusal_text : ℕ → List ℕ
-refusal_text number = if number == 30 then codes "no 30 turn-budget" else (if number == 31 then codes "no 31 not-open" else codes "no 1 bad-line")
+refusal_text number = if number == 30 then refusal_line 30 else (if number == 31 then refusal_line 31 else refusal_line 1)
 
 abbrev pub ok_text : List ℕ → Work → List ℕ
 ok_text verb work = codes "ok " ++ (verb ++ work_text work)

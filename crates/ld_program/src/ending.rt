@@ -59,7 +59,8 @@ impl Ending {
 
     /// The ending of this number. Any number that is none of an ending's is taken as that of `Done`.
     pub fn numbered(number: u8) -> Ending
-        ensures { IsStatus number → number_of result ≡ number }
+        ensures status { IsStatus number → number_of result ≡ number }
+        ensures other { (IsStatus number → ⊥) → result ≡ Ending.Done }
     {
         match number {
             2 => Ending::BadWords,

@@ -50,6 +50,7 @@ pub fn ld_main<H: Shelf, S: Source, K: Sink, L: Ledger>(
     // What was left alone.
     ensures not_written { NothingWritten result.0 → output.new ≡ output.old }
     ensures not_taken { NothingTaken result.0 → input.new ≡ input.old }
+    ensures files { H.files shelf.new ≡ H.files shelf.old }
 
     ensures shelf_counts { H.faults shelf.old ≤ H.faults shelf.new }
     ensures source_counts { S.faults input.old ≤ S.faults input.new }

@@ -1,6 +1,7 @@
 //! Printing the lines of a tree.
 ghost use Rattle.std.specs.Prelude.{◌≡◌, ◌++◌, map, OnOk, option_copied};
 ghost use Rattle.ld_base.specs.Roomy.{KeepsRoom};
+ghost use Rattle.ld_program.specs.Appending.{KeepsFront};
 ghost use Rattle.ld_program.specs.Tree.{indent, line_text, lines_text, title_text};
 ghost use Rattle.ld_program.specs.TreeView.{line_view};
 
@@ -15,6 +16,7 @@ use std::alloc::Global;
 /// them may stand there.
 pub fn push_lines(alloc: Global, lines: &[TreeLine], out: &mut Text) -> Result<(), NoMemory>
     ensures ok { OnOk result (out.new.bytes ≡ out.old.bytes ++ lines_text (map line_view lines.now)) }
+    ensures front { KeepsFront out.old.bytes out.new.bytes }
     ensures room { KeepsRoom out.old out.new }
 {
     for line in lines {
@@ -27,6 +29,7 @@ pub fn push_lines(alloc: Global, lines: &[TreeLine], out: &mut Text) -> Result<(
 /// Appends a line without its end.
 fn push_line(alloc: Global, line: &TreeLine, out: &mut Text) -> Result<(), NoMemory>
     ensures ok { OnOk result (out.new.bytes ≡ out.old.bytes ++ line_text (line_view line.now)) }
+    ensures front { KeepsFront out.old.bytes out.new.bytes }
     ensures room { KeepsRoom out.old out.new }
 {
     push_indent(line.depth, out)?;
@@ -41,6 +44,7 @@ fn push_line(alloc: Global, line: &TreeLine, out: &mut Text) -> Result<(), NoMem
 /// Appends two spaces for each step of depth.
 fn push_indent(depth: usize, out: &mut Text) -> Result<(), NoMemory>
     ensures ok { OnOk result (out.new.bytes ≡ out.old.bytes ++ indent depth) }
+    ensures front { KeepsFront out.old.bytes out.new.bytes }
     ensures room { KeepsRoom out.old out.new }
 {
     for _step in 0..depth {
@@ -52,6 +56,7 @@ fn push_indent(depth: usize, out: &mut Text) -> Result<(), NoMemory>
 /// Appends a title, if there is one, behind a space.
 fn push_title(alloc: Global, title: Option<&PlainText>, out: &mut Text) -> Result<(), NoMemory>
     ensures ok { OnOk result (out.new.bytes ≡ out.old.bytes ++ title_text (option_copied title.entry)) }
+    ensures front { KeepsFront out.old.bytes out.new.bytes }
     ensures room { KeepsRoom out.old out.new }
 {
     let Some(title) = title else {

@@ -1,5 +1,5 @@
 //! The world of the plain engine: one published unit, and the one run that was made of it.
-ghost use Rattle.std.specs.Prelude.{◌≡◌, ◌≤◌, ◌++◌, [], ◌∷◌, None, Some, IfOk, OnOk, OnErr};
+ghost use Rattle.std.specs.Prelude.{◌≡◌, ◌≤◌, ◌++◌, [], ◌∷◌, None, Some, IfOk, OnOk, OnErr, length};
 ghost use Rattle.ld_base.specs.Roomy.{room_of, KeepsRoom};
 ghost use Rattle.ld_lines.specs.declared.command.Line.TheVariants as line;
 ghost use Rattle.ld_model.specs.Identifiers.{HasDistinctIdentifiers};
@@ -20,6 +20,7 @@ use ld_base::memory::NoMemory;
 use ld_base::text::Text;
 use ld_lines::command::{Line, LineFault, RunCommand};
 use ld_lines::read::read_command;
+use ld_lines::refusal::refusal_word;
 use ld_model::unit::Unit;
 use ld_value::moment::Moment;
 use std::alloc::Global;
@@ -234,5 +235,16 @@ fn say_no_memory(out: &mut Text)
     ensures room { 128 ≤ room_of out.new }
 {
     out.clear();
-    let _ = out.push("no 99 no-memory\n");
+    push_within("no 99 ", out);
+    push_within(refusal_word(99), out);
+    push_within("\n", out);
+}
+
+/// Appends a text for which there is room.
+fn push_within(text: &str, out: &mut Text)
+    requires { length text.now ≤ out.old.spare }
+    ensures text { out.new.bytes ≡ out.old.bytes ++ text.now }
+    ensures room { KeepsRoom out.old out.new }
+{
+    let _ = out.push(text);
 }
