@@ -7,7 +7,7 @@ use Rattle.std.specs.List.{list_any}
 use Rattle.std.specs.Str.{bytes_eq}
 use Rattle.ld_model.specs.Identifiers.{all_differ}
 
-bytes_eq-turned : (x y : List ℕ) → bytes_eq x y ≡ bytes_eq y x
+pub bytes_eq-turned : (x y : List ℕ) → bytes_eq x y ≡ bytes_eq y x
 bytes_eq-turned x y = nat_list_eq_equiv.symm x y
 
 -- A text that was there before.

@@ -1,3 +1,4 @@
 pub mod Counted
 pub mod Differing
+pub mod NameLaws
 pub mod RoleRows

@@ -121,10 +121,13 @@ impl Names {
         Named::Thing(ThingNo((index - before_things) as u32))
     }
 
-    /// The identifier of what is named, whose number is one of the unit's. It takes no memory.
+    /// The identifier of what is named, whose number is one of the unit's: it names just that. It
+    /// takes no memory.
+    #[tactic(auto, using(crate::proofs::NameLaws::identifier_names))]
     pub fn id(&self, named: Named) -> &Id
         requires { HasPart self.now named }
-        ensures { Some result.now ≡ identifier_at self.now named }
+        ensures identifier { Some result.now ≡ identifier_at self.now named }
+        ensures names_it { named_by self.now result.now ≡ Some named }
     {
         match self.identifiers.get_index(self.index_of(named)) {
             Some(id) => id,

@@ -5,7 +5,7 @@ use Rattle.ld_lines.specs.declared.command.RunCommand.{RunCommand}
 use Rattle.ld_model.specs.Rules.{Site, sites_of}
 use Rattle.ld_model.specs.State.{RunState}
 use Rattle.ld_model.specs.declared.unit.Unit.{Unit as Course}
-use Rattle.ld_program.specs.Firing.{Tally, Settling, site_visit, sweep, settling_within, quiet_at, after_turn, tally_from, turns_of}
+use Rattle.ld_program.specs.Firing.{Tally, Settling, site_visit, sweep, settling_within, quiet_at, after_turn, tally_from}
 use Rattle.ld_program.specs.Step.{Outcome, step, at_moment, changed, settled_if, is_started, is_not_open, has_change, finished, refusal, after_first, after_checks, first_cause, causes}
 
 -- Each visit of a site keeps the fact.
@@ -39,7 +39,7 @@ settling_keeps unit P kept (suc n) s holds =
     (after_turn_holds P (sweep unit s) (settling_within n unit (sweep unit s).state) (settling_keeps unit P kept n (sweep unit s).state (sweep_keeps unit P kept s holds)))
 
 pub settled_if_keeps : (unit : Course) (P : RunState → Type 0) → VisitsKeep unit P → (b : Bool) (s : RunState) → P s → HoldsSettled P (settled_if b unit s)
-settled_if_keeps unit P kept true s holds = settling_keeps unit P kept (turns_of unit + 1) s holds
+settled_if_keeps unit P kept true s holds = settling_keeps unit P kept (unit.turns + 1) s holds
 settled_if_keeps unit P kept false s holds = holds
 
 -- ---- a step

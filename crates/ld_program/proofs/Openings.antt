@@ -8,11 +8,14 @@ use Rattle.std.proofs.lemmas.Cmp.{nat_list_eq_equiv, nat_eq_equiv}
 use Rattle.ld_lines.specs.declared.command.RunCommand.TheVariants.{Start}
 use Rattle.ld_model.specs.Cells.{same_cell}
 use Rattle.ld_model.specs.Counting.{each_numbered}
-use Rattle.ld_model.specs.Rules.{Site, rules_of, sites_of, sites_of_rule, activity_rule, play_rules, act_rules}
+use Rattle.ld_model.specs.Rules.{Site, rules_of, sites_of, sites_of_rule, activity_rule, structure_rule, play_rules, act_rules, condition_rule, rule_if_any}
 use Rattle.ld_model.specs.declared.rule.Rule.{Rule}
 use Rattle.ld_model.specs.declared.rule.Rule.TheVariants.{CompletesActivity, CompletesStructure, OpensAct, CompletesPart, CompletesAct, CompletesPlay, CompletesUnit, JudgesCondition}
 use Rattle.ld_model.specs.State.{RunState, with_cell, says_yes, moment_in}
-use Rattle.ld_model.specs.Things.{Entry, things_of, thing_number, activity_entries, play_entries, act_entries}
+use Rattle.ld_model.specs.Identifiers.{HasDistinctIdentifiers}
+use Rattle.ld_model.specs.Names.{thing_number}
+use Rattle.ld_model.specs.Things.{Entry, things_of, item_entries, feedback_entries, environment_entries, activity_entries, structure_entries, play_entries, act_entries, method_entries}
+use Rattle.ld_model.proofs.NameLaws.{thing_named}
 use Rattle.ld_model.specs.declared.cell.CellName.{CellName}
 use Rattle.ld_model.specs.declared.cell.CellName.TheVariants.{ActOpened, Mark, Now, Started}
 use Rattle.ld_model.specs.declared.cell.Owner.TheVariants.{Run}
@@ -21,13 +24,13 @@ use Rattle.ld_model.specs.declared.method.Play.{Play}
 use Rattle.ld_model.specs.declared.names.Place.TheVariants.{Act as ActPlace}
 use Rattle.ld_model.specs.declared.unit.Unit.{Unit as Course}
 use Rattle.ld_value.specs.Datum.{Datum, text_datum, truth_datum, number_datum, moment_datum, span_datum}
-use Rattle.ld_program.specs.Firing.{Tally, Settling, site_visit, site_fired, visit_with, mark_of, mark_says, effect, open_act, open_thing, sweep, settling_within, quiet_at, after_turn, tally_from, turns_of}
+use Rattle.ld_program.specs.Firing.{Tally, Settling, site_visit, site_fired, visit_with, mark_of, mark_says, effect, open_act, open_thing, sweep, settling_within, quiet_at, after_turn, tally_from}
 use Rattle.ld_program.specs.Histories.{is_marked_yes, opened_at, Given, run_after}
 use Rattle.ld_program.specs.Step.{Work, done, Outcome, step, is_started, is_back, at_moment, settled_if, finished, after_first, after_checks, first_cause, causes}
 use Rattle.ld_program.specs.Tests.{site_test, rule_test, is_marked, act_at, act_in}
 use Rattle.ld_program.proofs.Kept.{VisitsKeep, HoldsSettled, visits_keep, settling_keeps, after_turn_holds}
 use Rattle.ld_program.proofs.Latching.{one_rule_and_owner, effect_leaves, either_tally}
-use Rattle.ld_program.proofs.Places.{IsIn, in_back, in_each, place_of, has_position}
+use Rattle.ld_program.proofs.Places.{IsIn, in_front, in_back, in_each, place_of}
 use Rattle.ld_program.proofs.Settled.{quiet_sweep}
 use Rattle.ld_program.proofs.Unstarted.{visit_leaves, untouched_run}
 
@@ -37,19 +40,36 @@ play_of_act : (unit : Course) (p : ℕ) (play : Option Play) (act : Act) → sli
 play_of_act unit p None act at first = cc
 play_of_act unit p (Some play) act at first = (play, at, first)
 
-has_thing : (unit : Course) (p : ℕ) (act : Act) → act_at unit p 0 ≡ Some act → (thing : ℕ) × (thing_number unit act.identifier ≡ Some thing)
-has_thing unit p act first =
+has_thing : (unit : Course) (p : ℕ) (act : Act) → HasDistinctIdentifiers unit → act_at unit p 0 ≡ Some act → (thing : ℕ) × (thing_number unit act.identifier ≡ Some thing)
+has_thing unit p act distinct first =
     let play = play_of_act unit p (slice_get unit.method.plays p) act refl first in
     let entry : Entry = record { identifier = act.identifier; place = ActPlace p 0 } in
-    let in_play : IsIn entry (play_entries p play.0) = inr (in_each (act_entries p) play.0.acts 0 act entry play.2 (inl refl)) in
-    let in_unit : IsIn entry (things_of unit) = in_back entry (each_numbered activity_entries unit.activities) (each_numbered play_entries unit.method.plays) (in_each play_entries unit.method.plays p play.0 entry play.1 in_play) in
-    has_position (λ (e : Entry). bytes_eq e.identifier act.identifier) 0 (things_of unit) entry in_unit (nat_list_eq_equiv.refl act.identifier)
+    let plays = each_numbered play_entries unit.method.plays in
+    let in_play : IsIn entry (play_entries p play.0) = inr (in_front entry (each_numbered (act_entries p) play.0.acts) (feedback_entries play.0.on_completion) (in_each (act_entries p) play.0.acts 0 act entry play.2 (inl refl))) in
+    let in_plays : IsIn entry plays = in_each play_entries unit.method.plays p play.0 entry play.1 in_play in
+    let in_method : IsIn entry (method_entries unit) =
+        in_back entry (item_entries unit.learning_objectives) (item_entries unit.prerequisites ++ (plays ++ feedback_entries unit.method.on_completion))
+        (in_back entry (item_entries unit.prerequisites) (plays ++ feedback_entries unit.method.on_completion) (in_front entry plays (feedback_entries unit.method.on_completion) in_plays)) in
+    let structures = each_numbered structure_entries unit.structures in
+    let activities = each_numbered activity_entries unit.activities in
+    let in_unit : IsIn entry (things_of unit) =
+        in_back entry (each_numbered environment_entries unit.environments) (activities ++ (structures ++ method_entries unit))
+        (in_back entry activities (structures ++ method_entries unit) (in_back entry structures (method_entries unit) in_method)) in
+    let place = place_of entry (things_of unit) in_unit in
+    (place.0, thing_named unit place.0 entry distinct place.1)
 
 has_rule : (unit : Course) (p : ℕ) (act : Act) → act_at unit p 0 ≡ Some act → (number : ℕ) × (slice_get (rules_of unit) number ≡ Some (OpensAct p 0))
 has_rule unit p act first =
     let play = play_of_act unit p (slice_get unit.method.plays p) act refl first in
-    let in_play : IsIn (OpensAct p 0) (play_rules p play.0) = in_each (act_rules p) play.0.acts 0 act (OpensAct p 0) play.2 (inl refl) in
-    place_of (OpensAct p 0) (rules_of unit) (in_back (OpensAct p 0) (each_numbered activity_rule unit.activities) (each_numbered play_rules unit.method.plays) (in_each play_rules unit.method.plays p play.0 (OpensAct p 0) play.1 in_play))
+    let rule : Rule = OpensAct p 0 in
+    let acts = each_numbered (act_rules p) play.0.acts in
+    let in_play : IsIn rule (play_rules p play.0) = in_front rule acts (rule_if_any play.0.complete (CompletesPlay p)) (in_each (act_rules p) play.0.acts 0 act rule play.2 (inl refl)) in
+    let plays = each_numbered play_rules unit.method.plays in
+    let conditions = rule_if_any unit.method.complete CompletesUnit ++ each_numbered condition_rule unit.conditions in
+    let in_plays : IsIn rule plays = in_each play_rules unit.method.plays p play.0 rule play.1 in_play in
+    place_of rule (rules_of unit)
+    (in_back rule (each_numbered activity_rule unit.activities) (each_numbered structure_rule unit.structures ++ (plays ++ conditions))
+    (in_back rule (each_numbered structure_rule unit.structures) (plays ++ conditions) (in_front rule plays conditions in_plays)))
 
 abbrev site_for : ℕ → Site
 site_for number = record { rule = number; owner = Run }
@@ -228,7 +248,7 @@ started_at s moment = with_cell (at_moment s moment) Started (Some (moment_datum
 first_opened : (unit : Course) (moment : ℤ) (thing number : ℕ) (s : RunState) (work : Work) → Opens unit thing number → is_marked_yes s (record { 0 = number }) Run ≡ false → (after_first unit s moment Start (Some (quiet_at (at_moment s moment)))).reply ≡ done work → HasOpened moment thing (after_first unit s moment Start (Some (quiet_at (at_moment s moment)))).state
 first_opened unit moment thing number s work opens unmarked accepted =
     finished_opened moment thing s (quiet_at (at_moment s moment)) (settled_if true unit (started_at s moment)) work
-    (settling_opens unit moment thing number (turns_of unit + 1) (started_at s moment) opens (record { now = refl; opened = inr unmarked })) accepted
+    (settling_opens unit moment thing number (unit.turns + 1) (started_at s moment) opens (record { now = refl; opened = inr unmarked })) accepted
 
 checks_opened : (unit : Course) (moment : ℤ) (thing number : ℕ) (s : RunState) (cause : Option ℕ) (work : Work) → Opens unit thing number → is_started s ≡ false → is_marked_yes s (record { 0 = number }) Run ≡ false → (after_checks unit s moment Start cause).reply ≡ done work → HasOpened moment thing (after_checks unit s moment Start cause).state
 checks_opened unit moment thing number s (Some cause) work opens before unmarked accepted = cc
@@ -255,11 +275,11 @@ pub not_started_before : (unit : Course) (s : RunState) (moment : ℤ) (work : W
 not_started_before unit s moment work accepted = started_or_not unit s moment work (is_started s) refl accepted
 
 -- The first act of a play opens at the start of a run that has had these commands.
-pub first_act_opens : (unit : Course) (made : ℤ) (history : List Given) (moment : ℤ) (work : Work) → (step unit (run_after unit made history) moment Start).reply ≡ done work → (p : ℕ) (act : Act) → act_at unit p 0 ≡ Some act → opened_at (step unit (run_after unit made history) moment Start).state (thing_number unit act.identifier) ≡ Some moment
-first_act_opens unit made history moment work accepted p act first =
+pub first_act_opens : (unit : Course) → HasDistinctIdentifiers unit → (made : ℤ) (history : List Given) (moment : ℤ) (work : Work) → (step unit (run_after unit made history) moment Start).reply ≡ done work → (p : ℕ) (act : Act) → act_at unit p 0 ≡ Some act → opened_at (step unit (run_after unit made history) moment Start).state (thing_number unit act.identifier) ≡ Some moment
+first_act_opens unit distinct made history moment work accepted p act first =
     let s : RunState = run_after unit made history in
     let before : is_started s ≡ false = not_started_before unit s moment work accepted in
-    let thing = has_thing unit p act first in
+    let thing = has_thing unit p act distinct first in
     let rule = has_rule unit p act first in
     let has : HasOpened moment thing.0 (step unit s moment Start).state = step_opened unit moment thing.0 rule.0 s work (record { play = p; act = act; first = first; is_thing = thing.1; rule = rule.1 }) before ((untouched_run unit made history).marked before (record { 0 = rule.0 }) Run) accepted in
     ap (opened_at (step unit s moment Start).state) thing.1 ∙ ap moment_in has.opened

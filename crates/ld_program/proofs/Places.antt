@@ -8,7 +8,7 @@ abbrev pub IsIn : {A : Type 0} → A → List A → Type 0
 IsIn x [] = ⊥
 IsIn x (y ∷ ys) = (x ≡ y) ⊎ IsIn x ys
 
-in_front : {A : Type 0} (x : A) (xs ys : List A) → IsIn x xs → IsIn x (xs ++ ys)
+pub in_front : {A : Type 0} (x : A) (xs ys : List A) → IsIn x xs → IsIn x (xs ++ ys)
 in_front x [] ys there = absurd there
 in_front x (y ∷ xs) ys (inl same) = inl same
 in_front x (y ∷ xs) ys (inr there) = inr (in_front x xs ys there)
@@ -38,17 +38,3 @@ pub in_each : {A B : Type 0} (f : ℕ → A → List B) (xs : List A) (k : ℕ) 
 in_each f xs k x y at there =
     let number : k ≡ 0 + k = omega arith in
     in_numbered f 0 xs k x y at (subst (λ (m : ℕ). IsIn y (f m x)) number there)
-
-first_or_later : (b : Bool) (i : ℕ) (rest : Option ℕ) → (j : ℕ) × (rest ≡ Some j) → (j : ℕ) × (cond b (Some i) rest ≡ Some j)
-first_or_later true i rest found = (i, refl)
-first_or_later false i rest found = found
-
-first_passes : (b : Bool) (i : ℕ) (rest : Option ℕ) → b ≡ true → (j : ℕ) × (cond b (Some i) rest ≡ Some j)
-first_passes true i rest passes = (i, refl)
-first_passes false i rest passes = cc
-
--- There is a first element that passes the test, if one does.
-pub has_position : {A : Type 0} (test : A → Bool) (i : ℕ) (xs : List A) (x : A) → IsIn x xs → test x ≡ true → (j : ℕ) × (position_from test i xs ≡ Some j)
-has_position test i [] x there passes = absurd there
-has_position test i (y ∷ xs) x (inl same) passes = first_passes (test y) i (position_from test (i + 1) xs) (ap test (sym same) ∙ passes)
-has_position test i (y ∷ xs) x (inr there) passes = first_or_later (test y) i (position_from test (i + 1) xs) (has_position test (i + 1) xs x there passes)

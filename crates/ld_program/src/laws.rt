@@ -7,6 +7,7 @@ ghost use Rattle.ld_lines.specs.declared.command.Line.{Line};
 ghost use Rattle.ld_lines.specs.declared.command.RunCommand.{RunCommand};
 ghost use Rattle.ld_lines.specs.declared.command.RunCommand.TheVariants as verb;
 ghost use Rattle.ld_model.specs.State.{RunState};
+ghost use Rattle.ld_model.specs.Identifiers.{HasDistinctIdentifiers};
 ghost use Rattle.ld_model.specs.Names.{thing_number};
 ghost use Rattle.ld_model.specs.declared.cell.CellName.TheVariants as cell;
 ghost use Rattle.ld_model.specs.declared.cell.Owner.{Owner};
@@ -46,10 +47,10 @@ pub fn unstarted_run_is_untouched()
 {}
 
 /// The start opens the first act of each play: whatever commands a run has had, a start of it that
-/// is done leaves the first act of each play opened at the moment of that start. (In a valid unit
-/// identifiers differ, so that the thing of an act's identifier is the act itself.)
+/// is done leaves the first act of each play opened at the moment of that start. (The identifiers of
+/// a valid unit differ, so that the thing of an act's identifier is the act itself.)
 pub fn start_opens_first_acts()
-    ensures { (unit : Course) (made : ℤ) (history : List Given) (moment : ℤ) (work : Work) → (step unit (run_after unit made history) moment verb.Start).reply ≡ done work → (play : ℕ) (act : Act) → act_at unit play 0 ≡ Some act → opened_at (step unit (run_after unit made history) moment verb.Start).state (thing_number unit act.identifier) ≡ Some moment }
+    ensures { (unit : Course) → HasDistinctIdentifiers unit → (made : ℤ) (history : List Given) (moment : ℤ) (work : Work) → (step unit (run_after unit made history) moment verb.Start).reply ≡ done work → (play : ℕ) (act : Act) → act_at unit play 0 ≡ Some act → opened_at (step unit (run_after unit made history) moment verb.Start).state (thing_number unit act.identifier) ≡ Some moment }
 {}
 
 /// A refused command changes nothing of its run, and a refused line nothing of the world.
