@@ -1,5 +1,5 @@
 -- The start opens the first act of each play.
-use Rattle.std.proofs.Common.{◌≡◌, ◌⊎◌, inl, inr, ◌+◌, ◌==◌, ℕ, suc, zero, ℤ, List, [], ◌∷◌, Bool, true, false, ◌||◌, Option, Some, None, length, nat_eq, refl, sym, ap, subst, ◌∙◌, if◌then◌else◌, slice_get}
+use Rattle.std.proofs.Common.{◌≡◌, ◌⊎◌, inl, inr, ◌+◌, ◌==◌, ℕ, suc, zero, ℤ, List, ◌++◌, [], ◌∷◌, Bool, true, false, ◌||◌, Option, Some, None, length, nat_eq, refl, sym, ap, subst, ◌∙◌, if◌then◌else◌, slice_get}
 use Rattle.std.specs.List.{fold}
 use Rattle.std.specs.Str.{bytes_eq}
 use Rattle.std.proofs.lemmas.Bool.{eqb-true}

@@ -199,6 +199,10 @@ abbrev pub none_there : Option (List ℕ) → Option Bool
 none_there None = Some true
 none_there (Some _) = None
 
+-- The unit, where it is valid and there is no file of conditions.
+abbrev pub valid_without_conditions : Option (List ℕ) → Course → Option Course
+valid_without_conditions conditions unit = none_there conditions >>= λ _. provided (is_valid unit) unit
+
 -- The valid unit of the folder, or none where the folder has not this form.
 unfoldable pub unit_in : Files → List ℕ → Option Course
 unit_in files folder = do
@@ -207,5 +211,4 @@ unit_in files folder = do
   _ ← none_there (files folder (codes "environments.json"))
   activities ← tree_of (files folder (codes "activities.json")) >>= activities_of
   unit ← tree_of (files folder (codes "unit.json")) >>= unit_of roles activities
-  _ ← none_there (files folder (codes "conditions.json"))
-  provided (is_valid unit) unit
+  valid_without_conditions (files folder (codes "conditions.json")) unit

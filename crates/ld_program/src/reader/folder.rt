@@ -4,7 +4,7 @@ ghost use Rattle.ld_model.specs.Identifiers.{HasDistinctIdentifiers};
 ghost use Rattle.ld_base.specs.Outside.{Rose};
 ghost use Rattle.ld_json.specs.Files.{file_name};
 ghost use Rattle.ld_json.specs.declared.file.FileNo.TheVariants as file_numbers;
-ghost use Rattle.ld_program.specs.FirstForm.{activities_of, roles_of, tree_of, unit_of};
+ghost use Rattle.ld_program.specs.FirstForm.{activities_of, roles_of, tree_of, unit_of, valid_without_conditions};
 ghost use Rattle.ld_program.specs.InFolder.{HasUnit, WhereTold};
 ghost use Rattle.ld_program.specs.Maybe.{◌>>=◌ as ◌then◌};
 
@@ -50,9 +50,44 @@ pub fn read_folder<H: Shelf>(
     let Some(activities) = activities_in(alloc, shelf, folder)? else {
         return Ok(None);
     };
+    let unit = valid_unit_with(alloc, shelf, folder, roles, activities)?;
+    Ok(unit)
+}
+
+/// The valid unit of the folder with these roles and activities, where it has no conditions.
+fn valid_unit_with<H: Shelf>(
+    alloc: Global,
+    shelf: &mut H,
+    folder: &str,
+    roles: RoleList,
+    activities: ActivityList,
+) -> Result<Option<Unit>, FolderStop>
+    ensures unit { IfOk result (λ found. WhereTold (H.files shelf.old) (λ files. found ≡ (tree_of (files folder.now (file_name file_numbers.Unit)) then unit_of roles activities then valid_without_conditions (files folder.now (file_name file_numbers.Conditions))))) }
+    ensures distinct { IfOk result (λ found. IfSome found HasDistinctIdentifiers) }
+    ensures fault { result ≡ Err FolderStop.ShelfFault → Rose (H.faults shelf.old) (H.faults shelf.new) }
+    ensures counts { H.faults shelf.old ≤ H.faults shelf.new }
+    ensures same { H.files shelf.new ≡ H.files shelf.old }
+{
     let Some(unit) = unit_with(alloc, shelf, folder, roles, activities)? else {
         return Ok(None);
     };
+    let unit = unit_if_valid(alloc, shelf, folder, unit)?;
+    Ok(unit)
+}
+
+/// The unit, where the folder has no conditions and the unit is valid.
+fn unit_if_valid<H: Shelf>(
+    alloc: Global,
+    shelf: &mut H,
+    folder: &str,
+    unit: Unit,
+) -> Result<Option<Unit>, FolderStop>
+    ensures unit { IfOk result (λ found. WhereTold (H.files shelf.old) (λ files. found ≡ valid_without_conditions (files folder.now (file_name file_numbers.Conditions)) unit)) }
+    ensures distinct { IfOk result (λ found. IfSome found HasDistinctIdentifiers) }
+    ensures fault { result ≡ Err FolderStop.ShelfFault → Rose (H.faults shelf.old) (H.faults shelf.new) }
+    ensures counts { H.faults shelf.old ≤ H.faults shelf.new }
+    ensures same { H.files shelf.new ≡ H.files shelf.old }
+{
     if !is_absent(alloc, shelf, folder, FileNo::Conditions)? {
         return Ok(None);
     }
