@@ -10,6 +10,7 @@ use crate::memory_shelf::MemoryShelf;
 use crate::memory_sink::MemorySink;
 use crate::memory_source::MemorySource;
 use crate::numbers::{PersonList, PersonNo};
+use crate::plain_text::PlainText;
 use crate::shelf::{FILE_LIMIT, Shelf, ShelfRefusal};
 use crate::sink::{Sink, SinkFailed};
 use crate::source::{Source, SourceFailed};
@@ -46,6 +47,15 @@ fn texts_have_room(rt: HostRuntime) -> Result<(), Fail> {
     small.push("grows beyond its room")?;
     assert_eq!(rt; small.as_str(), "grows beyond its room");
     assert_eq!(rt; Text::of(rt.alloc(), "whole")?.as_str(), "whole");
+    Ok(())
+}
+
+#[test]
+fn plain_texts_are_what_they_were_made_of(rt: HostRuntime) -> Result<(), Fail> {
+    for text in ["", "A title", "é \"1\"\n"] {
+        let plain = PlainText::of(rt.alloc(), text)?;
+        assert_eq!(rt; plain.as_str(), text);
+    }
     Ok(())
 }
 

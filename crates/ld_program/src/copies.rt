@@ -6,31 +6,17 @@ ghost use Rattle.ld_program.specs.StateView.{person_state, IsCopyOf, Writes};
 
 use crate::state::Person;
 use ld_base::memory::NoMemory;
-use ld_base::text::Text;
 use ld_model::cell::CellName;
 use ld_value::value::Value;
 use std::alloc::Global;
 use std::collections::BTreeMap;
-
-/// A value that means the same.
-pub fn copy_value(alloc: Global, value: &Value) -> Result<Value, NoMemory>
-    ensures { IfOk result (λ copy. datum_of copy ≡ datum_of value.now) }
-{
-    match value {
-        Value::Text(text) => Ok(Value::Text(Text::of(alloc, text.as_str())?)),
-        Value::Bool(answer) => Ok(Value::Bool(*answer)),
-        Value::Int(number) => Ok(Value::Int(*number)),
-        Value::Moment(moment) => Ok(Value::Moment(*moment)),
-        Value::Span(seconds) => Ok(Value::Span(*seconds)),
-    }
-}
 
 /// The same of what a cell holds.
 pub fn copy_held(alloc: Global, held: &Option<Value>) -> Result<Option<Value>, NoMemory>
     ensures { IfOk result (λ copy. option_map datum_of copy ≡ option_map datum_of held.now) }
 {
     match held {
-        Some(value) => Ok(Some(copy_value(alloc, value)?)),
+        Some(value) => Ok(Some(value.copy(alloc)?)),
         None => Ok(None),
     }
 }
