@@ -2,3 +2,4 @@ pub mod Counted
 pub mod Differing
 pub mod NameLaws
 pub mod RoleRows
+pub mod Seen

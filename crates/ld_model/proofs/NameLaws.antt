@@ -4,7 +4,9 @@ use Rattle.std.proofs.lemmas.Bool.{lt-ltb, le-ltb, ltb-true, ltb-false}
 use Rattle.std.proofs.lemmas.Cmp.{nat_list_eq_equiv}
 use Rattle.std.proofs.lemmas.Grind.{common_steps}
 use Rattle.std.proofs.lemmas.List.{length-map}
-use Rattle.std.proofs.lemmas.Option.{slice_get_within, slice_get-map}
+use Rattle.std.proofs.lemmas.List.Quantifiers.{position-Some}
+use Rattle.std.proofs.lemmas.Option.{slice_get_within, slice_get-get_or, slice_get-map}
+use Rattle.std.proofs.lemmas.Slice.Eq.{bytes_eq-Decides}
 use Rattle.std.specs.Option.{option_map}
 use Rattle.std.specs.Bool.{nat_lt}
 use Rattle.std.specs.List.{list_any, position, position_or_len}
@@ -88,3 +90,41 @@ thing_named unit t entry distinct at =
     let placed = length-map (things_of unit) (λ (thing : Entry). thing.place) in
     let part : HasPart (names_of unit) (Thing (record { 0 = t })) = omega (arith, within, placed) in
     ap thing_among (identifier_names (names_of unit) (Thing (record { 0 = t })) entry.identifier distinct part (identifier_of_thing unit t entry at))
+
+-- What stands at an index has it as its index, and is a part of the unit.
+index_of_named : (names : NameTable) (index : ℕ) → index < 1 + names.roles + names.properties + length names.places → HasPart names (named_at names index) × (index_of names (named_at names index) ≡ index)
+index_of_named names index within = by (nat_lt index 1) refl (nat_lt index (before_properties names)) refl (nat_lt index (before_things names)) refl
+  where
+    by : (a : Bool) → nat_lt index 1 ≡ a → (b : Bool) → nat_lt index (before_properties names) ≡ b → (c : Bool) → nat_lt index (before_things names) ≡ c → HasPart names (named_at names index) × (index_of names (named_at names index) ≡ index)
+    by true first b is c so =
+        let below = ltb-true index 1 first in
+        let none : 0 ≡ index = omega (arith, below) in
+        rw first (tt, none)
+    by false first true is c so =
+        let above = ltb-false index 1 first in
+        let below = ltb-true index (before_properties names) is in
+        let part : index - 1 < names.roles = omega (arith, above, below) in
+        let back : 1 + (index - 1) ≡ index = omega (arith, above) in
+        rw (first, is) (part, back)
+    by false first false is true so =
+        let above = ltb-false index (before_properties names) is in
+        let below = ltb-true index (before_things names) so in
+        let part : index - before_properties names < names.properties = omega (arith, above, below) in
+        let back : before_properties names + (index - before_properties names) ≡ index = omega (arith, above) in
+        rw (first, is, so) (part, back)
+    by false first false is false so =
+        let above = ltb-false index (before_things names) so in
+        let part : index - before_things names < length names.places = omega (arith, above, within) in
+        let back : before_things names + (index - before_things names) ≡ index = omega (arith, above) in
+        rw (first, is, so) (part, back)
+
+same_text : (x y : List ℕ) → bytes_eq x y ≡ true → x ≡ y
+same_text x y is = (bytes_eq-Decides x y).0 is
+
+-- What an identifier names is a part of the unit, and has this identifier.
+pub named_has_identifier : (names : NameTable) (id : List ℕ) (index : ℕ) → length names.identifiers ≡ 1 + names.roles + names.properties + length names.places → position (bytes_eq id) names.identifiers ≡ Some index → HasPart names (named_at names index) × (identifier_at names (named_at names index) ≡ Some id)
+named_has_identifier names id index count found =
+    let at = position-Some (bytes_eq id) names.identifiers index id found in
+    let named = index_of_named names index (omega (arith, count, at.0)) in
+    let there : slice_get names.identifiers index ≡ Some (get_or names.identifiers index id) = slice_get-get_or names.identifiers index id at.0 in
+    (named.0, ap (slice_get names.identifiers) named.1 ∙ there ∙ ap (λ text. Some text) (sym (same_text id (get_or names.identifiers index id) at.1)))

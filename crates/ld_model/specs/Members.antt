@@ -1,7 +1,10 @@
 -- Who is a member of a role, and which activities are a person's.
-use Rattle.std.specs.Prelude.{ℕ, List, Option, Some, None, Bool, true, false, ◌&&◌, nat_eq, slice_get, length}
+use Rattle.std.specs.Prelude.{ℕ, ℤ, pos, List, Option, Some, None, Bool, true, false, ◌&&◌, nat_eq, slice_get, length}
 use Rattle.std.specs.List.{list_any, list_all, flat_map}
 use Rattle.std.specs.Str.{bytes_eq}
+use Rattle.ld_value.specs.Datum.{Datum, truth_datum, number_datum}
+use Rattle.ld_model.specs.declared.cell.CellName.{CellName}
+use Rattle.ld_model.specs.declared.cell.CellName.TheVariants.{Prop, Vis, Member, Chosen, Opened, ActOpened, Started, Mark, Now, Roster}
 use Rattle.ld_model.specs.declared.method.Act.{Act}
 use Rattle.ld_model.specs.declared.method.Play.{Play}
 use Rattle.ld_model.specs.declared.method.RolePart.{RolePart}
@@ -54,3 +57,17 @@ reaches part id = bytes_eq part.target id
 -- that reaches it.
 abbrev pub is_mine : Course → RunState → List ℕ → ℕ → Bool
 is_mine unit s id p = list_any (λ part. reaches part id && is_member_of unit s part.role p) (parts_of unit)
+
+-- The value of a cell. Whether a person is a member of a role, and how many persons there are, follows
+-- from the persons.
+abbrev pub cell_of : RunState → CellName → Option Datum
+cell_of s (Member r p) = Some (truth_datum (is_member s r.0 p.0))
+cell_of s Roster = Some (number_datum (pos (length s.persons)))
+cell_of s (Prop p owner) = s.cells (Prop p owner)
+cell_of s (Vis t p) = s.cells (Vis t p)
+cell_of s (Chosen t owner) = s.cells (Chosen t owner)
+cell_of s (Opened t owner) = s.cells (Opened t owner)
+cell_of s (ActOpened t) = s.cells (ActOpened t)
+cell_of s Started = s.cells Started
+cell_of s (Mark r owner) = s.cells (Mark r owner)
+cell_of s Now = s.cells Now

@@ -14,6 +14,7 @@ use indexmap::IndexSet;
 use ld_base::id::Id;
 use ld_base::memory::NoMemory;
 use std::alloc::Global;
+use std::collections::BTreeSet;
 
 /// The identifiers of the unit and its parts: its own, those of its roles, of its properties and of
 /// its things. (docs/MEANING.md, "Names")
@@ -25,7 +26,42 @@ pub fn list_identifiers(alloc: Global, unit: &Unit) -> Result<Vec<Id>, NoMemory>
     Ok(identifiers)
 }
 
-/// The same, where the things of the unit are listed already.
+/// Whether no two parts of the unit have one identifier. It takes time for n of them as n times the
+/// logarithm of n.
+pub fn has_distinct_identifiers(alloc: Global, unit: &Unit) -> Result<bool, NoMemory>
+    ensures { IfOk result (λ differ. differ ≡ all_differ (identifiers_of unit.now)) }
+{
+    let identifiers = list_identifiers(alloc, unit)?;
+    let texts = texts_of(alloc, &identifiers)?;
+    let differ = all_differ(alloc, &texts)?;
+    Ok(differ)
+}
+
+/// The texts of the identifiers.
+fn texts_of(alloc: Global, identifiers: &[Id]) -> Result<Vec<&str>, NoMemory>
+    ensures { IfOk result (λ texts. map (λ text. text.now) texts.items ≡ identifiers.now) }
+{
+    let mut texts = Vec::new(alloc);
+    for identifier in identifiers {
+        texts.push(identifier.as_str())?;
+    }
+    Ok(texts)
+}
+
+/// Whether no two of the texts are equal.
+fn all_differ(alloc: Global, texts: &[&str]) -> Result<bool, NoMemory>
+    ensures { IfOk result (λ differ. differ ≡ all_differ (map (λ text. text.now) texts.now)) }
+{
+    let mut seen = BTreeSet::new(alloc);
+    for text in texts {
+        if !seen.insert(*text)? {
+            return Ok(false);
+        }
+    }
+    Ok(true)
+}
+
+/// The identifiers of the unit and its parts, where its things are listed already.
 pub(crate) fn identifiers_with(
     alloc: Global,
     unit: &Unit,

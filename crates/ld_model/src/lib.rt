@@ -17,3 +17,7 @@ pub mod role;
 pub mod rule;
 pub mod thing;
 pub mod unit;
+pub mod view;
+
+#[cfg(test)]
+mod tests;

@@ -93,10 +93,13 @@ impl Names {
         })
     }
 
-    /// What the identifier names; None exactly where the unit has no such identifier. It takes no
-    /// memory.
+    /// What the identifier names; None exactly where the unit has no such identifier. What it names
+    /// has just this identifier. It takes no memory.
+    #[tactic(auto, using(crate::proofs::NameLaws::named_has_identifier))]
     pub fn number(&self, id: &Id) -> Option<Named>
-        ensures { result ≡ named_by self.now id.now }
+        ensures named { result ≡ named_by self.now id.now }
+        ensures part { IfSome result (HasPart self.now) }
+        ensures has_it { IfSome result (λ named. identifier_at self.now named ≡ Some id.now) }
     {
         let index = self.identifiers.get_index_of(id)?;
         Some(self.named_at(index))
