@@ -10,7 +10,9 @@ use ld_base::memory_shelf::MemoryShelf;
 use ld_base::plain_text::PlainText;
 use ld_base::shelf::FILE_LIMIT;
 use ld_base::text::Text;
-use ld_model::activity::{Activity, Completion, Item};
+use ld_model::activity::Activity;
+use ld_model::completion::Completion;
+use ld_model::item::Item;
 use ld_model::method::{Act, Play, RolePart};
 use ld_model::role::{Role, RoleKind};
 use ld_model::unit::Level;
@@ -95,7 +97,7 @@ fn is_the_role(role: &Role) -> bool {
 fn is_the_activity(activity: &Activity) -> bool {
     activity.identifier.as_str() == "read"
         && is_titled(&activity.title, "Read")
-        && activity.complete == Some(Completion::UserChoice)
+        && matches!(activity.complete, Some(Completion::UserChoice))
         && activity.items.len() == 1
         && activity.items.as_slice().iter().all(is_the_item)
 }
