@@ -2,7 +2,6 @@
 mod activities;
 mod files;
 pub mod folder;
-mod identifiers;
 mod lists;
 mod methods;
 mod roles;

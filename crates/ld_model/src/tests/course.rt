@@ -145,63 +145,89 @@ fn part(alloc: Global, name: &str) -> Result<RolePart, Fail> {
     })
 }
 
-/// An act that is completed with its role-part, and one that is not.
-fn acts(alloc: Global) -> Result<Items<Act>, Fail> {
-    let first = Act {
+/// An act that is completed with its role-part.
+fn first_act(alloc: Global) -> Result<Act, Fail> {
+    let role_parts = list(alloc, part(alloc, "part1")?)?;
+    let completed = list(alloc, id(alloc, "part1")?)?;
+    Ok(Act {
         identifier: id(alloc, "act1")?,
         title: None,
-        role_parts: list(alloc, part(alloc, "part1")?)?,
-        complete: Some(Completion::WhenRolePartCompleted(list(
-            alloc,
-            id(alloc, "part1")?,
-        )?)),
+        role_parts,
+        complete: Some(Completion::WhenRolePartCompleted(completed)),
         on_completion: feedback(alloc, "act1-done")?,
-    };
-    let second = Act {
+    })
+}
+
+/// An act that is never completed.
+fn second_act(alloc: Global) -> Result<Act, Fail> {
+    Ok(Act {
         identifier: id(alloc, "act2")?,
         title: None,
         role_parts: list(alloc, part(alloc, "part2")?)?,
         complete: None,
         on_completion: None,
-    };
-    let mut acts = list(alloc, first)?;
-    acts.push(second)?;
-    Ok(acts)
-}
-
-fn method(alloc: Global) -> Result<Method, Fail> {
-    let play = Play {
-        identifier: id(alloc, "play")?,
-        title: None,
-        visible: true,
-        acts: acts(alloc)?,
-        complete: Some(Completion::WhenLastActCompleted),
-        on_completion: feedback(alloc, "play-done")?,
-    };
-    Ok(Method {
-        plays: list(alloc, play)?,
-        complete: Some(Completion::TimeLimit(60)),
-        on_completion: feedback(alloc, "unit-done")?,
     })
 }
 
-/// The unit `course`, of level B.
-pub(super) fn course(alloc: Global) -> Result<Unit, Fail> {
+fn acts(alloc: Global) -> Result<Items<Act>, Fail> {
+    let mut acts = list(alloc, first_act(alloc)?)?;
+    acts.push(second_act(alloc)?)?;
+    Ok(acts)
+}
+
+fn play(alloc: Global) -> Result<Play, Fail> {
+    let acts = acts(alloc)?;
+    Ok(Play {
+        identifier: id(alloc, "play")?,
+        title: None,
+        visible: true,
+        acts,
+        complete: Some(Completion::WhenLastActCompleted),
+        on_completion: feedback(alloc, "play-done")?,
+    })
+}
+
+/// A unit without parts.
+fn empty(alloc: Global, name: &str) -> Result<Unit, Fail> {
     Ok(Unit {
         format: 1,
-        identifier: id(alloc, "course")?,
+        identifier: id(alloc, name)?,
         level: Level::B,
         title: None,
         turns: 64,
         metadata: None,
-        learning_objectives: items(alloc, "aim")?,
-        prerequisites: items(alloc, "known")?,
-        roles: roles(alloc)?,
-        properties: list(alloc, property(alloc)?)?,
-        environments: list(alloc, environment(alloc)?)?,
-        activities: list(alloc, activity(alloc)?)?,
-        structures: list(alloc, structure(alloc)?)?,
-        method: method(alloc)?,
+        learning_objectives: Items::new(alloc),
+        prerequisites: Items::new(alloc),
+        roles: Items::new(alloc),
+        properties: Items::new(alloc),
+        environments: Items::new(alloc),
+        activities: Items::new(alloc),
+        structures: Items::new(alloc),
+        method: Method {
+            plays: Items::new(alloc),
+            complete: Some(Completion::TimeLimit(60)),
+            on_completion: None,
+        },
         conditions: Items::new(alloc),
     })
+}
+
+/// Adds the roles, the property, the environment, the activity and the structure.
+fn add_parts(alloc: Global, unit: &mut Unit) -> Result<(), Fail> {
+    unit.roles = roles(alloc)?;
+    unit.properties.push(property(alloc)?)?;
+    unit.environments.push(environment(alloc)?)?;
+    unit.activities.push(activity(alloc)?)?;
+    unit.structures.push(structure(alloc)?)?;
+    Ok(())
+}
+
+/// The unit `course`, of level B.
+pub(super) fn course(alloc: Global) -> Result<Unit, Fail> {
+    let mut unit = empty(alloc, "course")?;
+    add_parts(alloc, &mut unit)?;
+    unit.learning_objectives.push(item(alloc, "aim")?)?;
+    unit.prerequisites.push(item(alloc, "known")?)?;
+    unit.method.plays.push(play(alloc)?)?;
+    Ok(unit)
 }

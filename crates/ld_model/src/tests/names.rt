@@ -89,22 +89,30 @@ fn the_unit_and_its_property_are_named(rt: HostRuntime) -> Result<(), Fail> {
     Ok(())
 }
 
+/// The rules of the course in their order, and whether each is judged for each person or for the run.
+const RULES: [(Rule, RuleKind); 9] = [
+    (Rule::CompletesActivity(0), RuleKind::Person),
+    (Rule::CompletesStructure(0), RuleKind::Person),
+    (Rule::OpensAct(0, 0), RuleKind::Run),
+    (Rule::CompletesPart(0, 0, 0), RuleKind::Run),
+    (Rule::CompletesAct(0, 0), RuleKind::Run),
+    (Rule::OpensAct(0, 1), RuleKind::Run),
+    (Rule::CompletesPart(0, 1, 0), RuleKind::Run),
+    (Rule::CompletesPlay(0), RuleKind::Run),
+    (Rule::CompletesUnit, RuleKind::Run),
+];
+
+fn rules_of_course(alloc: Global) -> Result<Vec<Rule>, Fail> {
+    let unit = course(alloc)?;
+    let rules = list_rules(alloc, &unit)?;
+    Ok(rules)
+}
+
 #[test]
 fn rules_stand_in_their_order(rt: HostRuntime) -> Result<(), Fail> {
-    let rules = list_rules(rt.alloc(), &course(rt.alloc())?)?;
-    let expected = [
-        (Rule::CompletesActivity(0), RuleKind::Person),
-        (Rule::CompletesStructure(0), RuleKind::Person),
-        (Rule::OpensAct(0, 0), RuleKind::Run),
-        (Rule::CompletesPart(0, 0, 0), RuleKind::Run),
-        (Rule::CompletesAct(0, 0), RuleKind::Run),
-        (Rule::OpensAct(0, 1), RuleKind::Run),
-        (Rule::CompletesPart(0, 1, 0), RuleKind::Run),
-        (Rule::CompletesPlay(0), RuleKind::Run),
-        (Rule::CompletesUnit, RuleKind::Run),
-    ];
-    assert_eq!(rt; rules.len(), expected.len());
-    for (rule, (expected, kind)) in rules.iter().zip(expected.iter()) {
+    let rules = rules_of_course(rt.alloc())?;
+    assert_eq!(rt; rules.len(), RULES.len());
+    for (rule, (expected, kind)) in rules.iter().zip(RULES.iter()) {
         assert_eq!(rt; *rule, *expected);
         assert_eq!(rt; rule.kind(), *kind);
     }

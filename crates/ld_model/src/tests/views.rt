@@ -1,6 +1,5 @@
 //! A view of one cell.
-ghost use Rattle.std.specs.Prelude.{◌≡◌, Option, Some, None, if◌then◌else◌};
-ghost use Rattle.ld_base.specs.declared.numbers.PersonNo.{PersonNo as Number};
+ghost use Rattle.std.specs.Prelude.{◌≡◌, ◌<◌};
 ghost use Rattle.ld_value.specs.Datum.{datum_of, truth_datum};
 ghost use Rattle.ld_model.specs.Cells.{same_cell};
 ghost use Rattle.ld_model.specs.declared.cell.CellName.TheVariants as names;

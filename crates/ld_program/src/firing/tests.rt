@@ -1,4 +1,5 @@
 //! What no clause says: that a small unit settles as a person would expect, where there is memory.
+ghost use Rattle.std.specs.Prelude.{IfOk};
 ghost use Rattle.ld_program.specs.PlanView.{IsPlanOf};
 
 use crate::firing::settle;
@@ -10,6 +11,7 @@ use ld_base::numbers::{PersonNo, PropNo, RoleNo, ThingNo};
 use ld_base::text::Text;
 use ld_model::activity::{Activity, ActivityKind};
 use ld_model::completion::Completion;
+use ld_model::identifiers::has_distinct_identifiers;
 use ld_model::cell::{CellName, Owner};
 use ld_model::method::{Act, Method, Play, RolePart};
 use ld_model::role::{CreateNew, MatchPersons, Role, RoleKind};
@@ -135,6 +137,17 @@ fn settled(
     Ok(sums.map(|sums| (sums.turns, sums.fired)))
 }
 
+/// The plan of the unit, whose identifiers have to differ.
+fn plan_of(alloc: Global, unit: &Unit) -> Result<Plan, Fail>
+    ensures { IfOk result (IsPlanOf unit.now) }
+{
+    if !has_distinct_identifiers(alloc, unit)? {
+        return Err("two parts have one identifier".into());
+    }
+    let plan = Plan::of(alloc, unit)?;
+    Ok(plan)
+}
+
 #[test]
 fn small_unit_settles(rt: HostRuntime) -> Result<(), Fail> {
     let alone = ["ann"];
@@ -159,7 +172,7 @@ fn small_unit_settles(rt: HostRuntime) -> Result<(), Fail> {
         ([].as_slice(), [&[][..], &[], &[]], [(1, 1), (0, 0), (0, 0)]),
     ];
     let unit = reading_unit(rt.alloc())?;
-    let plan = Plan::of(rt.alloc(), &unit)?;
+    let plan = plan_of(rt.alloc(), &unit)?;
     for (names, choosers, expected) in table {
         let mut state = run_of(rt.alloc(), names)?;
         for (chosen, (turns, fired)) in choosers.iter().zip(expected) {

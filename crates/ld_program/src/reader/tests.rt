@@ -241,14 +241,27 @@ const NO_UNITS: [(&str, Option<&[u8]>, u64); 21] = [
 #[test]
 fn other_folders_have_no_unit(rt: HostRuntime) -> Result<(), Fail> {
     for (name, bytes, call) in NO_UNITS {
-        let mut shelf = shelf_of(rt.alloc(), name, bytes, call + 1)?;
-        let found = read_folder(rt.alloc(), &mut shelf, "u1")?;
-        assert!(rt; found.is_none(), "{name}: {bytes:?}");
-        let mut shelf = shelf_of(rt.alloc(), name, bytes, call)?;
-        let stop = read_folder(rt.alloc(), &mut shelf, "u1").err();
-        assert!(rt; stop == Some(FolderStop::ShelfFault), "{name}: {bytes:?}");
+        let found = has_unit(rt.alloc(), name, bytes, call + 1)?;
+        assert!(rt; found == Ok(false), "{name}: {bytes:?}");
+        let found = has_unit(rt.alloc(), name, bytes, call)?;
+        assert!(rt; found == Err(FolderStop::ShelfFault), "{name}: {bytes:?}");
     }
     Ok(())
+}
+
+/// Whether the folder has a unit where the file of this name holds these bytes or none, and the call
+/// of the number `failing` fails.
+fn has_unit(
+    alloc: Global,
+    name: &str,
+    bytes: Option<&[u8]>,
+    failing: u64,
+) -> Result<Result<bool, FolderStop>, NoMemory> {
+    let mut shelf = shelf_of(alloc, name, bytes, failing)?;
+    match read_folder(alloc, &mut shelf, "u1") {
+        Ok(found) => Ok(Ok(found.is_some())),
+        Err(stop) => Ok(Err(stop)),
+    }
 }
 
 #[test]

@@ -7,10 +7,10 @@ ghost use Rattle.ld_model.specs.RoleRows.{joined};
 ghost use Rattle.ld_model.specs.Validity.{is_valid, is_within_limits, names_a_role, names_an_activity, references_hold};
 ghost use Rattle.ld_program.specs.References.{act_holds, part_holds, play_holds};
 
-use crate::reader::identifiers::has_distinct_identifiers;
 use ld_base::id::Id;
 use ld_base::memory::NoMemory;
 use ld_model::activity::Activity;
+use ld_model::identifiers::has_distinct_identifiers;
 use ld_model::method::{Act, Play, RolePart};
 use ld_model::role::Role;
 use ld_model::unit::Unit;
