@@ -1,0 +1,89 @@
+-- The elements of an array, read one node after another.
+use Rattle.std.proofs.Common.{◌≡◌, ℕ, zero, suc, ◌+◌, ◌<◌, ◌≤◌, List, [], ◌∷◌, ◌++◌, length, drop, Option, Some, None, Bool, true, false, IsSome, nat_le, option_map, refl, sym, ap, ◌∙◌, arith, append-nil, append_assoc}
+use Rattle.std.proofs.lemmas.Bool.{le-leb, lt-leb}
+use Rattle.std.proofs.lemmas.List.{drop_all}
+use Rattle.serde_json.specs.Data.{Data, null, boolean, number, string, array, object, Items, no_items, item}
+use Rattle.serde_json.specs.Find.{as_array}
+use Rattle.ld_base.specs.Maybe.{◌>>=◌, provided}
+use Rattle.ld_json.specs.Access.{nodes_from, nodes_of, item_nodes}
+use Rattle.ld_json.specs.Node.{Placed, item_node}
+use Rattle.ld_reader.specs.Walks.{count_items, each_of, elements_of, list_of}
+
+length-nodes_from : (node : Placed) (start : ℕ) (elements : Items) → length (nodes_from node start elements) ≡ count_items elements
+length-nodes_from node start no_items = refl
+length-nodes_from node start (item tree rest) = ap (λ n. suc n) (length-nodes_from node (start + 1) rest)
+
+-- What is read from these nodes, where something is read from each.
+abbrev pub from_nodes : {A : Type 0} → (Data → Option A) → List Placed → Option (List A)
+from_nodes read [] = Some []
+from_nodes read (node ∷ rest) = read node.tree >>= λ x. from_nodes read rest >>= λ xs. Some (x ∷ xs)
+
+from-nodes_from : {A : Type 0} (read : Data → Option A) (node : Placed) (start : ℕ) (elements : Items) → from_nodes read (nodes_from node start elements) ≡ each_of read elements
+from-nodes_from read node start no_items = refl
+from-nodes_from read node start (item tree rest) = rw (from-nodes_from read node (start + 1) rest)
+
+-- The list before, and behind it what is still to be read.
+abbrev pub then_read : {A : Type 0} → List A → Option (List A) → Option (List A)
+then_read before None = None
+then_read before (Some more) = Some (before ++ more)
+
+then_step : {A : Type 0} (before : List A) (x : A) (more : Option (List A)) → then_read before (more >>= λ xs. Some (x ∷ xs)) ≡ then_read (before ++ x ∷ []) more
+then_step before x None = refl
+then_step before x (Some xs) = ap Some (sym (append_assoc before (x ∷ []) xs))
+
+-- All is read.
+pub then_nothing : {A : Type 0} (before : List A) → then_read before (Some []) ≡ Some before
+then_nothing before = ap Some (append-nil before)
+
+-- One node more is read.
+pub then_node : {A : Type 0} (read : Data → Option A) (before : List A) (node : Placed) (rest : List Placed) (x : A) → read node.tree ≡ Some x → then_read before (from_nodes read (node ∷ rest)) ≡ then_read (before ++ x ∷ []) (from_nodes read rest)
+then_node read before node rest x is = rw is (then_step before x (from_nodes read rest))
+
+-- ---- enough elements, or too few
+
+enough_items : (least : ℕ) (node : Placed) (elements : Items) → as_array node.tree ≡ Some elements → least ≤ length (nodes_from node 0 elements) → elements_of least node.tree ≡ Some elements
+unfolding elements_of
+enough_items least node elements is enough =
+    let more : least ≤ count_items elements = rw length-nodes_from at enough in
+    rw (is, le-leb least (count_items elements) more) refl
+
+few_items : (least : ℕ) (node : Placed) (elements : Items) → as_array node.tree ≡ Some elements → length (nodes_from node 0 elements) < least → elements_of least node.tree ≡ None
+unfolding elements_of
+few_items least node elements is few =
+    let fewer : count_items elements < least = rw length-nodes_from at few in
+    rw (is, lt-leb least (count_items elements) fewer) refl
+
+enough_under : (least : ℕ) (node : Placed) (o : Option Items) → as_array node.tree ≡ o → IsSome o → least ≤ length (nodes_of node o) → elements_of least node.tree ≡ o
+enough_under least node None is there enough = cc
+enough_under least node (Some elements) is there enough = enough_items least node elements is enough
+
+few_under : (least : ℕ) (node : Placed) (o : Option Items) → as_array node.tree ≡ o → IsSome o → length (nodes_of node o) < least → elements_of least node.tree ≡ None
+few_under least node None is there few = cc
+few_under least node (Some elements) is there few = few_items least node elements is few
+
+read_under : {A : Type 0} (read : Data → Option A) (node : Placed) (o : Option Items) → IsSome o → (o >>= each_of read) ≡ from_nodes read (nodes_of node o)
+read_under read node None there = cc
+read_under read node (Some elements) there = sym (from-nodes_from read node 0 elements)
+
+-- An array of enough elements.
+pub elements_enough : (least : ℕ) (node : Placed) → IsSome (as_array node.tree) → least ≤ length (item_nodes node) → elements_of least node.tree ≡ as_array node.tree
+elements_enough least node there enough = enough_under least node (as_array node.tree) refl there enough
+
+-- An array of too few elements.
+pub elements_few : (least : ℕ) (node : Placed) → IsSome (as_array node.tree) → length (item_nodes node) < least → elements_of least node.tree ≡ None
+elements_few least node there few = few_under least node (as_array node.tree) refl there few
+
+-- What is read from an array of enough elements is what is read from their nodes.
+pub list_of_nodes : {A : Type 0} (read : Data → Option A) (least : ℕ) (node : Placed) → IsSome (as_array node.tree) → elements_of least node.tree ≡ as_array node.tree → list_of least read node.tree ≡ from_nodes read (item_nodes node)
+list_of_nodes read least node there enough = rw enough (read_under read node (as_array node.tree) there)
+
+-- No array has no elements.
+pub elements_none : (least : ℕ) (tree : Data) → as_array tree ≡ None → elements_of least tree ≡ None
+unfolding elements_of
+elements_none least tree is = rw is refl
+
+-- What was read when no node is left is the whole list.
+pub read_to_end : {A : Type 0} (read : Data → Option A) (least : ℕ) (node : Placed) (before : List A) (index : ℕ) → IsSome (as_array node.tree) → elements_of least node.tree ≡ as_array node.tree → length (item_nodes node) ≤ index → then_read before (from_nodes read (drop index (item_nodes node))) ≡ from_nodes read (item_nodes node) → list_of least read node.tree ≡ Some before
+read_to_end read least node before index there enough all is =
+    let whole : then_read before (Some []) ≡ from_nodes read (item_nodes node) = rw (drop_all index (item_nodes node) all) at is in
+    list_of_nodes read least node there enough ∙ sym whole ∙ then_nothing before
