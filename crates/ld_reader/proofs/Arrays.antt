@@ -1,12 +1,12 @@
 -- The elements of an array, read one node after another.
-use Rattle.std.proofs.Common.{◌≡◌, ℕ, zero, suc, ◌+◌, ◌<◌, ◌≤◌, List, [], ◌∷◌, ◌++◌, length, drop, Option, Some, None, Bool, true, false, IsSome, nat_le, option_map, refl, sym, ap, ◌∙◌, arith, append-nil, append_assoc}
+use Rattle.std.proofs.Common.{◌≡◌, ℕ, suc, ◌+◌, ◌<◌, ◌≤◌, List, [], ◌∷◌, ◌++◌, length, drop, Option, Some, None, IsSome, refl, sym, ap, ◌∙◌, append-nil, append_assoc}
 use Rattle.std.proofs.lemmas.Bool.{le-leb, lt-leb}
 use Rattle.std.proofs.lemmas.List.{drop_all}
-use Rattle.serde_json.specs.Data.{Data, null, boolean, number, string, array, object, Items, no_items, item}
+use Rattle.serde_json.specs.Data.{Data, Items, no_items, item}
 use Rattle.serde_json.specs.Find.{as_array}
-use Rattle.ld_base.specs.Maybe.{◌>>=◌, provided}
+use Rattle.ld_base.specs.Maybe.{◌>>=◌}
 use Rattle.ld_json.specs.Access.{nodes_from, nodes_of, item_nodes}
-use Rattle.ld_json.specs.Node.{Placed, item_node}
+use Rattle.ld_json.specs.Node.{Placed}
 use Rattle.ld_reader.specs.Walks.{count_items, each_of, elements_of, list_of}
 
 length-nodes_from : (node : Placed) (start : ℕ) (elements : Items) → length (nodes_from node start elements) ≡ count_items elements

@@ -7,6 +7,7 @@
 //! one pair of definitions for each kind of node.
 #![tactic(auto)]
 
+pub mod completions;
 pub mod items;
 pub mod lists;
 pub mod members;

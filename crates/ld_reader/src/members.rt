@@ -15,11 +15,7 @@ use ld_json::node::Node;
 use std::alloc::Global;
 
 /// The part at the member of this name, which has to be there.
-pub fn member_at<T: Part + Drop>(
-    alloc: Global,
-    node: &Node<'_>,
-    name: &str,
-) -> Result<T, ReadFault>
+pub fn member_at<T: Part + Drop>(alloc: Global, node: &Node<'_>, name: &str) -> Result<T, ReadFault>
     requires { IsObject node.now }
     ensures value { IfOk result (λ part. member_of name.now T.of node.now.tree ≡ Some part) }
     ensures faultless { OnOk result (in_member name.now T.faults node.now ≡ []) }
@@ -88,11 +84,7 @@ pub fn text_at(
 }
 
 /// The title at the member of this name, if it is there: 1 to 256 bytes.
-pub fn title_at(
-    alloc: Global,
-    node: &Node<'_>,
-    name: &str,
-) -> Result<Option<PlainText>, ReadFault>
+pub fn title_at(alloc: Global, node: &Node<'_>, name: &str) -> Result<Option<PlainText>, ReadFault>
     requires { IsObject node.now }
     ensures value { IfOk result (λ title. optional_of name.now title_of node.now.tree ≡ Some title) }
     ensures faultless { OnOk result (in_optional name.now (leaf_faults title_of) node.now ≡ []) }

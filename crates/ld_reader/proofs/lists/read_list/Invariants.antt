@@ -6,5 +6,5 @@ use Rattle.ld_reader.proofs.lists.read_list.Given as goal
 abbrev pub invariant-loop-index : goal.invariant-loop-index
 invariant-loop-index g l = record {
   faults : flat_map g.T.Part.faults (drop l.index (item_nodes l.node)) ≡ flat_map g.T.Part.faults (item_nodes l.node);
-  value : then_read l.parts (from_nodes g.T.Part.of (drop l.index (item_nodes l.node))) ≡ from_nodes g.T.Part.of (item_nodes l.node)
+  value : then_read l.parts (from_nodes g.T.Part.of (drop l.index (item_nodes l.node))) ≡ from_nodes g.T.Part.of (item_nodes l.node);
 }
