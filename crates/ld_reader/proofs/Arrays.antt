@@ -1,5 +1,5 @@
 -- The elements of an array, read one node after another.
-use Rattle.std.proofs.Common.{◌≡◌, ℕ, suc, ◌+◌, ◌<◌, ◌≤◌, List, [], ◌∷◌, ◌++◌, length, drop, Option, Some, None, IsSome, refl, sym, ap, ◌∙◌, append-nil, append_assoc}
+use Rattle.std.proofs.Common.{◌≡◌, ℕ, suc, ◌+◌, ◌<◌, ◌≤◌, List, [], ◌∷◌, ◌++◌, length, drop, Option, option_map, Some, None, IsSome, refl, sym, ap, ◌∙◌, append-nil, append_assoc}
 use Rattle.std.proofs.lemmas.Bool.{le-leb, lt-leb}
 use Rattle.std.proofs.lemmas.List.{drop_all}
 use Rattle.serde_json.specs.Data.{Data, Items, no_items, item}
@@ -87,3 +87,11 @@ pub read_to_end : {A : Type 0} (read : Data → Option A) (least : ℕ) (node : 
 read_to_end read least node before index there enough all is =
     let whole : then_read before (Some []) ≡ from_nodes read (item_nodes node) = rw (drop_all index (item_nodes node) all) at is in
     list_of_nodes read least node there enough ∙ sym whole ∙ then_nothing before
+
+length-nodes_under : (node : Placed) (o : Option Items) → IsSome o → option_map count_items o ≡ Some (length (nodes_of node o))
+length-nodes_under node None there = cc
+length-nodes_under node (Some elements) there = ap Some (sym (length-nodes_from node 0 elements))
+
+-- The number of an array's elements is that of their nodes.
+pub length_nodes : (node : Placed) → IsSome (as_array node.tree) → option_map count_items (as_array node.tree) ≡ Some (length (item_nodes node))
+length_nodes node there = length-nodes_under node (as_array node.tree) there

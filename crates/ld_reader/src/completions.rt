@@ -3,7 +3,7 @@ ghost use Rattle.std.specs.Prelude.{◌≡◌, [], Some, IfOk, OnOk, IfErr, code
 ghost use Rattle.ld_json.specs.Access.{IsObject};
 ghost use Rattle.ld_json.specs.Fault.{SaysFirst};
 ghost use Rattle.ld_json.specs.Walk.{in_member};
-ghost use Rattle.ld_reader.specs.Completions.{sole_case_of, sole_case_faults, activity_cases, user_choice_of, time_limit_of, on_completion_of, on_completion_faults};
+ghost use Rattle.ld_reader.specs.Completions.{activity_completion_of, activity_completion_faults, user_choice_of, time_limit_of, on_completion_of, on_completion_faults};
 ghost use Rattle.ld_reader.specs.Forms.{seconds_of, true_of};
 ghost use Rattle.ld_reader.specs.Walks.{member_of, leaf_faults, left_out};
 
@@ -22,11 +22,11 @@ use std::alloc::Global;
 /// When an activity is completed: an object of one member, which is `user-choice` or `time-limit`.
 /// `wrong-shape` exactly where it is no such object, `unknown-member` where the member has another
 /// name; `when-property-value-is-set` is `not-in-profile`, at the member.
-#[tactic(auto, using(ld_json::proofs::First::first_of_both))]
+#[tactic(auto, unfolding(crate::specs::Completions::activity_completion_of, crate::specs::Completions::activity_completion_faults), using(ld_json::proofs::First::first_of_both))]
 pub fn read_activity_completion(alloc: Global, node: &Node<'_>) -> Result<Completion, ReadFault>
-    ensures value { IfOk result (λ completion. sole_case_of activity_cases node.now.tree ≡ Some completion) }
-    ensures faultless { OnOk result (sole_case_faults activity_cases node.now ≡ []) }
-    ensures first { IfErr result (SaysFirst (sole_case_faults activity_cases node.now)) }
+    ensures value { IfOk result (λ completion. activity_completion_of node.now.tree ≡ Some completion) }
+    ensures faultless { OnOk result (activity_completion_faults node.now ≡ []) }
+    ensures first { IfErr result (SaysFirst (activity_completion_faults node.now)) }
 {
     match node.sole(alloc)? {
         "user-choice" => {

@@ -7,10 +7,13 @@
 //! one pair of definitions for each kind of node.
 #![tactic(auto)]
 
+pub mod activities;
 pub mod completions;
+pub mod environments;
 pub mod items;
 pub mod lists;
 pub mod members;
 pub mod part;
 pub mod parts;
+pub mod structures;
 pub mod values;
