@@ -1,13 +1,17 @@
 -- The elements of an array, read one node after another.
-use Rattle.std.proofs.Common.{◌≡◌, ℕ, suc, ◌+◌, ◌<◌, ◌≤◌, List, [], ◌∷◌, ◌++◌, length, drop, Option, option_map, Some, None, IsSome, refl, sym, ap, ◌∙◌, append-nil, append_assoc}
+use Rattle.std.proofs.Common.{◌≡◌, ℕ, suc, ◌+◌, ◌<◌, ◌≤◌, List, [], ◌∷◌, ◌++◌, length, drop, slice_get, flat_map, Option, option_map, Some, None, IsSome, refl, sym, ap, subst, ◌∙◌, append-nil, append_assoc}
 use Rattle.std.proofs.lemmas.Bool.{le-leb, lt-leb}
 use Rattle.std.proofs.lemmas.List.{drop_all}
 use Rattle.serde_json.specs.Data.{Data, Items, no_items, item}
 use Rattle.serde_json.specs.Find.{as_array}
 use Rattle.ld_base.specs.Maybe.{◌>>=◌}
-use Rattle.ld_json.specs.Access.{nodes_from, nodes_of, item_nodes}
+use Rattle.ld_json.proofs.Elements.{drop_at}
+use Rattle.ld_json.specs.Access.{nodes_from, nodes_of, item_nodes, shape_faults}
+use Rattle.ld_json.specs.Fault.{Told, SaysFirst}
+use Rattle.ld_json.specs.declared.fault.ReadFault.{ReadFault}
+use Rattle.ld_reader.proofs.Firsts.{says_more}
 use Rattle.ld_json.specs.Node.{Placed}
-use Rattle.ld_reader.specs.Walks.{count_items, each_of, elements_of, list_of}
+use Rattle.ld_reader.specs.Walks.{count_items, each_of, elements_of, list_of, in_list, left_out, first_left_out, no_elements, empty_list_of}
 
 length-nodes_from : (node : Placed) (start : ℕ) (elements : Items) → length (nodes_from node start elements) ≡ count_items elements
 length-nodes_from node start no_items = refl
@@ -95,3 +99,43 @@ length-nodes_under node (Some elements) there = ap Some (sym (length-nodes_from 
 -- The number of an array's elements is that of their nodes.
 pub length_nodes : (node : Placed) → IsSome (as_array node.tree) → option_map count_items (as_array node.tree) ≡ Some (length (item_nodes node))
 length_nodes node there = length-nodes_under node (as_array node.tree) there
+
+-- ---- one step of a walk over the nodes
+
+-- A node without faults is passed.
+pub pass_faults : (faults : Placed → List Told) (nodes : List Placed) (index : ℕ) (node : Placed) (all : List Told) → slice_get nodes index ≡ Some node → faults node ≡ [] → flat_map faults (drop index nodes) ≡ all → flat_map faults (drop (index + 1) nodes) ≡ all
+pass_faults faults nodes index node all is none before =
+    let split : flat_map faults (node ∷ drop (index + 1) nodes) ≡ all = rw (drop_at nodes index node is) at before in
+    ap (λ own. own ++ flat_map faults (drop (index + 1) nodes)) (sym none) ∙ split
+
+-- What is read from a node is appended.
+pub pass_value : {A : Type 0} (read : Data → Option A) (nodes : List Placed) (index : ℕ) (node : Placed) (before : List A) (x : A) (all : Option (List A)) → slice_get nodes index ≡ Some node → read node.tree ≡ Some x → then_read before (from_nodes read (drop index nodes)) ≡ all → then_read (before ++ x ∷ []) (from_nodes read (drop (index + 1) nodes)) ≡ all
+pass_value read nodes index node before x all is reads was =
+    sym (then_node read before node (drop (index + 1) nodes) x reads) ∙ rw (drop_at nodes index node is) at was
+
+-- The first fault of a node that is come to is the first of all.
+pub stop_at : (faults : Placed → List Told) (least : ℕ) (node : Placed) (index : ℕ) (element : Placed) (error : ReadFault) → shape_faults node (elements_of least node.tree) ≡ [] → slice_get (item_nodes node) index ≡ Some element → flat_map faults (drop index (item_nodes node)) ≡ flat_map faults (item_nodes node) → SaysFirst (faults element) error → SaysFirst (in_list least faults node) error
+stop_at faults least node index element error own is before says =
+    let nodes = item_nodes node in
+    let split : flat_map faults nodes ≡ faults element ++ flat_map faults (drop (index + 1) nodes) = sym before ∙ ap (flat_map faults) (drop_at nodes index element is) in
+    let all : in_list least faults node ≡ faults element ++ flat_map faults (drop (index + 1) nodes) = ap (λ here. here ++ flat_map faults nodes) own ∙ split in
+    subst (λ (list : List Told). SaysFirst list error) (sym all) (says_more (faults element) (flat_map faults (drop (index + 1) nodes)) error says)
+
+-- ---- lists that this engine has no element of yet
+
+pub none_left_out : (nodes : List Placed) → length nodes ≡ 0 → first_left_out nodes ≡ []
+none_left_out [] none = refl
+none_left_out (_ ∷ _) none = cc
+
+pub one_left_out : (nodes : List Placed) (node : Placed) → slice_get nodes 0 ≡ Some node → first_left_out nodes ≡ left_out node
+one_left_out [] node is = cc
+one_left_out (first ∷ _) node is = let same : first ≡ node = cc in ap left_out same
+
+no_elements_under : {A : Type 0} (node : Placed) (o : Option Items) → IsSome o → length (nodes_of node o) ≡ 0 → (o >>= no_elements {A = A}) ≡ Some []
+no_elements_under node None there none = cc
+no_elements_under node (Some no_items) there none = refl
+no_elements_under node (Some (item _ _)) there none = cc
+
+-- An array of no elements is read as the empty list.
+pub nothing_read : {A : Type 0} (node : Placed) → IsSome (as_array node.tree) → length (item_nodes node) ≡ 0 → empty_list_of {A = A} node.tree ≡ Some []
+nothing_read node there none = no_elements_under node (as_array node.tree) there none

@@ -5,7 +5,7 @@ use Rattle.std.specs.Str.{bytes_eq}
 use Rattle.serde_json.specs.Data.{Members, no_members, member}
 use Rattle.serde_json.specs.Find.{as_object}
 use Rattle.ld_json.specs.Access.{all_listed, listing_faults, only_faults}
-use Rattle.ld_json.specs.Fault.{SaysFirst, Told, first_of, fault_at}
+use Rattle.ld_json.specs.Fault.{SaysFirst, fault_at}
 use Rattle.ld_json.specs.Node.{Placed}
 use Rattle.ld_json.specs.declared.code.Code.TheVariants.{UnknownMember}
 use Rattle.ld_json.specs.declared.fault.ReadFault.{ReadFault}

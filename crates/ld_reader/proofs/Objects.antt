@@ -4,7 +4,7 @@ use Rattle.serde_json.specs.Data.{Members}
 use Rattle.serde_json.specs.Find.{as_object}
 use Rattle.ld_base.specs.Maybe.{◌>>=◌, provided}
 use Rattle.ld_json.specs.Access.{all_listed, listing_faults, only_faults}
-use Rattle.ld_json.specs.Fault.{Told, fault_at}
+use Rattle.ld_json.specs.Fault.{fault_at}
 use Rattle.ld_json.specs.Node.{Placed}
 use Rattle.ld_json.specs.declared.code.Code.TheVariants.{UnknownMember}
 use Rattle.ld_reader.specs.Walks.{only}

@@ -9,11 +9,13 @@
 
 pub mod activities;
 pub mod completions;
+mod documents;
 pub mod environments;
 pub mod items;
 pub mod lists;
 pub mod members;
 pub mod part;
 pub mod parts;
+pub mod roles;
 pub mod structures;
 pub mod values;

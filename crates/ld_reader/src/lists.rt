@@ -4,7 +4,7 @@ ghost use Rattle.serde_json.specs.Find.{as_array};
 ghost use Rattle.ld_json.specs.Access.{IsObject, IsArray, item_nodes, shape_faults};
 ghost use Rattle.ld_json.specs.Fault.{SaysFirst};
 ghost use Rattle.ld_json.specs.Walk.{in_member, in_optional};
-ghost use Rattle.ld_reader.specs.Walks.{member_of, default_of, list_of, in_list, elements_of};
+ghost use Rattle.ld_reader.specs.Walks.{member_of, default_of, list_of, in_list, elements_of, empty_list_of, in_empty_list};
 
 use crate::part::Part;
 use ld_base::items::Items;
@@ -16,7 +16,7 @@ use std::alloc::Global;
 /// The number of elements of an array that has at least so many. `wrong-shape` exactly where the node
 /// is none.
 #[tactic(auto, using(crate::proofs::Arrays::elements_enough, crate::proofs::Arrays::elements_few, crate::proofs::Arrays::elements_none))]
-fn count_from(alloc: Global, node: &Node<'_>, least: usize) -> Result<usize, ReadFault>
+pub(crate) fn count_from(alloc: Global, node: &Node<'_>, least: usize) -> Result<usize, ReadFault>
     ensures array { OnOk result (IsArray node.now) }
     ensures value { IfOk result (λ count. count ≡ length (item_nodes node.now)) }
     ensures enough { OnOk result (elements_of least node.now.tree ≡ as_array node.now.tree) }
@@ -82,5 +82,34 @@ pub fn some_at<T: Part + Drop>(
 {
     let member = node.member(alloc, name)?;
     let parts = read_list::<T>(alloc, &member, 1)?;
+    Ok(parts)
+}
+
+/// The empty list of an array without elements, none of which this engine has yet. `wrong-shape`
+/// exactly where the node is no array, `not-in-profile` at the first element where there is one.
+#[tactic(auto, using(crate::proofs::Arrays::none_left_out, crate::proofs::Arrays::one_left_out))]
+fn read_empty_list<T>(alloc: Global, node: &Node<'_>) -> Result<Items<T>, ReadFault>
+    ensures value { IfOk result (λ parts. empty_list_of node.now.tree ≡ Some parts) }
+    ensures faultless { OnOk result (in_empty_list node.now ≡ []) }
+    ensures first { IfErr result (SaysFirst (in_empty_list node.now)) }
+{
+    let count = node.count(alloc)?;
+    if count > 0 {
+        return Err(node.item(0).fault(alloc, Code::NotInProfile));
+    }
+    Ok(Items::new(alloc))
+}
+
+/// The empty list of the array at the member of this name, which may be absent.
+pub fn empty_list_at<T>(alloc: Global, node: &Node<'_>, name: &str) -> Result<Items<T>, ReadFault>
+    requires { IsObject node.now }
+    ensures value { IfOk result (λ parts. default_of name.now [] empty_list_of node.now.tree ≡ Some parts) }
+    ensures faultless { OnOk result (in_optional name.now in_empty_list node.now ≡ []) }
+    ensures first { IfErr result (SaysFirst (in_optional name.now in_empty_list node.now)) }
+{
+    let Some(member) = node.optional(name) else {
+        return Ok(Items::new(alloc));
+    };
+    let parts = read_empty_list::<T>(alloc, &member)?;
     Ok(parts)
 }
