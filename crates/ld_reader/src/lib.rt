@@ -18,4 +18,6 @@ pub mod part;
 pub mod parts;
 pub mod roles;
 pub mod structures;
+#[cfg(test)]
+mod tests;
 pub mod values;
