@@ -1,5 +1,5 @@
 -- Activities and structures. (docs/FORMATS.md, "Documents")
-use Rattle.std.specs.Prelude.{ℕ, List, [], ◌∷◌, ◌++◌, Option, Some, None, Bool, true, false, codes, if◌then◌else◌}
+use Rattle.std.specs.Prelude.{ℕ, List, [], ◌∷◌, ◌++◌, Option, Some, None, true, codes}
 use Rattle.std.specs.Option.{option_map}
 use Rattle.serde_json.specs.Data.{Data}
 use Rattle.serde_json.specs.Find.{get, as_array, as_bool}
@@ -14,7 +14,7 @@ use Rattle.ld_model.specs.declared.activity.ActivityKind.TheVariants.{Learning, 
 use Rattle.ld_model.specs.declared.activity.Structure.{Structure}
 use Rattle.ld_model.specs.declared.activity.StructureKind.{StructureKind}
 use Rattle.ld_model.specs.declared.activity.StructureKind.TheVariants.{Sequence, Selection}
-use Rattle.ld_reader.specs.Completions.{sole_case_of, sole_case_faults, activity_cases, on_completion_of, on_completion_faults}
+use Rattle.ld_reader.specs.Completions.{activity_completion_of, activity_completion_faults, on_completion_of, on_completion_faults}
 use Rattle.ld_reader.specs.Forms.{identifier_of, title_of, word_of, number_between, number_from}
 use Rattle.ld_reader.specs.Items.{items_of, in_items, references_of, in_references}
 use Rattle.ld_reader.specs.Walks.{only, member_of, optional_of, default_of, absent, leaf_faults, list_of, in_list, not_in_profile, count_items}
@@ -39,7 +39,7 @@ names_by_kind (Some Learning) = learning_names
 names_by_kind (Some Support) = support_names
 names_by_kind None = support_names
 
-abbrev pub activity_names : Data → List (List ℕ)
+unfoldable pub activity_names : Data → List (List ℕ)
 activity_names tree = names_by_kind (activity_kind_of tree)
 
 unfoldable pub activity_of : Data → Option Activity
@@ -54,7 +54,7 @@ activity_of tree = do
   supports ← references_of (codes "supports") tree
   environments ← references_of (codes "environments") tree
   items ← items_of (codes "items") tree
-  complete ← optional_of (codes "complete") (sole_case_of activity_cases) tree
+  complete ← optional_of (codes "complete") activity_completion_of tree
   follows ← optional_of (codes "on-completion") on_completion_of tree
   Some (record { identifier = id; kind = kind; title = title; visible = visible; learning_objectives = objectives; prerequisites = prerequisites; supports = supports; environments = environments; items = items; complete = complete; on_completion = follows })
 
@@ -70,7 +70,7 @@ activity_faults node =
     ++ (in_references (codes "supports") node
     ++ (in_references (codes "environments") node
     ++ (in_items (codes "items") node
-    ++ (in_optional (codes "complete") (sole_case_faults activity_cases) node
+    ++ (in_optional (codes "complete") activity_completion_faults node
     ++ in_optional (codes "on-completion") on_completion_faults node))))))))))
 
 -- ---- structures

@@ -70,6 +70,13 @@ user_choice_case = record { name = codes "user-choice"; read = user_choice_of; f
 abbrev pub activity_cases : List (Case Completion)
 activity_cases = user_choice_case ∷ time_limit_case ∷ left_out_case (codes "when-property-value-is-set") ∷ []
 
+-- When an activity is completed.
+unfoldable pub activity_completion_of : Data → Option Completion
+activity_completion_of = sole_case_of activity_cases
+
+unfoldable pub activity_completion_faults : Placed → List Told
+activity_completion_faults = sole_case_faults activity_cases
+
 -- ---- what follows
 
 abbrev pub follow_names : List (List ℕ)

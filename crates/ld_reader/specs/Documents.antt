@@ -1,5 +1,5 @@
 -- The documents of roles, properties, environments and activities. (docs/FORMATS.md, "Documents")
-use Rattle.std.specs.Prelude.{ℕ, List, [], ◌∷◌, ◌++◌, Option, Some, None, codes, slice_get, IsSome}
+use Rattle.std.specs.Prelude.{List, [], ◌∷◌, ◌++◌, Option, Some, None, codes, slice_get, IsSome}
 use Rattle.serde_json.specs.Data.{Data}
 use Rattle.ld_base.specs.Maybe.{◌>>=◌}
 use Rattle.ld_json.specs.Access.{only_faults}
@@ -9,7 +9,7 @@ use Rattle.ld_json.specs.Node.{Placed}
 use Rattle.ld_json.specs.Walk.{in_member, in_optional}
 use Rattle.ld_json.specs.declared.docs.Docs.{Docs}
 use Rattle.ld_json.specs.declared.file.FileNo.{FileNo}
-use Rattle.ld_json.specs.declared.file.FileNo.TheVariants.{Roles, Properties, Environments, Activities, Unit, Conditions}
+use Rattle.ld_json.specs.declared.file.FileNo.TheVariants.{Roles, Properties, Environments, Activities, Unit}
 use Rattle.ld_model.specs.RoleRows.{RoleRow}
 use Rattle.ld_model.specs.declared.activity.Activity.{Activity}
 use Rattle.ld_model.specs.declared.activity.Structure.{Structure}

@@ -6,3 +6,4 @@ pub mod Forms
 pub mod Items
 pub mod Roles
 pub mod Walks
+pub mod RoleNodes

@@ -5,7 +5,7 @@ use Rattle.std.specs.Ordering.{nat_cmp, match_ordering}
 use Rattle.std.specs.Str.{bytes_eq}
 use Rattle.serde_json.specs.Data.{Data, object, array, Items, no_items, item, Members, no_members, member}
 use Rattle.serde_json.specs.Find.{as_str, as_object}
-use Rattle.ld_base.specs.Maybe.{◌>>=◌, provided}
+use Rattle.ld_base.specs.Maybe.{◌>>=◌}
 use Rattle.ld_json.specs.Access.{only_faults}
 use Rattle.ld_json.specs.Fault.{Told, fault_at}
 use Rattle.ld_json.specs.Node.{Placed}
@@ -15,12 +15,12 @@ use Rattle.ld_json.specs.declared.code.Code.TheVariants.{WrongShape, NotInProfil
 use Rattle.ld_json.specs.declared.file.FileNo.{FileNo}
 use Rattle.ld_model.specs.RoleRows.{RoleRow, rows_within}
 use Rattle.ld_model.specs.declared.role.CreateNew.{CreateNew}
-use Rattle.ld_model.specs.declared.role.CreateNew.TheVariants.{Allowed, NotAllowed}
+use Rattle.ld_model.specs.declared.role.CreateNew.TheVariants.{NotAllowed}
 use Rattle.ld_model.specs.declared.role.MatchPersons.{MatchPersons}
 use Rattle.ld_model.specs.declared.role.MatchPersons.TheVariants.{ExclusivelyInRoles, NotExclusively}
 use Rattle.ld_model.specs.declared.role.RoleKind.{RoleKind}
 use Rattle.ld_model.specs.declared.role.RoleKind.TheVariants.{Learner, Staff}
-use Rattle.ld_reader.specs.Forms.{identifier_of, title_of, number_between, choice_among, word_of}
+use Rattle.ld_reader.specs.Forms.{identifier_of, title_of, number_between, word_of}
 use Rattle.ld_reader.specs.Walks.{only, member_of, optional_of, default_of, leaf_faults}
 
 abbrev pub kind_words : List (List ℕ × RoleKind)
@@ -140,10 +140,6 @@ outer_faults node (Some members) =
     ++ (in_member (codes "kind") (leaf_faults (word_of kind_words)) node
     ++ (row_faults node
     ++ faults_within node.file node.place members)))
-
-
-
-
 
 unfoldable pub role_faults : Placed → List Told
 role_faults node = outer_faults node (as_object node.tree)

@@ -1,5 +1,5 @@
 -- How the parts of a document are read, and how their faults are listed.
-use Rattle.std.specs.Prelude.{ℕ, zero, suc, List, [], ◌∷◌, ◌++◌, Option, Some, None, Bool, true, false, nat_le, flat_map, is_some, not}
+use Rattle.std.specs.Prelude.{ℕ, zero, suc, List, [], ◌∷◌, ◌++◌, Option, Some, None, Bool, true, nat_le, flat_map, is_some, not}
 use Rattle.serde_json.specs.Data.{Data, Items, no_items, item, Members}
 use Rattle.serde_json.specs.Find.{get, as_object, as_array}
 use Rattle.ld_base.specs.Maybe.{◌>>=◌, provided}
