@@ -1,5 +1,5 @@
 -- Role-parts, acts, plays and the method. (docs/FORMATS.md, "Documents")
-use Rattle.std.specs.Prelude.{ℕ, List, [], ◌∷◌, ◌++◌, Option, Some, None, true, codes}
+use Rattle.std.specs.Prelude.{ℕ, List, [], ◌∷◌, ◌++◌, Option, Some, true, codes}
 use Rattle.serde_json.specs.Data.{Data}
 use Rattle.serde_json.specs.Find.{as_bool}
 use Rattle.ld_base.specs.Maybe.{◌>>=◌}
@@ -41,6 +41,27 @@ play_cases = record { name = codes "when-last-act-completed"; read = last_act_co
 abbrev pub unit_cases : List (Case Completion)
 unit_cases = record { name = codes "when-play-completed"; read = plays_completed_of; faults = in_list 1 (leaf_faults identifier_of) } ∷ common_cases
 
+-- When an act is completed.
+unfoldable pub act_completion_of : Data → Option Completion
+act_completion_of = sole_case_of act_cases
+
+unfoldable pub act_completion_faults : Placed → List Told
+act_completion_faults = sole_case_faults act_cases
+
+-- When a play is completed.
+unfoldable pub play_completion_of : Data → Option Completion
+play_completion_of = sole_case_of play_cases
+
+unfoldable pub play_completion_faults : Placed → List Told
+play_completion_faults = sole_case_faults play_cases
+
+-- When the unit is completed.
+unfoldable pub unit_completion_of : Data → Option Completion
+unit_completion_of = sole_case_of unit_cases
+
+unfoldable pub unit_completion_faults : Placed → List Told
+unit_completion_faults = sole_case_faults unit_cases
+
 -- ---- role-parts
 
 abbrev pub part_names : List (List ℕ)
@@ -77,7 +98,7 @@ act_of tree = do
   id ← member_of (codes "identifier") identifier_of tree
   title ← optional_of (codes "title") title_of tree
   parts ← member_of (codes "role-parts") (list_of 1 part_of) tree
-  complete ← optional_of (codes "complete") (sole_case_of act_cases) tree
+  complete ← optional_of (codes "complete") act_completion_of tree
   follows ← optional_of (codes "on-completion") on_completion_of tree
   Some (record { identifier = id; title = title; role_parts = parts; complete = complete; on_completion = follows })
 
@@ -87,7 +108,7 @@ act_faults node =
     ++ (in_member (codes "identifier") (leaf_faults identifier_of) node
     ++ (in_optional (codes "title") (leaf_faults title_of) node
     ++ (in_member (codes "role-parts") (in_list 1 part_faults) node
-    ++ (in_optional (codes "complete") (sole_case_faults act_cases) node
+    ++ (in_optional (codes "complete") act_completion_faults node
     ++ in_optional (codes "on-completion") on_completion_faults node))))
 
 -- ---- plays
@@ -102,7 +123,7 @@ play_of tree = do
   title ← optional_of (codes "title") title_of tree
   visible ← default_of (codes "visible") true as_bool tree
   acts ← member_of (codes "acts") (list_of 1 act_of) tree
-  complete ← optional_of (codes "complete") (sole_case_of play_cases) tree
+  complete ← optional_of (codes "complete") play_completion_of tree
   follows ← optional_of (codes "on-completion") on_completion_of tree
   Some (record { identifier = id; title = title; visible = visible; acts = acts; complete = complete; on_completion = follows })
 
@@ -113,7 +134,7 @@ play_faults node =
     ++ (in_optional (codes "title") (leaf_faults title_of) node
     ++ (in_optional (codes "visible") (leaf_faults as_bool) node
     ++ (in_member (codes "acts") (in_list 1 act_faults) node
-    ++ (in_optional (codes "complete") (sole_case_faults play_cases) node
+    ++ (in_optional (codes "complete") play_completion_faults node
     ++ in_optional (codes "on-completion") on_completion_faults node)))))
 
 -- ---- the method
@@ -125,7 +146,7 @@ unfoldable pub method_of : Data → Option Method
 method_of tree = do
   _ ← only method_names tree
   plays ← member_of (codes "plays") (list_of 1 play_of) tree
-  complete ← optional_of (codes "complete") (sole_case_of unit_cases) tree
+  complete ← optional_of (codes "complete") unit_completion_of tree
   follows ← optional_of (codes "on-completion") on_completion_of tree
   Some (record { plays = plays; complete = complete; on_completion = follows })
 
@@ -133,5 +154,5 @@ unfoldable pub method_faults : Placed → List Told
 method_faults node =
     only_faults method_names node
     ++ (in_member (codes "plays") (in_list 1 play_faults) node
-    ++ (in_optional (codes "complete") (sole_case_faults unit_cases) node
+    ++ (in_optional (codes "complete") unit_completion_faults node
     ++ in_optional (codes "on-completion") on_completion_faults node))

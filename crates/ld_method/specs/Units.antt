@@ -61,6 +61,10 @@ unit_of parts conditions tree = do
   method ← member_of (codes "method") method_of tree
   Some (record { format = format; identifier = id; level = level; title = title; turns = turns; metadata = metadata; learning_objectives = objectives; prerequisites = prerequisites; roles = parts.roles; properties = parts.properties; environments = parts.environments; activities = parts.activities; structures = parts.structures; method = method; conditions = conditions })
 
+-- The unit with these conditions in place of its own.
+abbrev pub with_conditions : List Condition → Course → Course
+with_conditions conditions unit = record { format = unit.format; identifier = unit.identifier; level = unit.level; title = unit.title; turns = unit.turns; metadata = unit.metadata; learning_objectives = unit.learning_objectives; prerequisites = unit.prerequisites; roles = unit.roles; properties = unit.properties; environments = unit.environments; activities = unit.activities; structures = unit.structures; method = unit.method; conditions = conditions }
+
 unfoldable pub unit_faults : Placed → List Told
 unit_faults node =
     only_faults unit_names node
@@ -83,11 +87,15 @@ conditions_in tree = do
 unfoldable pub conditions_faults : Placed → List Told
 conditions_faults node = only_faults (codes "conditions" ∷ []) node ++ in_optional (codes "conditions") in_empty_list node
 
+-- The unit of its own document, with these parts and conditions.
+abbrev pub own_unit : Docs → Parts → List Condition → Option Course
+own_unit docs parts conditions = tree_of docs Unit >>= unit_of parts conditions
+
 -- The unit of the documents with these parts.
 unfoldable pub unit_in : Docs → Parts → Option Course
 unit_in docs parts = do
   conditions ← document_or [] conditions_in docs Conditions
-  tree_of docs Unit >>= unit_of parts conditions
+  own_unit docs parts conditions
 
 -- The faults of the shape of these two documents, in their order.
 unfoldable pub method_document_faults : Docs → List Told

@@ -16,7 +16,7 @@ use std::alloc::Global;
 /// The number of elements of an array that has at least so many. `wrong-shape` exactly where the node
 /// is none.
 #[tactic(auto, using(crate::proofs::Arrays::elements_enough, crate::proofs::Arrays::elements_few, crate::proofs::Arrays::elements_none))]
-pub(crate) fn count_from(alloc: Global, node: &Node<'_>, least: usize) -> Result<usize, ReadFault>
+pub fn count_from(alloc: Global, node: &Node<'_>, least: usize) -> Result<usize, ReadFault>
     ensures array { OnOk result (IsArray node.now) }
     ensures value { IfOk result (λ count. count ≡ length (item_nodes node.now)) }
     ensures enough { OnOk result (elements_of least node.now.tree ≡ as_array node.now.tree) }

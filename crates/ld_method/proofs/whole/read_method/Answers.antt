@@ -1,0 +1,12 @@
+use Rattle.std.proofs.lemmas.Result.{err_from_is_err_and}
+use Rattle.ld_json.specs.declared.file.FileNo.TheVariants as file_no
+use Rattle.ld_method.specs.Units.{method_document_faults, unit_faults, conditions_faults}
+use Rattle.ld_reader.specs.Documents.{in_document}
+use Rattle.ld_method.proofs.Later.{says_later}
+use Rattle.ld_method.proofs.whole.read_method.Goals as goal
+
+pub returns-in_err-conditions-clause-first : goal.returns-in_err-conditions-clause-first
+unfolding method_document_faults
+returns-in_err-conditions-clause-first c =
+    let p = err_from_is_err_and c.from_residual-in_err-conditions.result c.from_residual-in_err-conditions.ensures.1 in
+    rw (p.1, p.2) (says_later (in_document file_no.Unit unit_faults c.args.docs.now) (in_document file_no.Conditions conditions_faults c.args.docs.now) c.in_err-conditions.field-0.0 c.in_ok-unit.ensures.faultless c.in_err-conditions.ensures.first)
