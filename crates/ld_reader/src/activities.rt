@@ -1,13 +1,12 @@
 //! Activities.
-ghost use Rattle.std.specs.Prelude.{◌≡◌, [], IfOk, OnOk, IfErr};
+ghost use Rattle.std.specs.Prelude.{◌≡◌, [], codes, Some, IfOk, OnOk, IfErr};
 ghost use Rattle.ld_json.specs.Access.{IsObject, only_faults};
 ghost use Rattle.ld_json.specs.Fault.{SaysFirst};
+ghost use Rattle.ld_json.specs.Walk.{in_optional};
 ghost use Rattle.ld_reader.specs.Activities.{activity_words, activity_kind_of, names_by_kind, learning_names, support_names, activity_names, activity_of, activity_faults};
 ghost use Rattle.ld_reader.specs.Completions.{activity_completion_of, activity_completion_faults};
 ghost use Rattle.ld_reader.specs.Forms.{word_of};
 ghost use Rattle.ld_reader.specs.Walks.{leaf_faults, optional_of};
-ghost use Rattle.ld_json.specs.Walk.{in_optional};
-ghost use Rattle.std.specs.Prelude.{codes, Some};
 
 use crate::completions::read_activity_completion;
 use crate::lists::list_at;

@@ -32,7 +32,7 @@ pub fn count_from(alloc: Global, node: &Node<'_>, least: usize) -> Result<usize,
 
 /// The parts of an array of at least so many elements. `wrong-shape` at the array exactly where the
 /// node is none; else the first fault of an element.
-#[tactic(auto, using(ld_json::proofs::First::first_of_both, ld_json::proofs::Elements::drop_at, crate::proofs::Arrays::list_of_nodes, crate::proofs::Arrays::then_node, crate::proofs::Arrays::then_nothing))]
+#[tactic(auto, using(ld_json::proofs::First::first_of_both, ld_json::proofs::Elements::drop_at, crate::proofs::Arrays::then_node))]
 pub fn read_list<T: Part + Drop>(
     alloc: Global,
     node: &Node<'_>,

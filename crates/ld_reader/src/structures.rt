@@ -1,12 +1,12 @@
 //! Structures of activities.
 ghost use Rattle.std.specs.Prelude.{◌≡◌, [], Some, IfOk, OnOk, IfErr};
+ghost use Rattle.std.specs.Option.{option_map};
+ghost use Rattle.serde_json.specs.Find.{as_array};
 ghost use Rattle.ld_json.specs.Access.{IsObject};
 ghost use Rattle.ld_json.specs.Fault.{SaysFirst};
 ghost use Rattle.ld_reader.specs.Activities.{structure_words, structure_of, structure_faults, child_count as spec_count, number_up_to as spec_up_to, selected_of, selected_faults};
 ghost use Rattle.ld_reader.specs.Forms.{word_of};
 ghost use Rattle.ld_reader.specs.Walks.{leaf_faults, count_items};
-ghost use Rattle.std.specs.Option.{option_map};
-ghost use Rattle.serde_json.specs.Find.{as_array};
 
 use crate::lists::{list_at, some_at};
 use crate::members::{absent_at, default_at, member_at, title_at};
@@ -104,7 +104,8 @@ fn selected_at(
     }
 }
 
-/// The whole number from 1 to `most`, if that is given, that the node is.
+/// The whole number from 1 to `most`, if that is given, that the node is. A number or a bound that does
+/// not fit 32 bits is answered as want of memory.
 fn number_up_to(alloc: Global, node: &Node<'_>, most: Option<usize>) -> Result<u32, ReadFault>
     ensures value { IfOk result (λ number. spec_up_to most node.now.tree ≡ Some number) }
     ensures faultless { OnOk result (leaf_faults (spec_up_to most) node.now ≡ []) }

@@ -97,8 +97,8 @@ pub fn number_between(
     Ok(number as u32)
 }
 
-/// The whole number from `least` on that the node is. `wrong-shape` exactly where it is none; a
-/// number that does not fit 32 bits wants more memory than there is.
+/// The whole number from `least` on that the node is. `wrong-shape` exactly where it is none. A number
+/// that does not fit 32 bits is answered as want of memory.
 #[tactic(auto, unfolding(crate::specs::Forms::number_from))]
 pub fn number_from(alloc: Global, node: &Node<'_>, least: u32) -> Result<u32, ReadFault>
     ensures value { IfOk result (λ number. spec_from least node.now.tree ≡ Some number) }
