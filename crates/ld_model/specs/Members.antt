@@ -25,7 +25,8 @@ abbrev pub holds_role : Option PersonState → ℕ → Bool
 holds_role None r = false
 holds_role (Some person) r = list_any (nat_eq r) person.roles
 
--- The person is a member of the role: the person holds it.
+-- The person is a member of the role: the person holds it. (Nothing runs roles within roles yet; a
+-- person who holds one of them will be a member of the role around it, too.)
 abbrev pub is_member : RunState → ℕ → ℕ → Bool
 is_member s r p = holds_role (slice_get s.persons p) r
 
@@ -49,7 +50,8 @@ has_member unit s role = list_any (is_member_of unit s role) (all_persons s)
 abbrev pub parts_of : Course → List RolePart
 parts_of unit = flat_map (λ play. flat_map (λ act. act.role_parts) play.acts) unit.method.plays
 
--- The role-part reaches the thing of this identifier: it refers to it.
+-- The role-part reaches the thing of this identifier: it refers to it. (Nothing runs structures yet;
+-- with a structure, a role-part will reach its children, too.)
 abbrev pub reaches : RolePart → List ℕ → Bool
 reaches part id = bytes_eq part.target id
 

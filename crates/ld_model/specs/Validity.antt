@@ -1,6 +1,6 @@
--- When a unit is valid: its identifiers differ, its references name what they should, and it is
+-- When a unit of the first form, which is all that runs yet, is valid: its identifiers differ, its references name what they should, and it is
 -- within the limits.
-use Rattle.std.specs.Prelude.{ℕ, List, [], ◌∷◌, ◌++◌, map, Bool, true, false, ◌&&◌, ◌||◌, not, nat_le, length, IsTrue}
+use Rattle.std.specs.Prelude.{ℕ, List, [], ◌∷◌, ◌++◌, map, Bool, true, false, ◌&&◌, ◌||◌, not, nat_le, length}
 use Rattle.std.specs.List.{list_any, list_all, sum_by}
 use Rattle.std.specs.Str.{bytes_eq}
 use Rattle.ld_model.specs.declared.unit.Unit.{Unit as Course}
@@ -24,6 +24,3 @@ is_within_limits unit = nat_le (length (roles_of unit)) 60 && (nat_le (length un
 
 abbrev pub is_valid : Course → Bool
 is_valid unit = all_differ (identifiers_of unit) && (references_hold unit && is_within_limits unit)
-
-abbrev pub IsValid : Course → Type 0
-IsValid unit = IsTrue (is_valid unit)

@@ -17,7 +17,7 @@ use std::alloc::Global;
 use std::collections::BTreeSet;
 
 /// The identifiers of the unit and its parts: its own, those of its roles, of its properties and of
-/// its things. (docs/MEANING.md, "Names")
+/// its things. (docs/MEANING.md, "Names and things")
 pub fn list_identifiers(alloc: Global, unit: &Unit) -> Result<Vec<Id>, NoMemory>
     ensures { IfOk result (λ identifiers. identifiers.items ≡ identifiers_of unit.now) }
 {

@@ -45,7 +45,7 @@ pub enum Named {
 }
 
 /// The names of a unit: what its identifiers name, both ways. Roles, properties and things are each
-/// numbered from 0 in document order. (docs/MEANING.md, "Names")
+/// numbered from 0 in document order. (docs/MEANING.md, "Names and things")
 #[derive(Drop)]
 pub struct Names {
     /// The unit's own identifier, and then those of the roles, the properties and the things.

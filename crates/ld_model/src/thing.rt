@@ -23,7 +23,7 @@ pub struct ThingEntry {
     pub place: Place,
 }
 
-/// The things of the unit in document order. (docs/MEANING.md, "Things")
+/// The things of the unit in document order. (docs/MEANING.md, "Names and things")
 pub fn list_things(alloc: Global, unit: &Unit) -> Result<Vec<ThingEntry>, NoMemory>
     ensures { IfOk result (λ things. map entry_of things.items ≡ things_of unit.now) }
 {

@@ -11,7 +11,7 @@ ghost use Rattle.ld_reader.specs.Walks.{leaf_faults, count_items};
 use crate::lists::{list_at, some_at};
 use crate::members::{absent_at, default_at, member_at, title_at};
 use crate::part::Part;
-use crate::values::{number_between, number_from};
+use crate::values::number_from;
 use ld_base::id::Id;
 use ld_base::memory::NoMemory;
 use ld_json::code::Code;
@@ -69,7 +69,7 @@ impl Part for Structure {
             kind,
             title,
             visible,
-            number_to_select,
+            number_to_select: narrow(number_to_select)?,
             environments,
             children,
         })
@@ -82,7 +82,7 @@ fn selected_at(
     alloc: Global,
     node: &Node<'_>,
     kind: StructureKind,
-) -> Result<Option<u32>, ReadFault>
+) -> Result<Option<u64>, ReadFault>
     requires { IsObject node.now }
     ensures value { IfOk result (λ selected. selected_of kind node.now.tree ≡ Some selected) }
     ensures faultless { OnOk result (selected_faults (Some kind) node.now ≡ []) }
@@ -104,9 +104,23 @@ fn selected_at(
     }
 }
 
-/// The whole number from 1 to `most`, if that is given, that the node is. A number or a bound that does
-/// not fit 32 bits is answered as want of memory.
-fn number_up_to(alloc: Global, node: &Node<'_>, most: Option<usize>) -> Result<u32, ReadFault>
+/// The number in 32 bits, which every number of children fits: no machine holds a list on which it
+/// fails.
+fn narrow(number: Option<u64>) -> Result<Option<u32>, NoMemory>
+    ensures { IfOk result (λ narrow. narrow ≡ number) }
+{
+    let Some(number) = number else {
+        return Ok(None);
+    };
+    match u32::try_from(number) {
+        Ok(number) => Ok(Some(number)),
+        Err(_) => Err(NoMemory),
+    }
+}
+
+/// The whole number from 1 to `most`, if that is given, that the node is.
+#[tactic(auto, unfolding(crate::specs::Forms::number_between, crate::specs::Forms::number_from))]
+fn number_up_to(alloc: Global, node: &Node<'_>, most: Option<usize>) -> Result<u64, ReadFault>
     ensures value { IfOk result (λ number. spec_up_to most node.now.tree ≡ Some number) }
     ensures faultless { OnOk result (leaf_faults (spec_up_to most) node.now ≡ []) }
     ensures first { IfErr result (SaysFirst (leaf_faults (spec_up_to most) node.now)) }
@@ -115,10 +129,10 @@ fn number_up_to(alloc: Global, node: &Node<'_>, most: Option<usize>) -> Result<u
         let number = number_from(alloc, node, 1)?;
         return Ok(number);
     };
-    let Ok(most) = u32::try_from(most) else {
-        return Err(ReadFault::NoMemory);
-    };
-    let number = number_between(alloc, node, 1, most)?;
+    let number = number_from(alloc, node, 1)?;
+    if number > most as u64 {
+        return Err(node.fault(alloc, Code::WrongShape));
+    }
     Ok(number)
 }
 

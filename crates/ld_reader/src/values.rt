@@ -97,22 +97,18 @@ pub fn number_between(
     Ok(number as u32)
 }
 
-/// The whole number from `least` on that the node is. `wrong-shape` exactly where it is none. A number
-/// that does not fit 32 bits is answered as want of memory.
+/// The whole number from `least` on that the node is. `wrong-shape` exactly where it is none.
 #[tactic(auto, unfolding(crate::specs::Forms::number_from))]
-pub fn number_from(alloc: Global, node: &Node<'_>, least: u32) -> Result<u32, ReadFault>
+pub fn number_from(alloc: Global, node: &Node<'_>, least: u64) -> Result<u64, ReadFault>
     ensures value { IfOk result (λ number. spec_from least node.now.tree ≡ Some number) }
     ensures faultless { OnOk result (leaf_faults (spec_from least) node.now ≡ []) }
     ensures first { IfErr result (SaysFirst (leaf_faults (spec_from least) node.now)) }
 {
     let number = node.whole(alloc)?;
-    if number < u64::from(least) {
+    if number < least {
         return Err(node.fault(alloc, Code::WrongShape));
     }
-    if number > u64::from(u32::MAX) {
-        return Err(ReadFault::NoMemory);
-    }
-    Ok(number as u32)
+    Ok(number)
 }
 
 /// That the node is true. `wrong-shape` exactly where it is anything else.
