@@ -5,7 +5,7 @@ ghost use Rattle.ld_json.specs.Fault.{SaysFirst};
 ghost use Rattle.ld_json.specs.Walk.{in_member};
 ghost use Rattle.ld_model.specs.declared.condition.Condition.{Condition};
 ghost use Rattle.ld_method.specs.Methods.{method_of, method_faults};
-ghost use Rattle.ld_method.specs.Units.{format_of, format_faults, level_words, metadata_of, unit_of, unit_faults, with_conditions};
+ghost use Rattle.ld_method.specs.Units.{format_of, format_faults, level_words, unit_of, unit_faults, with_conditions};
 ghost use Rattle.ld_reader.specs.Forms.{word_of};
 ghost use Rattle.ld_reader.specs.Walks.{member_of, leaf_faults};
 
