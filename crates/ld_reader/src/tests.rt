@@ -4,6 +4,7 @@ mod activity_tables;
 mod documents;
 mod environment_tables;
 mod faults;
+mod large;
 mod role_tables;
 mod structure_tables;
 mod whole_tables;
