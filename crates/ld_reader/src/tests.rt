@@ -1,9 +1,20 @@
-//! What no clause says: that documents are read where there is memory.
+//! What no clause says: that documents are read where there is memory, and that the definitions are
+//! those that were meant, by documents whose first faults a reader of docs/FORMATS.md found.
+mod activity_tables;
+mod documents;
+mod environment_tables;
+mod faults;
+mod large;
+mod role_tables;
+mod structure_tables;
+mod whole_tables;
+
 use crate::completions::{left_out_at, read_activity_completion, read_on_completion};
 use crate::lists::{list_at, read_list};
 use crate::members::{default_at, number_at, number_or, optional_at, text_at};
 use crate::parts::read_parts;
 use crate::values::{number_between, number_from, read_href, read_seconds, read_text, read_true};
+use documents::{ACTIVITIES, ENVIRONMENTS, PROPERTIES, ROLES};
 use ld_base::id::Id;
 use ld_base::items::Items;
 use ld_base::plain_text::PlainText;
@@ -19,37 +30,6 @@ use ld_model::role::{CreateNew, MatchPersons, Role, RoleKind};
 use ld_model::unit::Parts;
 use std::alloc::Global;
 use std::test::Fail;
-
-const ROLES: &str = r#"{"roles":[
-    {"identifier":"learner","kind":"learner","title":"Learners","create-new":"not-allowed",
-     "match-persons":"exclusively-in-roles","min-persons":1,"max-persons":1000000,
-     "roles":[{"identifier":"expert"},
-              {"identifier":"novice","roles":[{"identifier":"beginner","min-persons":2}]}]},
-    {"identifier":"tutor","kind":"staff"}]}"#;
-
-const ENVIRONMENTS: &str = r#"{"environments":[
-    {"identifier":"room","title":"Room","visible":false,
-     "learning-objects":[{"identifier":"book","title":"Book","visible":false,
-                          "items":[{"identifier":"page","href":"page.html"}]}],
-     "services":[{"identifier":"find","kind":"index-search","title":"Find","visible":false},
-                 {"identifier":"mail","kind":"send-mail"}],
-     "environments":["hall"]},
-    {"identifier":"hall"}]}"#;
-
-const ACTIVITIES: &str = r#"{"activities":[
-    {"identifier":"read","title":"Read","visible":false,
-     "learning-objectives":[{"identifier":"aim","href":"aim.html"}],
-     "prerequisites":[{"identifier":"before","href":"before.html"}],
-     "environments":["room","hall"],
-     "items":[{"identifier":"i1","title":"Text","href":"text.html","visible":false},
-              {"identifier":"i2","href":"more.html"}],
-     "complete":{"time-limit":"PT1H"},
-     "on-completion":{"feedback":[{"identifier":"well","href":"well.html"}]}},
-    {"identifier":"help","kind":"support","supports":["learner"],"complete":{"user-choice":true}}],
-    "structures":[
-    {"identifier":"some","kind":"selection","title":"Some","visible":false,"number-to-select":2,
-     "environments":["hall"],"children":["read","help"]},
-    {"identifier":"row","kind":"sequence","children":["some"]}]}"#;
 
 /// The documents of these texts; the empty text stands for a file that is not there.
 fn docs_of(alloc: Global, texts: [&str; 4]) -> Result<Docs, Fail> {
@@ -73,8 +53,8 @@ fn doc_of(alloc: Global, text: &str) -> Result<Option<Doc>, Fail> {
     Ok(Some(document(alloc, text.as_bytes())?))
 }
 
-/// The parts of these documents.
-fn parts_of(alloc: Global, texts: [&str; 4]) -> Result<Parts, Fail> {
+/// What is read from these documents.
+fn outcome_of(alloc: Global, texts: [&str; 4]) -> Result<Result<Parts, ReadFault>, Fail> {
     let docs = docs_of(alloc, texts)?;
     let Some(_) = docs.get(FileNo::Roles) else {
         return Err(Fail::from("there are no roles"));
@@ -85,7 +65,13 @@ fn parts_of(alloc: Global, texts: [&str; 4]) -> Result<Parts, Fail> {
     let Some(_) = docs.get(FileNo::Unit) else {
         return Err(Fail::from("there is no unit"));
     };
-    Ok(read_parts(alloc, &docs)?)
+    Ok(read_parts(alloc, &docs))
+}
+
+/// The parts of these documents.
+fn parts_of(alloc: Global, texts: [&str; 4]) -> Result<Parts, Fail> {
+    let parts = outcome_of(alloc, texts)??;
+    Ok(parts)
 }
 
 /// Whether the text is there and is this one.
@@ -113,8 +99,7 @@ fn within(role: &Role, index: usize) -> Result<&Role, Fail> {
 }
 
 fn all_parts(alloc: Global) -> Result<Parts, Fail> {
-    let texts = [ROLES, r#"{"properties":[]}"#, ENVIRONMENTS, ACTIVITIES];
-    parts_of(alloc, texts)
+    parts_of(alloc, [ROLES, PROPERTIES, ENVIRONMENTS, ACTIVITIES])
 }
 
 #[test]
