@@ -78,10 +78,10 @@ identifier_of_thing unit t entry at =
     let few_properties = length-map unit.properties (λ property. property.identifier) in
     let index : before_things (names_of unit) + t ≡ suc (length roles + (length properties + t)) = omega (arith, few_roles, few_properties) in
     sym (ap (slice_get (identifiers_of unit)) index
-         ∙ get_behind roles (properties ++ things) (length properties + t)
-         ∙ get_behind properties things t
-         ∙ slice_get-map (λ (thing : Entry). thing.identifier) (things_of unit) t
-         ∙ ap (option_map (λ (thing : Entry). thing.identifier)) at)
+    ∙ get_behind roles (properties ++ things) (length properties + t)
+    ∙ get_behind properties things t
+    ∙ slice_get-map (λ (thing : Entry). thing.identifier) (things_of unit) t
+    ∙ ap (option_map (λ (thing : Entry). thing.identifier)) at)
 
 -- Where identifiers differ, each thing's identifier names it.
 pub thing_named : (unit : Course) (t : ℕ) (entry : Entry) → HasDistinctIdentifiers unit → slice_get (things_of unit) t ≡ Some entry → thing_number unit entry.identifier ≡ Some t

@@ -15,9 +15,8 @@ pub mod names;
 pub mod property;
 pub mod role;
 pub mod rule;
+#[cfg(test)]
+mod tests;
 pub mod thing;
 pub mod unit;
 pub mod view;
-
-#[cfg(test)]
-mod tests;

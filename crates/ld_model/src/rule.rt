@@ -54,9 +54,8 @@ impl Rule {
         ensures { result ≡ kind_of self }
     {
         match self {
-            Rule::CompletesActivity(_)
-            | Rule::CompletesStructure(_)
-            | Rule::JudgesCondition(_) => RuleKind::Person,
+            Rule::CompletesActivity(_) | Rule::CompletesStructure(_) | Rule::JudgesCondition(_) =>
+                RuleKind::Person,
             Rule::OpensAct(_, _)
             | Rule::CompletesPart(_, _, _)
             | Rule::CompletesAct(_, _)

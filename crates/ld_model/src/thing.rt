@@ -122,11 +122,7 @@ fn push_object(
     Ok(())
 }
 
-fn push_services(
-    things: &mut Vec<ThingEntry>,
-    e: u32,
-    services: &[Service],
-) -> Result<(), NoMemory>
+fn push_services(things: &mut Vec<ThingEntry>, e: u32, services: &[Service]) -> Result<(), NoMemory>
     ensures { OnOk result (AddsEntries things.old.items things.new.items (each_numbered (service_entries e) services.now)) }
 {
     for (s, service) in services.iter().enumerate() {

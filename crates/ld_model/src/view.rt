@@ -13,7 +13,9 @@ use std::sync::ledger::Ledger;
 /// there are, and the value of each or none. (docs/MEANING.md, "The state of a run")
 pub trait View {
     ghost persons_of: { Self → ℕ };
+
     ghost has_cell: { Self → Name → Bool };
+
     ghost cells_of: { Self → CellMap };
 
     /// The number of persons.

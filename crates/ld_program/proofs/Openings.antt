@@ -48,13 +48,13 @@ has_thing unit p act distinct first =
     let in_play : IsIn entry (play_entries p play.0) = inr (in_front entry (each_numbered (act_entries p) play.0.acts) (feedback_entries play.0.on_completion) (in_each (act_entries p) play.0.acts 0 act entry play.2 (inl refl))) in
     let in_plays : IsIn entry plays = in_each play_entries unit.method.plays p play.0 entry play.1 in_play in
     let in_method : IsIn entry (method_entries unit) =
-        in_back entry (item_entries unit.learning_objectives) (item_entries unit.prerequisites ++ (plays ++ feedback_entries unit.method.on_completion))
-        (in_back entry (item_entries unit.prerequisites) (plays ++ feedback_entries unit.method.on_completion) (in_front entry plays (feedback_entries unit.method.on_completion) in_plays)) in
+    in_back entry (item_entries unit.learning_objectives) (item_entries unit.prerequisites ++ (plays ++ feedback_entries unit.method.on_completion))
+    (in_back entry (item_entries unit.prerequisites) (plays ++ feedback_entries unit.method.on_completion) (in_front entry plays (feedback_entries unit.method.on_completion) in_plays)) in
     let structures = each_numbered structure_entries unit.structures in
     let activities = each_numbered activity_entries unit.activities in
     let in_unit : IsIn entry (things_of unit) =
-        in_back entry (each_numbered environment_entries unit.environments) (activities ++ (structures ++ method_entries unit))
-        (in_back entry activities (structures ++ method_entries unit) (in_back entry structures (method_entries unit) in_method)) in
+    in_back entry (each_numbered environment_entries unit.environments) (activities ++ (structures ++ method_entries unit))
+    (in_back entry activities (structures ++ method_entries unit) (in_back entry structures (method_entries unit) in_method)) in
     let place = place_of entry (things_of unit) in_unit in
     (place.0, thing_named unit place.0 entry distinct place.1)
 

@@ -12,8 +12,8 @@ use crate::state::State;
 use ld_base::id::Id;
 use ld_lines::command::RunCommand;
 use ld_model::activity::Activity;
-use ld_model::completion::Completion;
 use ld_model::cell::CellName;
+use ld_model::completion::Completion;
 use ld_model::unit::Unit;
 use ld_value::moment::Moment;
 

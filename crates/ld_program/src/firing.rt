@@ -13,14 +13,13 @@ ghost use Rattle.ld_program.specs.LookupView.{HasFewPersons};
 ghost use Rattle.ld_program.specs.PlanView.{IsPlanOf};
 ghost use Rattle.ld_program.specs.StateView.{state_of, cell_in};
 
-use ld_base::numbers::number;
 use crate::plan::Plan;
-use ld_model::rule::{Rule, RuleKind};
 use crate::state::State;
 use crate::verdict::{act_at, site_test};
 use ld_base::memory::NoMemory;
-use ld_base::numbers::{PersonNo, RuleNo, ThingNo};
+use ld_base::numbers::{PersonNo, RuleNo, ThingNo, number};
 use ld_model::cell::{CellName, Owner};
+use ld_model::rule::{Rule, RuleKind};
 use ld_model::unit::Unit;
 use ld_value::value::Value;
 

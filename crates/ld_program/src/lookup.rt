@@ -114,14 +114,7 @@ pub fn is_mine(unit: &Unit, plan: &Plan, state: &State, id: &Id, person: u32) ->
 }
 
 /// Whether a role-part of the acts makes the thing of this identifier the person's.
-fn is_mine_in(
-    unit: &Unit,
-    plan: &Plan,
-    state: &State,
-    acts: &[Act],
-    id: &Id,
-    person: u32,
-) -> bool
+fn is_mine_in(unit: &Unit, plan: &Plan, state: &State, acts: &[Act], id: &Id, person: u32) -> bool
     requires { IsPlanOf unit.now plan.now }
     ensures { result ≡ list_any (makes_mine unit.now (state_of state.now) id.now person) (flat_map (λ act. act.role_parts) acts.now) }
 {

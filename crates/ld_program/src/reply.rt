@@ -9,7 +9,6 @@ ghost use Rattle.ld_program.specs.Stepping.{work_of};
 ghost use Rattle.ld_program.specs.TreeView.{line_view};
 
 use crate::lookup::person_number;
-use ld_base::numbers::number;
 use crate::prepared::PreparedUnit;
 use crate::state::State;
 use crate::tree::{TreeLine, tree_lines};
@@ -17,6 +16,7 @@ use crate::tree_text::push_lines;
 use crate::work::Work;
 use ld_base::id::Id;
 use ld_base::memory::NoMemory;
+use ld_base::numbers::number;
 use ld_base::text::Text;
 use ld_lines::command::RunCommand;
 use ld_lines::refusal::refusal_word;

@@ -10,13 +10,13 @@ ghost use Rattle.ld_program.specs.Tests.{is_marked, has_chosen, completion_holds
 
 use crate::lookup::{activity_number, has_member, is_member_of, is_mine};
 use crate::plan::Plan;
-use ld_model::rule::Rule;
 use crate::state::State;
 use ld_base::numbers::{PersonNo, RuleNo, ThingNo};
 use ld_model::activity::Activity;
-use ld_model::completion::Completion;
 use ld_model::cell::{CellName, Owner};
+use ld_model::completion::Completion;
 use ld_model::method::{Act, RolePart};
+use ld_model::rule::Rule;
 use ld_model::unit::Unit;
 
 /// Whether the mark of the rule of this number, for the owner, says yes.

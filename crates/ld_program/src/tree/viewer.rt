@@ -12,18 +12,17 @@ ghost use Rattle.ld_program.specs.TreeView.{AddsLines};
 use super::TreeLine;
 use super::lines::{act_line, activity_line, item_line, part_line, play_line};
 use crate::lookup::{activity_number, is_member_of};
-use ld_base::numbers::number;
 use crate::plan::Plan;
-use ld_model::rule::Rule;
 use crate::state::State;
 use crate::verdict::{has_opened, is_done};
 use ld_base::id::Id;
 use ld_base::memory::NoMemory;
-use ld_base::numbers::{PersonNo, ThingNo};
+use ld_base::numbers::{PersonNo, ThingNo, number};
 use ld_model::activity::Activity;
-use ld_model::item::Item;
 use ld_model::cell::{CellName, Owner};
+use ld_model::item::Item;
 use ld_model::method::{Act, Play, RolePart};
+use ld_model::rule::Rule;
 use ld_model::unit::Unit;
 
 /// A person who looks at a unit in a state of its run.

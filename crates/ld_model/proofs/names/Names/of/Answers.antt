@@ -17,11 +17,12 @@ invariant_of-result c =
     let few = rw (c.in_ok-check_few.was, c.deref-2.ensures.value, identifiers) at c.check_few.ensures in
     let count = count_identifiers unit in
     let placed = length-map (things_of unit) (λ entry. entry.place) in
-    let numbered = length-map (things_of unit) (λ entry. number_at c.deref-6.result.now entry.place) in
-    (rw keys c.requires,
-     rw (keys, c.count_roles-roles.ensures, c.len-3.ensures, places) (omega (arith, count, placed)),
-     rw keys few,
-     rw (numbers, places) (numbered ∙ sym placed))
+    let numbered = length-map (things_of unit) (λ entry. number_at c.deref-6.result.now entry.place) in (
+      rw keys c.requires,
+      rw (keys, c.count_roles-roles.ensures, c.len-3.ensures, places) (omega (arith, count, placed)),
+      rw keys few,
+      rw (numbers, places) (numbered ∙ sym placed),
+    )
 
 pub returns : goal.returns
 returns c =
