@@ -90,6 +90,9 @@ pub(super) const STRUCTURE_EDITS: &str = r#"
 2,"environments":["hall"],"children":["read","help"] | 1 | /structures/0/children missing
 2,"environments":["hall"],"children":["read","help"] | 0 | /structures/0/number-to-select wrong-shape
 2,"environments":["hall"],"children":["read","help"] | 4294967295 | /structures/0/children missing
+2,"environments":["hall"],"children":["read","help"] | 4294967296 | /structures/0/children missing
+2,"environments":["hall"],"children":["read","help"] | 18446744073709551615 | /structures/0/children missing
+2,"environments":["hall"],"children":["read","help"] | 4294967296,"children":7 | /structures/0/children wrong-shape
 2,"environments":["hall"],"children":["read","help"] | 18446744073709551616 | /structures/0/number-to-select wrong-shape
 2,"environments":["hall"],"children":["read","help"] | 1e2 | /structures/0/number-to-select wrong-shape
 2,"environments":["hall"],"children":["read","help"] | null,"children":7 | /structures/0/number-to-select wrong-shape
