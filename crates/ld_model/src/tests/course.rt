@@ -222,12 +222,22 @@ fn add_parts(alloc: Global, unit: &mut Unit) -> Result<(), Fail> {
     Ok(())
 }
 
-/// The unit `course`, of level B.
-pub(super) fn course(alloc: Global) -> Result<Unit, Fail> {
-    let mut unit = empty(alloc, "course")?;
-    add_parts(alloc, &mut unit)?;
+/// Adds the items and the play.
+fn add_method(alloc: Global, unit: &mut Unit) -> Result<(), Fail> {
     unit.learning_objectives.push(item(alloc, "aim")?)?;
     unit.prerequisites.push(item(alloc, "known")?)?;
     unit.method.plays.push(play(alloc)?)?;
+    Ok(())
+}
+
+fn fill(alloc: Global, unit: &mut Unit) -> Result<(), Fail> {
+    add_parts(alloc, unit)?;
+    add_method(alloc, unit)
+}
+
+/// A unit of this identifier and level B.
+pub(super) fn course(alloc: Global, name: &str) -> Result<Unit, Fail> {
+    let mut unit = empty(alloc, name)?;
+    fill(alloc, &mut unit)?;
     Ok(unit)
 }

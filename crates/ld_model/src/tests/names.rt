@@ -3,6 +3,7 @@ use super::course::{course, id};
 use crate::identifiers::has_distinct_identifiers;
 use crate::names::{Named, Names, Place};
 use crate::rule::{Rule, RuleKind, list_rules};
+use crate::unit::Unit;
 use ld_base::id::Id;
 use ld_base::numbers::{PropNo, RoleNo, RuleNo, ThingNo};
 use std::alloc::Global;
@@ -35,11 +36,15 @@ const ROLES: [&str; 4] = ["group", "chair", "scribe", "tutor"];
 
 /// The names of the course.
 fn names(alloc: Global) -> Result<Names, Fail> {
-    let unit = course(alloc)?;
-    if !has_distinct_identifiers(alloc, &unit)? {
+    let unit = course(alloc, "course")?;
+    names_of(alloc, &unit)
+}
+
+fn names_of(alloc: Global, unit: &Unit) -> Result<Names, Fail> {
+    if !has_distinct_identifiers(alloc, unit)? {
         return Err("two parts have one identifier".into());
     }
-    Ok(Names::of(alloc, &unit)?)
+    Ok(Names::of(alloc, unit)?)
 }
 
 /// Whether the identifier names just this, and it is told by this identifier.
@@ -103,9 +108,8 @@ const RULES: [(Rule, RuleKind); 9] = [
 ];
 
 fn rules_of_course(alloc: Global) -> Result<Vec<Rule>, Fail> {
-    let unit = course(alloc)?;
-    let rules = list_rules(alloc, &unit)?;
-    Ok(rules)
+    let unit = course(alloc, "course")?;
+    Ok(list_rules(alloc, &unit)?)
 }
 
 #[test]
@@ -119,11 +123,15 @@ fn rules_stand_in_their_order(rt: HostRuntime) -> Result<(), Fail> {
     Ok(())
 }
 
+/// Whether the identifiers of a course of this name differ.
+fn differ_in(alloc: Global, name: &str) -> Result<bool, Fail> {
+    let unit = course(alloc, name)?;
+    Ok(has_distinct_identifiers(alloc, &unit)?)
+}
+
 #[test]
 fn a_repeated_identifier_is_found(rt: HostRuntime) -> Result<(), Fail> {
-    let mut unit = course(rt.alloc())?;
-    assert_eq!(rt; has_distinct_identifiers(rt.alloc(), &unit), Ok(true));
-    unit.identifier = id(rt.alloc(), "scribe")?;
-    assert_eq!(rt; has_distinct_identifiers(rt.alloc(), &unit), Ok(false));
+    assert!(rt; differ_in(rt.alloc(), "course")?);
+    assert!(rt; !differ_in(rt.alloc(), "scribe")?);
     Ok(())
 }
