@@ -1,0 +1,51 @@
+-- Graphs: for each node, counted from 0, the nodes to which it leads.
+use Rattle.std.specs.Prelude.{ℕ, zero, suc, ◌+◌, List, [], Option, Some, None, Bool, false, ◌||◌, nat_eq, min, map, length, position, slice_get}
+use Rattle.std.specs.List.{list_any, sum_by}
+use Rattle.ld_model.specs.Counting.{numbers_below}
+
+abbrev pub Graph : Type 0
+Graph = List (List ℕ)
+
+abbrev pub nodes_or_none : Option (List ℕ) → List ℕ
+nodes_or_none None = []
+nodes_or_none (Some nodes) = nodes
+
+-- The nodes to which a node leads by one step; a number that is no node leads to none.
+abbrev pub next_of : Graph → ℕ → List ℕ
+next_of g a = nodes_or_none (slice_get g a)
+
+-- ---- cycles
+
+-- Whether the first node leads to the second by at least one step and at most so many.
+abbrev pub leads_within : Graph → ℕ → ℕ → ℕ → Bool
+leads_within g zero a b = false
+leads_within g (suc n) a b = list_any (λ c. nat_eq c b || leads_within g n c b) (next_of g a)
+
+-- Whether the node leads to itself. The shortest way there passes no other node twice, so that it has
+-- at most as many steps as there are nodes.
+abbrev pub is_on_cycle : Graph → ℕ → Bool
+is_on_cycle g a = leads_within g (length g) a a
+
+-- The first node that leads to itself.
+abbrev pub first_on_cycle : Graph → Option ℕ
+first_on_cycle g = position (is_on_cycle g) (numbers_below (length g))
+
+-- ---- sizes
+
+abbrev pub number_or_zero : Option ℕ → ℕ
+number_or_zero None = 0
+number_or_zero (Some n) = n
+
+-- The sum of the node's own size and of what the nodes to which it leads expand to, ways of more than
+-- so many nodes left out. A node counts as often as ways lead to it.
+abbrev pub expanded_within : List ℕ → Graph → ℕ → ℕ → ℕ
+expanded_within own g zero a = 0
+expanded_within own g (suc n) a = number_or_zero (slice_get own a) + sum_by (expanded_within own g n) (next_of g a)
+
+-- What a node expands to in a graph without cycles, in which no way has more nodes than the graph.
+abbrev pub expanded_size : List ℕ → Graph → ℕ → ℕ
+expanded_size own g a = expanded_within own g (length g) a
+
+-- What all nodes expand to.
+abbrev pub expanded_sizes : List ℕ → Graph → List ℕ
+expanded_sizes own g = map (expanded_size own g) (numbers_below (length g))
