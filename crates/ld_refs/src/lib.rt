@@ -5,4 +5,8 @@
 #![tactic(auto)]
 
 pub mod cycles;
+pub mod kind;
+pub mod position;
 pub mod sizes;
+pub mod spot;
+pub mod spots;

@@ -1,0 +1,42 @@
+-- What a reference may name. (docs/FORMATS.md, "Documents")
+use Rattle.std.specs.Prelude.{ℕ, Bool, true, false, ◌&&◌, ◌||◌, nat_eq}
+use Rattle.ld_model.specs.declared.names.Place.{Place}
+use Rattle.ld_model.specs.declared.names.Place.TheVariants as place
+use Rattle.ld_refs.specs.declared.kind.Kind.{Kind}
+use Rattle.ld_refs.specs.declared.kind.Kind.TheVariants as kind
+use Rattle.ld_refs.specs.declared.kind.Wanted.{Wanted}
+use Rattle.ld_refs.specs.declared.kind.Wanted.TheVariants as wanted
+
+abbrev pub is_role : Kind → Bool
+is_role kind.Role = true
+is_role _ = false
+
+abbrev pub is_environment : Kind → Bool
+is_environment (kind.Thing (place.Environment _)) = true
+is_environment _ = false
+
+abbrev pub is_activity : Kind → Bool
+is_activity (kind.Thing (place.Activity _)) = true
+is_activity _ = false
+
+abbrev pub is_structure : Kind → Bool
+is_structure (kind.Thing (place.Structure _)) = true
+is_structure _ = false
+
+-- A role-part of the act of this number in the play of this number.
+abbrev pub is_part_of : ℕ → ℕ → Kind → Bool
+is_part_of p a (kind.Thing (place.RolePart q b _)) = nat_eq q p && nat_eq b a
+is_part_of p a _ = false
+
+abbrev pub is_play : Kind → Bool
+is_play (kind.Thing (place.Play _)) = true
+is_play _ = false
+
+-- Whether a reference of which this is wanted may name something of the kind.
+abbrev pub allows : Wanted → Kind → Bool
+allows wanted.Role k = is_role k
+allows wanted.Environment k = is_environment k
+allows wanted.Child k = is_activity k || is_structure k
+allows wanted.Target k = is_activity k || (is_structure k || is_environment k)
+allows (wanted.PartOf p a) k = is_part_of p a k
+allows wanted.Play k = is_play k
