@@ -1,7 +1,10 @@
 //! The first node of a graph that leads to itself.
 ghost use Rattle.std.specs.Prelude.{◌≡◌, IfOk, map};
-ghost use Rattle.ld_refs.specs.Graphs.{first_on_cycle};
+ghost use Rattle.ld_refs.specs.Graphs.{first_on_cycle, next_of};
 
+mod by_search;
+
+use by_search::first_on_cycle_by_search;
 use ld_base::memory::NoMemory;
 use std::alloc::Global;
 
@@ -9,5 +12,5 @@ use std::alloc::Global;
 pub(crate) fn first_on_cycle(alloc: Global, edges: &[Vec<usize>]) -> Result<Option<usize>, NoMemory>
     ensures { IfOk result (λ found. found ≡ first_on_cycle (map (λ next. next.items) edges.now)) }
 {
-    Err(NoMemory)
+    first_on_cycle_by_search(alloc, edges)
 }
