@@ -11,9 +11,22 @@ abbrev pub is_role : Kind → Bool
 is_role kind.Role = true
 is_role _ = false
 
+abbrev pub is_property : Kind → Bool
+is_property kind.Property = true
+is_property _ = false
+
 abbrev pub is_environment : Kind → Bool
 is_environment (kind.Thing (place.Environment _)) = true
 is_environment _ = false
+
+abbrev pub is_object_or_service : Kind → Bool
+is_object_or_service (kind.Thing (place.Object _ _)) = true
+is_object_or_service (kind.Thing (place.Service _ _)) = true
+is_object_or_service _ = false
+
+abbrev pub is_item : Kind → Bool
+is_item (kind.Thing place.Item) = true
+is_item _ = false
 
 abbrev pub is_activity : Kind → Bool
 is_activity (kind.Thing (place.Activity _)) = true

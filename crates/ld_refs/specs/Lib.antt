@@ -1,6 +1,11 @@
+pub mod Bounds
+pub mod Checks
+pub mod Extents
 pub mod Graphs
+pub mod Identified
 pub mod Kinds
 pub mod Listing
+pub mod Reaching
 pub mod Running
 pub mod Spots
 pub mod SpotView

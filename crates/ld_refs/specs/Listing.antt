@@ -110,8 +110,11 @@ abbrev pub role_at : At → List ℕ → At
 role_at at [] = at
 role_at at (n ∷ path) = role_at (nth at (codes "roles") n) path
 
+unfoldable pub role_entry : At → Bool → List ℕ → Spot
+role_entry at runs id = record { at = at; level = A; runs = runs; element = Declares kind.Role id }
+
 abbrev pub role_spot : At → Bool → List ℕ → RoleRow → Spot
-role_spot at nested path role = record { at = role_at at path; level = A; runs = role_runs nested role; element = Declares kind.Role role.identifier }
+role_spot at nested path role = role_entry (role_at at path) (role_runs nested role) role.identifier
 
 -- The roles below a place, where those of the given numbers stand before them.
 abbrev pub role_spots : At → Bool → List ℕ → List RoleRow → List Spot

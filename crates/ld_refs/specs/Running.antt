@@ -1,5 +1,5 @@
 -- For which objects runs are built.
-use Rattle.std.specs.Prelude.{ℕ, zero, Bool, true, false, ◌&&◌, not, nat_eq, Option, Some, None, is_none}
+use Rattle.std.specs.Prelude.{ℕ, Bool, true, false, ◌&&◌, not, nat_eq, Option, Some, is_none}
 use Rattle.ld_model.specs.declared.activity.Activity.{Activity}
 use Rattle.ld_model.specs.declared.activity.ActivityKind.{ActivityKind}
 use Rattle.ld_model.specs.declared.activity.ActivityKind.TheVariants.{Learning, Support}
@@ -15,9 +15,13 @@ abbrev pub is_not_exclusive : MatchPersons → Bool
 is_not_exclusive NotExclusively = true
 is_not_exclusive ExclusivelyInRoles = false
 
+-- A role whose members are not bounded.
+abbrev pub is_unbounded : MatchPersons → ℕ → Option ℕ → Bool
+is_unbounded match_persons least most = is_not_exclusive match_persons && (nat_eq least 0 && is_none most)
+
 -- A role that is in no other, with no bounds on its members.
 abbrev pub role_runs : Bool → RoleRow → Bool
-role_runs nested role = not nested && (nat_eq role.depth 0 && (is_not_exclusive role.match_persons && (nat_eq role.min_persons 0 && is_none role.max_persons)))
+role_runs nested role = not nested && (nat_eq role.depth 0 && is_unbounded role.match_persons role.min_persons role.max_persons)
 
 abbrev pub is_learning : ActivityKind → Bool
 is_learning Learning = true

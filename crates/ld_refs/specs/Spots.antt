@@ -27,6 +27,10 @@ member at name = record { file = at.file; place = at.place ++ 47 ∷ name }
 abbrev pub nth : At → List ℕ → ℕ → At
 nth at name index = record { file = at.file; place = at.place ++ 47 ∷ (name ++ 47 ∷ decimal index) }
 
+-- The element of this number in the list at the place.
+abbrev pub item_at : At → ℕ → At
+item_at at index = record { file = at.file; place = at.place ++ 47 ∷ decimal index }
+
 -- The fault of this code at the place.
 abbrev pub fault_at : Code → At → Told
 fault_at code at = record { file = at.file; place = at.place; code = code }

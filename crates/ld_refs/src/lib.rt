@@ -4,6 +4,7 @@
 //! The checks and their order are those of docs/FORMATS.md, "Faults".
 #![tactic(auto)]
 
+pub mod check;
 pub mod cycles;
 pub mod kind;
 pub mod position;
