@@ -1,3 +1,4 @@
 pub mod Adding
 pub mod CycleLaws
+pub mod RoleSpots
 pub mod Rounds

@@ -3,3 +3,4 @@ pub(crate) mod activities;
 pub(crate) mod environments;
 pub(crate) mod items;
 pub(crate) mod method;
+pub(crate) mod roles;
