@@ -5,6 +5,7 @@
 #![tactic(auto)]
 
 pub mod check;
+pub mod checks;
 pub mod cycles;
 pub mod kind;
 pub mod position;

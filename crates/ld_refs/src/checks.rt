@@ -1,0 +1,2 @@
+//! The checks, each over the whole unit.
+pub(crate) mod single;
