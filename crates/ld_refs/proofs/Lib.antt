@@ -1,4 +1,5 @@
 pub mod Adding
+pub mod Beyond
 pub mod CycleLaws
 pub mod RoleSpots
 pub mod Rounds

@@ -1,2 +1,3 @@
 //! The checks, each over the whole unit.
+pub(crate) mod limits;
 pub(crate) mod single;
