@@ -1,3 +1,5 @@
 //! The checks, each over the whole unit.
+pub(crate) mod identifiers;
 pub(crate) mod limits;
 pub(crate) mod single;
+pub(crate) mod targets;
