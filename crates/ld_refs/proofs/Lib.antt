@@ -1,4 +1,5 @@
 pub mod Adding
 pub mod CycleLaws
+pub mod Distinct
 pub mod RoleSpots
 pub mod Rounds
