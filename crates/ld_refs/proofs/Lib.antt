@@ -3,3 +3,5 @@ pub mod CycleLaws
 pub mod Distinct
 pub mod RoleSpots
 pub mod Rounds
+pub mod SpotNames
+pub mod Unrepeated
