@@ -2,7 +2,9 @@ pub mod Adding
 pub mod Beyond
 pub mod CycleLaws
 pub mod Distinct
+pub mod Noted
 pub mod RoleSpots
 pub mod Rounds
 pub mod SpotNames
+pub mod Stops
 pub mod Unrepeated
