@@ -26,7 +26,6 @@ impl Model for Checked {
     ghost use Rattle.ld_model.specs.Names.{names_of};
     ghost use Rattle.ld_model.specs.Rules.{rules_of};
     ghost use Rattle.ld_refs.specs.Checks.{CheckedUnit, check_faults};
-
     ghost use Rattle.std.specs.Coded.{codes};
     ghost use Rattle.ld_model.specs.contracts.expression.Term as term;
     ghost use Rattle.ld_model.specs.contracts.expression.Test as test;

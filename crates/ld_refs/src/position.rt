@@ -51,12 +51,7 @@ impl Position {
     }
 
     /// The element of this number, counted from 0, in the member of this name.
-    pub(crate) fn nth(
-        &self,
-        alloc: Global,
-        name: &str,
-        index: usize,
-    ) -> Result<Position, NoMemory>
+    pub(crate) fn nth(&self, alloc: Global, name: &str, index: usize) -> Result<Position, NoMemory>
         ensures { IfOk result (λ at. at ≡ nth self.now name.now index) }
     {
         let parent = self.place.as_str();

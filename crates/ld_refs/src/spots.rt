@@ -37,11 +37,7 @@ pub(crate) fn list_spots(alloc: Global, unit: &Unit) -> Result<Vec<Spot<'_>>, No
 }
 
 /// Appends the documents of roles, properties and environments.
-fn push_first<'a>(
-    alloc: Global,
-    spots: &mut Vec<Spot<'a>>,
-    unit: &'a Unit,
-) -> Result<(), NoMemory>
+fn push_first<'a>(alloc: Global, spots: &mut Vec<Spot<'a>>, unit: &'a Unit) -> Result<(), NoMemory>
     ensures { OnOk result (AddsSpots spots.old.items spots.new.items (first_spots unit.now)) }
 {
     let at = Position::root(alloc, FileNo::Roles);
@@ -52,11 +48,7 @@ fn push_first<'a>(
 }
 
 /// Appends the documents of activities, of the unit itself and of conditions.
-fn push_last<'a>(
-    alloc: Global,
-    spots: &mut Vec<Spot<'a>>,
-    unit: &'a Unit,
-) -> Result<(), NoMemory>
+fn push_last<'a>(alloc: Global, spots: &mut Vec<Spot<'a>>, unit: &'a Unit) -> Result<(), NoMemory>
     ensures { OnOk result (AddsSpots spots.old.items spots.new.items (last_spots unit.now)) }
 {
     push_activities(alloc, spots, unit.activities.as_slice())?;

@@ -11,11 +11,7 @@ use ld_model::unit::Level;
 use std::alloc::Global;
 
 /// That nothing has a higher level than the unit.
-pub(crate) fn check_levels(
-    alloc: Global,
-    level: Level,
-    spots: &[Spot<'_>],
-) -> Result<(), ReadFault>
+pub(crate) fn check_levels(alloc: Global, level: Level, spots: &[Spot<'_>]) -> Result<(), ReadFault>
     ensures faultless { OnOk result (level_faults level (map spot_of spots.now) ≡ []) }
     ensures first { IfErr result (SaysFirst (level_faults level (map spot_of spots.now))) }
 {

@@ -58,11 +58,7 @@ fn check_list(
 }
 
 /// That what stands there refers to what it should.
-fn check_spot(
-    alloc: Global,
-    kinds: &BTreeMap<&str, Kind>,
-    spot: &Spot<'_>,
-) -> Result<(), ReadFault>
+fn check_spot(alloc: Global, kinds: &BTreeMap<&str, Kind>, spot: &Spot<'_>) -> Result<(), ReadFault>
     ensures faultless { OnOk result ((names : List Name) → LooksUp kinds.now names → targets_in names spot.now.at (element_of spot.now.element) ≡ []) }
     ensures first { IfErr result (λ fault. (names : List Name) → LooksUp kinds.now names → SaysFirst (targets_in names spot.now.at (element_of spot.now.element)) fault) }
 {

@@ -27,7 +27,12 @@ pub(crate) fn push_roles<'a>(
 {
     for (i, role) in roles.iter().enumerate() {
         let own = at.nth(alloc, "roles", i)?;
-        let runs = runs_so(nested, role.match_persons, role.min_persons, role.max_persons);
+        let runs = runs_so(
+            nested,
+            role.match_persons,
+            role.min_persons,
+            role.max_persons,
+        );
         push_role(alloc, spots, &own, runs, &role.identifier)?;
         push_roles(alloc, spots, &own, true, &role.roles)?;
     }
