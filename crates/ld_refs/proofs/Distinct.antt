@@ -136,3 +136,14 @@ distinct unit none =
     let listed : identifiers_in (first_spots unit ++ last_spots unit) ≡ (roles ++ (properties ++ environments)) ++ (activities ++ (structures ++ unit.identifier ∷ identifiers_listed (method_entries unit))) = identifiers_append (first_spots unit) (last_spots unit) ∙ rw (first_named unit, last_named unit) refl in
     let differ = faultless_differ (first_spots unit ++ last_spots unit) none in
     rw (things_listed unit) (differ_in_order roles properties environments activities structures (identifiers_listed (method_entries unit)) unit.identifier (rw (sym listed) differ))
+
+first_none : {A : Type 0} (xs ys : List A) → xs ++ ys ≡ [] → xs ≡ []
+first_none [] ys none = refl
+first_none (x ∷ xs) ys none = cc
+
+-- Where no check finds a fault in a unit, no two parts of it have one identifier.
+pub check_distinct : (unit : Course) → check_faults unit ≡ [] → HasDistinctIdentifiers unit
+unfolding check_faults name_faults
+check_distinct unit none =
+    let names = first_none (name_faults (spots_of unit)) _ none in
+    distinct unit (first_none (repeated_faults (spots_of unit)) (target_faults (spots_of unit)) names)

@@ -78,10 +78,6 @@ rule_faults unit = if nat_lt 600 (length (rules_of unit)) then fault_at TooMany 
 abbrev pub object_limit_faults : List Spot → List Told
 object_limit_faults spots = beyond 60 (is_counted counted.Roles) spots ++ (beyond 300 (is_counted counted.Properties) spots ++ (beyond 400 (is_counted counted.Environments) spots ++ (beyond 1000 (is_counted counted.ObjectsAndServices) spots ++ (beyond 4000 (is_counted counted.Items) spots ++ beyond 400 (is_counted counted.ActivitiesAndStructures) spots))))
 
--- Those limits, and then that of 600 rules.
-abbrev pub limit_faults : Course → List Spot → List Told
-limit_faults unit spots = object_limit_faults spots ++ rule_faults unit
-
 -- ---- what is built
 
 -- No run of what stands there is built.
