@@ -1,5 +1,6 @@
 pub mod Adding
 pub mod Beyond
 pub mod CycleLaws
+pub mod Indexed
 pub mod RoleSpots
 pub mod Rounds

@@ -1,3 +1,4 @@
 //! The checks, each over the whole unit.
+pub(crate) mod cycles;
 pub(crate) mod limits;
 pub(crate) mod single;
