@@ -55,6 +55,7 @@ found_before xs x q n there = by (bytes_eq q x) refl
     keep : (o more : Option ℕ) → is_some o ≡ true → option_or o more ≡ o
     keep None more some = cc
     keep (Some k) more some = refl
+
     by : (b : Bool) → bytes_eq q x ≡ b → option_or (position (bytes_eq q) xs) (cond (bytes_eq q x) (Some n) None) ≡ position (bytes_eq q) xs
     by true is =
         let same : q ≡ x = (bytes_eq-Decides q x).0 is in
@@ -74,6 +75,7 @@ found_last xs x q new = by (bytes_eq x q) refl
     absent : (o : Option ℕ) → is_some o ≡ false → o ≡ None
     absent None none = refl
     absent (Some k) none = cc
+
     by : (b : Bool) → bytes_eq x q ≡ b → cond b (Some (length xs)) (position (bytes_eq q) xs) ≡ option_or (position (bytes_eq q) xs) (cond (bytes_eq q x) (Some (length xs)) None)
     by true is =
         let same : x ≡ q = (bytes_eq-Decides x q).0 is in

@@ -1,6 +1,7 @@
 pub mod Adding
 pub mod Beyond
 pub mod CycleLaws
+pub mod ExtentFaults
 pub mod Indexed
 pub mod RoleSpots
 pub mod Rounds

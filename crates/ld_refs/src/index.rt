@@ -54,10 +54,7 @@ impl<'a> Index<'a> {
 }
 
 /// The number of the first text that says the same, for each of the texts.
-fn numbers_of<'a>(
-    alloc: Global,
-    texts: &[&'a str],
-) -> Result<BTreeMap<&'a str, usize>, NoMemory>
+fn numbers_of<'a>(alloc: Global, texts: &[&'a str]) -> Result<BTreeMap<&'a str, usize>, NoMemory>
     ensures { IfOk result (λ numbers. (q : List ℕ) → get_by (λ text. slice_cmp nat_cmp q text.now) numbers ≡ position (bytes_eq q) (map (λ text. text.now) texts.now)) }
 {
     let mut numbers = BTreeMap::new(alloc);

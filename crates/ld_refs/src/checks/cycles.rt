@@ -46,7 +46,12 @@ fn check_graphs(alloc: Global, graphs: &Graphs) -> Result<(), ReadFault>
     ensures faultless { OnOk result (cycle_at file.Environments (codes "environments") (first_on_cycle (map (λ next. next.items) graphs.now.environments.items)) ++ cycle_at file.Activities (codes "structures") (first_on_cycle (map (λ next. next.items) graphs.now.structures.items)) ≡ []) }
     ensures first { IfErr result (SaysFirst (cycle_at file.Environments (codes "environments") (first_on_cycle (map (λ next. next.items) graphs.now.environments.items)) ++ cycle_at file.Activities (codes "structures") (first_on_cycle (map (λ next. next.items) graphs.now.structures.items)))) }
 {
-    check_graph(alloc, FileNo::Environments, "environments", &graphs.environments)?;
+    check_graph(
+        alloc,
+        FileNo::Environments,
+        "environments",
+        &graphs.environments,
+    )?;
     check_graph(alloc, FileNo::Activities, "structures", &graphs.structures)?;
     Ok(())
 }
@@ -131,11 +136,7 @@ fn structures_among(
 }
 
 /// The numbers of those that the references name, among things of these identifiers.
-fn numbers_among(
-    alloc: Global,
-    ids: &Index<'_>,
-    references: &[Id],
-) -> Result<Vec<usize>, NoMemory>
+fn numbers_among(alloc: Global, ids: &Index<'_>, references: &[Id]) -> Result<Vec<usize>, NoMemory>
     ensures { IfOk result (λ numbers. numbers.items ≡ numbers_among ids.now references.now) }
 {
     let mut numbers = Vec::new(alloc);
