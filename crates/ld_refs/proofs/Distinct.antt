@@ -15,7 +15,8 @@ use Rattle.ld_model.specs.declared.method.RolePart.{RolePart as RolePartOf}
 use Rattle.ld_model.specs.declared.unit.Unit.{Unit as Course}
 use Rattle.ld_model.specs.Roles.{roles_of}
 use Rattle.ld_model.specs.Things.{Entry, item_entries, feedback_entries, environment_entries, activity_entries, structure_entries, part_entries, act_entries, play_entries, method_entries, things_of}
-use Rattle.ld_refs.specs.Identified.{identifiers_in, repeated_faults}
+use Rattle.ld_refs.specs.Checks.{name_faults, check_faults}
+use Rattle.ld_refs.specs.Identified.{identifiers_in, repeated_faults, target_faults}
 use Rattle.ld_refs.specs.Spots.{At, root, nth}
 use Rattle.ld_refs.proofs.Unrepeated.{identifiers_append, differ_moved, faultless_differ}
 use Rattle.ld_refs.proofs.SpotNames.{identifiers_listed, Names, IsNameless, names_append, names_behind, names_numbered, items_named, follows_named, completions_nameless, roles_named, properties_named, environment_named, activity_named, structure_named}

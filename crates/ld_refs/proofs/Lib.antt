@@ -2,6 +2,8 @@ pub mod Adding
 pub mod Beyond
 pub mod CycleLaws
 pub mod Distinct
+pub mod ExtentFaults
+pub mod Indexed
 pub mod Noted
 pub mod RoleSpots
 pub mod Rounds

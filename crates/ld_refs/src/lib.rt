@@ -7,6 +7,7 @@
 pub mod check;
 pub mod checks;
 pub mod cycles;
+pub mod index;
 pub mod kind;
 pub mod position;
 pub mod sizes;
