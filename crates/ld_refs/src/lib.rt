@@ -13,3 +13,5 @@ pub mod position;
 pub mod sizes;
 pub mod spot;
 pub mod spots;
+#[cfg(test)]
+mod tests;
