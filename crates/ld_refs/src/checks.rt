@@ -1,4 +1,5 @@
 //! The checks, each over the whole unit.
 pub(crate) mod cycles;
+pub(crate) mod extents;
 pub(crate) mod limits;
 pub(crate) mod single;
