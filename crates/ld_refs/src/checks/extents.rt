@@ -1,11 +1,9 @@
 //! The check of sizes: what the role-parts of a unit and the unit expand to.
-ghost use Rattle.std.specs.Prelude.{◌≡◌, [], IfErr, IfOk, OnOk, codes, map, nat_lt};
+ghost use Rattle.std.specs.Prelude.{◌≡◌, [], IfErr, IfOk, OnOk, map};
 ghost use Rattle.ld_json.specs.Fault.{SaysFirst};
 ghost use Rattle.ld_model.specs.Counting.{each_numbered};
-ghost use Rattle.ld_refs.specs.Extents.{act_size_faults, part_size, part_size_faults, play_size_faults, size_faults, unit_size_faults};
-ghost use Rattle.ld_refs.specs.Listing.{method_at};
+ghost use Rattle.ld_refs.specs.Extents.{act_size_faults, part_size_faults, play_size_faults, size_faults, unit_size_faults};
 ghost use Rattle.ld_refs.specs.Reaching.{environment_graph, structure_graph};
-ghost use Rattle.ld_refs.specs.Spots.{nth};
 
 mod activities;
 mod environments;
@@ -88,11 +86,7 @@ fn check_unit(alloc: Global, sizes: &StructureSizes<'_>) -> Result<(), ReadFault
 
 /// That no role-part of the plays is too big.
 #[tactic(auto, using(ld_json::proofs::First::first_of_both))]
-fn check_plays(
-    alloc: Global,
-    sizes: &StructureSizes<'_>,
-    plays: &[Play],
-) -> Result<(), ReadFault>
+fn check_plays(alloc: Global, sizes: &StructureSizes<'_>, plays: &[Play]) -> Result<(), ReadFault>
     ensures faultless { OnOk result (each_numbered (play_size_faults sizes.now.activities.environments.unit.now) plays.now ≡ []) }
     ensures first { IfErr result (SaysFirst (each_numbered (play_size_faults sizes.now.activities.environments.unit.now) plays.now)) }
 {
@@ -151,6 +145,7 @@ fn check_act(
 }
 
 /// That none of the role-parts of the act at the place is too big.
+#[tactic(auto, using(ld_json::proofs::First::first_of_both))]
 fn check_parts(
     alloc: Global,
     sizes: &StructureSizes<'_>,
@@ -161,17 +156,25 @@ fn check_parts(
     ensures first { IfErr result (SaysFirst (each_numbered (part_size_faults sizes.now.activities.environments.unit.now at.now) parts.now)) }
 {
     for (r, part) in parts.iter().enumerate() {
-        if is_too_big(sizes, part) {
-            let own = at.nth(alloc, "role-parts", r)?;
-            return Err(own.fault(alloc, Code::TooBig));
-        }
+        check_part(alloc, sizes, at, r, part)?;
     }
     Ok(())
 }
 
-/// Whether the role-part is too big.
-fn is_too_big(sizes: &StructureSizes<'_>, part: &RolePart) -> bool
-    ensures { result ≡ nat_lt 20000 (part_size sizes.now.activities.environments.unit.now part.now) }
+/// That the role-part of this number is not too big.
+fn check_part(
+    alloc: Global,
+    sizes: &StructureSizes<'_>,
+    at: &Position,
+    r: usize,
+    part: &RolePart,
+) -> Result<(), ReadFault>
+    ensures faultless { OnOk result (part_size_faults sizes.now.activities.environments.unit.now at.now r part.now ≡ []) }
+    ensures first { IfErr result (SaysFirst (part_size_faults sizes.now.activities.environments.unit.now at.now r part.now)) }
 {
-    part_size(sizes, part) > PART_LIMIT
+    if part_size(sizes, part) <= PART_LIMIT {
+        return Ok(());
+    }
+    let own = at.nth(alloc, "role-parts", r)?;
+    Err(own.fault(alloc, Code::TooBig))
 }

@@ -29,8 +29,8 @@ impl<'a> ActivitySizes<'a> {
     ) -> Result<ActivitySizes<'a>, NoMemory>
         ensures { IfOk result (λ sizes. sizes.environments.unit.now ≡ environments.entry.unit.now) }
     {
-        let ids = index_activities(alloc, environments.unit.activities.as_slice())?;
         let activities = environments.unit.activities.as_slice();
+        let ids = index_activities(alloc, activities)?;
         let sizes = activity_sizes(alloc, &environments, activities)?;
         let table = Table { ids, sizes };
         Ok(ActivitySizes {

@@ -32,8 +32,9 @@ impl<'a> EnvironmentSizes<'a> {
         requires { map (λ next. next.items) graph.now ≡ environment_graph unit.now }
         ensures { IfOk result (λ sizes. sizes.unit.now ≡ unit.now) }
     {
-        let ids = index_environments(alloc, unit.environments.as_slice())?;
-        let own = own_environment_sizes(alloc, unit.environments.as_slice())?;
+        let environments = unit.environments.as_slice();
+        let ids = index_environments(alloc, environments)?;
+        let own = own_environment_sizes(alloc, environments)?;
         let sizes = expanded_sizes(alloc, &own, graph)?;
         let table = Table { ids, sizes };
         Ok(EnvironmentSizes { unit, table })

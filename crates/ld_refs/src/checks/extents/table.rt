@@ -28,6 +28,7 @@ impl<'a> Table<'a> {
     }
 
     /// The size with those of the things that the references name, or `GREATEST` where that is less.
+    /// It takes time for n things as the number of references times the logarithm of n.
     pub(crate) fn add_all(&self, size: u64, references: &[Id]) -> u64
         ensures { result ≡ min 1000000 (size + sizes_named self.now.ids self.now.sizes.items references.now) }
     {

@@ -7,5 +7,5 @@ use Rattle.ld_refs.proofs.checks.extents.environments.EnvironmentSizes.of.Goals 
 pub invariant_of-result-clause-sizes : goal.invariant_of-result-clause-sizes
 invariant_of-result-clause-sizes c =
     let unit = c.args.unit.now in
-    rw (c.deref.ensures.value, c.in_ok-own.ensures, c.as_slice-2.ensures, c.requires) at c.in_ok-sizes.ensures
+    rw (c.deref.ensures.value, c.in_ok-own.ensures, c.as_slice-environments.ensures, c.requires) at c.in_ok-sizes.ensures
     ∙ expanded_alike (map own_environment_size unit.environments) (environment_graph unit)
