@@ -1,8 +1,8 @@
 -- The faults in the parts of a node, for walks that go on below it.
-use Rattle.std.specs.Prelude.{ℕ, List, [], ◌∷◌, ◌++◌, Option, Some, None, flat_map}
+use Rattle.std.specs.Prelude.{ℕ, List, [], ◌∷◌, ◌++◌, Option, Some, None}
 use Rattle.serde_json.specs.Data.{Data}
 use Rattle.serde_json.specs.Find.{get}
-use Rattle.ld_json.specs.Access.{missing_at, list_faults, item_nodes}
+use Rattle.ld_json.specs.Access.{missing_at}
 use Rattle.ld_json.specs.Fault.{Told}
 use Rattle.ld_json.specs.Node.{Placed, member_node}
 
@@ -18,7 +18,3 @@ in_member name faults node = part_faults (missing_at node name ∷ []) (member_n
 -- The faults of the member of this name, if it is there.
 abbrev pub in_optional : List ℕ → (Placed → List Told) → Placed → List Told
 in_optional name faults node = part_faults [] (member_node node name) faults (get name node.tree)
-
--- The faults of the elements of the node, which has to be an array.
-abbrev pub in_items : (Placed → List Told) → Placed → List Told
-in_items faults node = list_faults node ++ flat_map faults (item_nodes node)

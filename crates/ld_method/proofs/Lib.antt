@@ -1,2 +1,4 @@
 pub mod Later
 pub mod Making
+pub mod FormedMethods
+pub mod FormedUnits

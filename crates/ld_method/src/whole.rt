@@ -1,8 +1,9 @@
 //! The whole unit of its documents.
-ghost use Rattle.std.specs.Prelude.{◌≡◌, List, [], Some, IfOk, OnOk, IfErr};
+ghost use Rattle.std.specs.Prelude.{◌≡◌, List, [], true, Some, IfOk, OnOk, IfErr};
 ghost use Rattle.ld_json.specs.Fault.{SaysFirst};
 ghost use Rattle.ld_json.specs.declared.file.FileNo.TheVariants as file_no;
 ghost use Rattle.ld_method.specs.Units.{unit_in, method_document_faults, own_unit, unit_faults, with_conditions, conditions_in, conditions_faults};
+ghost use Rattle.ld_model.specs.WellFormed.{has_formed_parts, is_well_formed};
 ghost use Rattle.ld_model.specs.declared.condition.Condition.{Condition};
 ghost use Rattle.ld_reader.specs.Documents.{HasRequired, document_or, in_document};
 
@@ -22,6 +23,7 @@ use std::alloc::Global;
 pub fn read_method(alloc: Global, docs: &Docs, parts: Parts) -> Result<Unit, ReadFault>
     requires { HasRequired docs.now }
     ensures value { IfOk result (λ unit. unit_in docs.now parts ≡ Some unit) }
+    ensures formed { has_formed_parts parts.roles parts.environments parts.activities parts.structures ≡ true → parts.properties ≡ [] → IfOk result (λ unit. is_well_formed unit ≡ true) }
     ensures faultless { OnOk result (method_document_faults docs.now ≡ []) }
     ensures first { IfErr result (SaysFirst (method_document_faults docs.now)) }
 {

@@ -1,5 +1,5 @@
 -- How many identifiers a unit has.
-use Rattle.std.proofs.Common.{◌≡◌, ℕ, ◌+◌, List, [], ◌∷◌, ◌++◌, length, map, refl, sym, ap, ◌∙◌, arith, length-append}
+use Rattle.std.proofs.Common.{◌≡◌, ◌+◌, List, ◌++◌, length, map, sym, ap, ◌∙◌, arith, length-append}
 use Rattle.std.proofs.lemmas.List.{length-map}
 use Rattle.ld_model.specs.Identifiers.{identifiers_of}
 use Rattle.ld_model.specs.Roles.{roles_of}

@@ -1,5 +1,5 @@
 -- Words on lists whose elements are counted from 0.
-use Rattle.std.specs.Prelude.{ℕ, ◌+◌, List, [], ◌∷◌, ◌++◌, Bool, Option, length}
+use Rattle.std.specs.Prelude.{ℕ, ◌+◌, List, [], ◌∷◌, ◌++◌, Bool, Option}
 use Rattle.std.specs.List.{range_with_len, position_from}
 
 -- What `f` gives for each element and its number, in order.

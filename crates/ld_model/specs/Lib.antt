@@ -10,3 +10,4 @@ pub mod State
 pub mod ThingView
 pub mod Things
 pub mod Validity
+pub mod WellFormed

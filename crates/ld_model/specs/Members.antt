@@ -1,12 +1,10 @@
 -- Who is a member of a role, and which activities are a person's.
-use Rattle.std.specs.Prelude.{ℕ, ℤ, pos, List, Option, Some, None, Bool, true, false, ◌&&◌, nat_eq, slice_get, length}
-use Rattle.std.specs.List.{list_any, list_all, flat_map}
+use Rattle.std.specs.Prelude.{ℕ, pos, List, Option, Some, None, Bool, false, ◌&&◌, nat_eq, slice_get, length}
+use Rattle.std.specs.List.{list_any, flat_map}
 use Rattle.std.specs.Str.{bytes_eq}
 use Rattle.ld_value.specs.Datum.{Datum, truth_datum, number_datum}
 use Rattle.ld_model.specs.declared.cell.CellName.{CellName}
 use Rattle.ld_model.specs.declared.cell.CellName.TheVariants.{Prop, Vis, Member, Chosen, Opened, ActOpened, Started, Mark, Now, Roster}
-use Rattle.ld_model.specs.declared.method.Act.{Act}
-use Rattle.ld_model.specs.declared.method.Play.{Play}
 use Rattle.ld_model.specs.declared.method.RolePart.{RolePart}
 use Rattle.ld_model.specs.declared.unit.Unit.{Unit as Course}
 use Rattle.ld_model.specs.Counting.{number_where, numbers_below}

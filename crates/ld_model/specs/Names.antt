@@ -1,10 +1,7 @@
 -- What the identifiers of a unit name.
-use Rattle.std.specs.Prelude.{ℕ, ◌+◌, ◌-◌, List, [], ◌∷◌, map, Option, Some, None, Bool, ◌≡◌, ◌<◌, nat_lt, length, position, slice_get, if◌then◌else◌, ⊤}
+use Rattle.std.specs.Prelude.{ℕ, ◌+◌, ◌-◌, List, map, Option, Some, None, ◌<◌, nat_lt, length, position, slice_get, if◌then◌else◌, ⊤}
 use Rattle.std.specs.Option.{option_map, option_and_then}
 use Rattle.std.specs.Str.{bytes_eq}
-use Rattle.ld_base.specs.declared.numbers.PropNo.{PropNo}
-use Rattle.ld_base.specs.declared.numbers.RoleNo.{RoleNo}
-use Rattle.ld_base.specs.declared.numbers.ThingNo.{ThingNo}
 use Rattle.ld_model.specs.declared.names.Named.{Named}
 use Rattle.ld_model.specs.declared.names.Named.TheVariants.{Role, Thing, Prop, Unit as Whole}
 use Rattle.ld_model.specs.declared.names.Place.{Place}

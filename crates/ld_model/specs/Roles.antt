@@ -1,5 +1,5 @@
 -- The roles of a unit in document order: each role, and behind it the roles within it.
-use Rattle.std.specs.Prelude.{ℕ, List}
+use Rattle.std.specs.Prelude.{List}
 use Rattle.ld_model.specs.RoleRows.{RoleRow, joined}
 use Rattle.ld_model.specs.declared.unit.Unit.{Unit as Course}
 

@@ -1,6 +1,5 @@
 -- The rules of a unit in the order in which a sweep visits them, and their sites.
-use Rattle.std.specs.Prelude.{ℕ, List, [], ◌∷◌, ◌++◌, map, Option, Some, None, Bool, true, false, ◌&&◌, nat_eq, length}
-use Rattle.ld_base.specs.declared.numbers.PersonNo.{PersonNo}
+use Rattle.std.specs.Prelude.{ℕ, List, [], ◌∷◌, ◌++◌, map, Option, Some, None, Bool, true, false, ◌&&◌, nat_eq}
 use Rattle.ld_model.specs.declared.activity.Activity.{Activity as ActivityOf}
 use Rattle.ld_model.specs.declared.activity.Structure.{Structure as StructureOf}
 use Rattle.ld_model.specs.declared.cell.Owner.{Owner}

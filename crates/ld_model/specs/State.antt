@@ -1,5 +1,5 @@
 -- The state of a run.
-use Rattle.std.specs.Prelude.{ℕ, ℤ, List, [], ◌++◌, ◌∷◌, Option, Some, None, true, false, Bool}
+use Rattle.std.specs.Prelude.{ℕ, ℤ, List, [], Option, Some, None, true, false, Bool}
 use Rattle.ld_value.specs.Datum.{Datum, truth_datum, moment_datum}
 use Rattle.ld_model.specs.declared.cell.CellName.{CellName}
 use Rattle.ld_model.specs.declared.cell.CellName.TheVariants.{Prop, Vis, Member, Chosen, Opened, ActOpened, Started, Mark, Now, Roster}

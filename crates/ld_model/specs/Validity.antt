@@ -1,6 +1,6 @@
 -- When a unit of the first form, which is all that runs yet, is valid: its identifiers differ, its references name what they should, and it is
 -- within the limits.
-use Rattle.std.specs.Prelude.{ℕ, List, [], ◌∷◌, ◌++◌, map, Bool, true, false, ◌&&◌, ◌||◌, not, nat_le, length}
+use Rattle.std.specs.Prelude.{ℕ, List, Bool, ◌&&◌, nat_le, length}
 use Rattle.std.specs.List.{list_any, list_all, sum_by}
 use Rattle.std.specs.Str.{bytes_eq}
 use Rattle.ld_model.specs.declared.unit.Unit.{Unit as Course}

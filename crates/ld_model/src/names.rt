@@ -4,12 +4,11 @@ ghost use Rattle.ld_model.specs.Identifiers.{HasDistinctIdentifiers, identifiers
 ghost use Rattle.ld_model.specs.Roles.{roles_of};
 ghost use Rattle.ld_model.specs.Things.{things_of};
 ghost use Rattle.ld_model.specs.Names.{names_of, named_at, named_by, index_of, identifier_at, number_at, rule_named, HasPart};
-ghost use Rattle.ld_model.specs.Rules.{completing_rule, rules_of, same_rule};
-ghost use Rattle.ld_model.specs.Counting.{number_where};
+ghost use Rattle.ld_model.specs.Rules.{completing_rule};
 ghost use Rattle.ld_model.specs.ThingView.{entry_of};
 
 use crate::identifiers::{identifiers_with, index_identifiers};
-use crate::rule::{Rule, list_rules};
+use crate::rule::{Rule, list_rules, number_of_rule};
 use crate::thing::{ThingEntry, list_things};
 use crate::unit::Unit;
 use indexmap::IndexSet;
@@ -226,19 +225,6 @@ fn number_at(rules: &[Rule], place: Place) -> Option<u32>
 {
     let rule = completing_rule(place)?;
     number_of_rule(rules, rule)
-}
-
-/// The number of the rule among the rules.
-fn number_of_rule(rules: &[Rule], rule: Rule) -> Option<u32>
-    requires { length rules.now < 2 ^ 32 }
-    ensures { result ≡ number_where (same_rule rule) rules.now }
-{
-    for (number, known) in rules.iter().enumerate() {
-        if rule.is(*known) {
-            return Some(number as u32);
-        }
-    }
-    None
 }
 
 /// The rule that completes the thing at the place.

@@ -1,6 +1,6 @@
 //! The rules of a unit.
-ghost use Rattle.std.specs.Prelude.{◌≡◌, ◌++◌, IfOk, OnOk};
-ghost use Rattle.ld_model.specs.Counting.{each_numbered};
+ghost use Rattle.std.specs.Prelude.{◌≡◌, ◌<◌, ◌^◌, ◌++◌, length, IfOk, OnOk};
+ghost use Rattle.ld_model.specs.Counting.{each_numbered, number_where};
 ghost use Rattle.ld_model.specs.Rules.{same_rule, kind_of, activity_rule, structure_rule, part_rule, act_rules, play_rules, condition_rule, rule_if_any, rules_of};
 
 use crate::activity::{Activity, Structure};
@@ -77,6 +77,20 @@ pub fn list_rules(alloc: Global, unit: &Unit) -> Result<Vec<Rule>, NoMemory>
     push_completion(&mut rules, &unit.method.complete, Rule::CompletesUnit)?;
     push_conditions(&mut rules, unit.conditions.as_slice())?;
     Ok(rules)
+}
+
+/// The number of the rule among these rules: the place of the first that is the same, counted from 0.
+/// None exactly where none is. It takes no memory, and time as their number.
+pub fn number_of_rule(rules: &[Rule], rule: Rule) -> Option<u32>
+    requires { length rules.now < 2 ^ 32 }
+    ensures { result ≡ number_where (same_rule rule) rules.now }
+{
+    for (number, known) in rules.iter().enumerate() {
+        if rule.is(*known) {
+            return Some(number as u32);
+        }
+    }
+    None
 }
 
 fn push_activities(rules: &mut Vec<Rule>, activities: &[Activity]) -> Result<(), NoMemory>

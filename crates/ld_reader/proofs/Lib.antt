@@ -4,3 +4,10 @@ pub mod Objects
 pub mod RolesWithin
 pub mod Depths
 pub mod Firsts
+pub mod Passing
+pub mod FormedValues
+pub mod FormedCompletions
+pub mod FormedEnvironments
+pub mod FormedRoles
+pub mod FormedActivities
+pub mod FormedDocuments

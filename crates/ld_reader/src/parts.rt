@@ -1,8 +1,9 @@
 //! The parts of a unit that stand in the documents before its own.
-ghost use Rattle.std.specs.Prelude.{◌≡◌, [], Some, IsSome, IfOk, OnOk, IfErr};
+ghost use Rattle.std.specs.Prelude.{◌≡◌, [], true, Some, IsSome, IfOk, OnOk, IfErr};
 ghost use Rattle.ld_base.specs.Maybe.{◌>>=◌ as ◌then◌};
 ghost use Rattle.ld_json.specs.Fault.{SaysFirst};
 ghost use Rattle.ld_json.specs.declared.file.FileNo.TheVariants.{Roles, Properties, Environments, Activities};
+ghost use Rattle.ld_model.specs.WellFormed.{has_formed_parts};
 ghost use Rattle.ld_reader.specs.Documents.{HasRequired, tree_of, document_or, in_document, roles_in, roles_faults, properties_in, properties_faults, environments_in, environments_faults, activities_in, activities_faults, parts_in, parts_faults};
 
 use crate::documents::{read_activities, read_environments, read_properties, read_roles};
@@ -22,6 +23,8 @@ use std::alloc::Global;
 pub fn read_parts(alloc: Global, docs: &Docs) -> Result<Parts, ReadFault>
     requires { HasRequired docs.now }
     ensures value { IfOk result (λ parts. parts_in docs.now ≡ Some parts) }
+    ensures formed { IfOk result (λ parts. has_formed_parts parts.roles parts.environments parts.activities parts.structures ≡ true) }
+    ensures no_properties { IfOk result (λ parts. parts.properties ≡ []) }
     ensures faultless { OnOk result (parts_faults docs.now ≡ []) }
     ensures first { IfErr result (SaysFirst (parts_faults docs.now)) }
 {

@@ -1,3 +1,12 @@
 pub mod Adding
+pub mod Beyond
 pub mod CycleLaws
+pub mod Distinct
+pub mod ExtentFaults
+pub mod Indexed
+pub mod Noted
+pub mod RoleSpots
 pub mod Rounds
+pub mod SpotNames
+pub mod Stops
+pub mod Unrepeated

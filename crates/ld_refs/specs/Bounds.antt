@@ -9,6 +9,8 @@ use Rattle.ld_model.specs.declared.unit.Level.{Level}
 use Rattle.ld_model.specs.declared.unit.Level.TheVariants.{A, B, C}
 use Rattle.ld_model.specs.declared.unit.Unit.{Unit as Course}
 use Rattle.ld_model.specs.Rules.{rules_of}
+use Rattle.ld_refs.specs.declared.checks.limits.Counted.{Counted}
+use Rattle.ld_refs.specs.declared.checks.limits.Counted.TheVariants as counted
 use Rattle.ld_refs.specs.declared.kind.Kind.{Kind}
 use Rattle.ld_refs.specs.Kinds.{is_role, is_property, is_environment, is_object_or_service, is_item, is_activity, is_structure}
 use Rattle.ld_refs.specs.Listing.{method_at}
@@ -58,17 +60,23 @@ declares test Other = false
 abbrev pub beyond : ℕ → (Kind → Bool) → List Spot → List Told
 beyond limit test spots = map (λ spot. fault_at TooMany spot.at) (drop limit (filter (λ spot. declares test spot.element) spots))
 
-abbrev pub is_activity_or_structure : Kind → Bool
-is_activity_or_structure kind = is_activity kind || is_structure kind
+-- What is counted together.
+abbrev pub is_counted : Counted → Kind → Bool
+is_counted counted.Roles kind = is_role kind
+is_counted counted.Properties kind = is_property kind
+is_counted counted.Environments kind = is_environment kind
+is_counted counted.ObjectsAndServices kind = is_object_or_service kind
+is_counted counted.Items kind = is_item kind
+is_counted counted.ActivitiesAndStructures kind = is_activity kind || is_structure kind
 
 -- More than 600 rules.
 abbrev pub rule_faults : Course → List Told
 rule_faults unit = if nat_lt 600 (length (rules_of unit)) then fault_at TooMany method_at ∷ [] else []
 
 -- At most 60 roles, 300 properties, 400 environments, 1,000 learning objects and services together,
--- 4,000 items, 400 activities and structures together, and 600 rules.
-abbrev pub limit_faults : Course → List Spot → List Told
-limit_faults unit spots = beyond 60 is_role spots ++ (beyond 300 is_property spots ++ (beyond 400 is_environment spots ++ (beyond 1000 is_object_or_service spots ++ (beyond 4000 is_item spots ++ (beyond 400 is_activity_or_structure spots ++ rule_faults unit)))))
+-- 4,000 items, 400 activities and structures together.
+abbrev pub object_limit_faults : List Spot → List Told
+object_limit_faults spots = beyond 60 (is_counted counted.Roles) spots ++ (beyond 300 (is_counted counted.Properties) spots ++ (beyond 400 (is_counted counted.Environments) spots ++ (beyond 1000 (is_counted counted.ObjectsAndServices) spots ++ (beyond 4000 (is_counted counted.Items) spots ++ beyond 400 (is_counted counted.ActivitiesAndStructures) spots))))
 
 -- ---- what is built
 

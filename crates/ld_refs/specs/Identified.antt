@@ -1,8 +1,9 @@
 -- The first two checks: that identifiers differ, and that references name what they should.
 -- (docs/FORMATS.md, "Faults")
-use Rattle.std.specs.Prelude.{ℕ, List, [], ◌∷◌, ◌++◌, Option, Some, None, if◌then◌else◌, take, flat_map, map}
+use Rattle.std.specs.Prelude.{ℕ, List, [], ◌∷◌, Option, Some, None, if◌then◌else◌, take, flat_map, map}
 use Rattle.std.specs.List.{list_any}
 use Rattle.std.specs.Str.{bytes_eq}
+use Rattle.ld_json.specs.declared.code.Code.{Code}
 use Rattle.ld_json.specs.declared.code.Code.TheVariants.{RepeatedId, UnknownRef, WrongKindOfRef}
 use Rattle.ld_json.specs.Fault.{Told}
 use Rattle.ld_model.specs.Counting.{each_numbered}
@@ -60,10 +61,18 @@ abbrev pub kind_named : List Name → List ℕ → Option Kind
 kind_named [] id = None
 kind_named (name ∷ names) id = if bytes_eq id name.identifier then Some name.kind else kind_named names id
 
--- A reference names nothing, or something of another kind than it may.
+-- What is wrong with a reference that names this: it names nothing, or something of another kind than
+-- it may.
+abbrev pub target_code : Wanted → Option Kind → Option Code
+target_code wanted None = Some UnknownRef
+target_code wanted (Some kind) = if allows wanted kind then None else Some WrongKindOfRef
+
+abbrev pub code_fault : At → Option Code → List Told
+code_fault at None = []
+code_fault at (Some code) = fault_at code at ∷ []
+
 abbrev pub target_fault : Wanted → At → Option Kind → List Told
-target_fault wanted at None = fault_at UnknownRef at ∷ []
-target_fault wanted at (Some kind) = if allows wanted kind then [] else fault_at WrongKindOfRef at ∷ []
+target_fault wanted at found = code_fault at (target_code wanted found)
 
 abbrev pub nth_target_fault : List Name → Wanted → At → ℕ → List ℕ → List Told
 nth_target_fault names wanted at i id = target_fault wanted (item_at at i) (kind_named names id)

@@ -1,5 +1,6 @@
 pub mod Bounds
 pub mod Checks
+pub mod Directory
 pub mod Extents
 pub mod Graphs
 pub mod Identified

@@ -207,5 +207,13 @@ condition_spot i condition = other_spot (nth (root file.Conditions) (codes "cond
 
 -- ---- the whole
 
+-- The documents of roles, properties and environments.
+unfoldable pub first_spots : Course → List Spot
+first_spots unit = role_spots (root file.Roles) false [] (roles_of unit) ++ (each_numbered property_spot unit.properties ++ each_numbered environment_spots unit.environments)
+
+-- The documents of activities, of the unit itself and of conditions.
+unfoldable pub last_spots : Course → List Spot
+last_spots unit = each_numbered activity_spots unit.activities ++ (each_numbered structure_spots unit.structures ++ (unit_spots unit ++ each_numbered condition_spot unit.conditions))
+
 unfoldable pub spots_of : Course → List Spot
-spots_of unit = role_spots (root file.Roles) false [] (roles_of unit) ++ (each_numbered property_spot unit.properties ++ (each_numbered environment_spots unit.environments ++ (each_numbered activity_spots unit.activities ++ (each_numbered structure_spots unit.structures ++ (unit_spots unit ++ each_numbered condition_spot unit.conditions)))))
+spots_of unit = first_spots unit ++ last_spots unit

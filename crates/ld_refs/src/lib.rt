@@ -5,9 +5,13 @@
 #![tactic(auto)]
 
 pub mod check;
+pub mod checks;
 pub mod cycles;
+pub mod index;
 pub mod kind;
 pub mod position;
 pub mod sizes;
 pub mod spot;
 pub mod spots;
+#[cfg(test)]
+mod tests;

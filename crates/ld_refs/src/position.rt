@@ -1,7 +1,7 @@
 //! Places in the documents of a unit.
-ghost use Rattle.std.specs.Prelude.{◌≡◌, IfOk, string_bytes};
+ghost use Rattle.std.specs.Prelude.{◌≡◌, IfOk};
 ghost use Rattle.ld_json.specs.Fault.{Says};
-ghost use Rattle.ld_refs.specs.Spots.{At, root, member, nth, fault_at};
+ghost use Rattle.ld_refs.specs.Spots.{root, member, nth, item_at, fault_at};
 
 use ld_base::memory::NoMemory;
 use ld_base::text::Text;
@@ -51,12 +51,7 @@ impl Position {
     }
 
     /// The element of this number, counted from 0, in the member of this name.
-    pub(crate) fn nth(
-        &self,
-        alloc: Global,
-        name: &str,
-        index: usize,
-    ) -> Result<Position, NoMemory>
+    pub(crate) fn nth(&self, alloc: Global, name: &str, index: usize) -> Result<Position, NoMemory>
         ensures { IfOk result (λ at. at ≡ nth self.now name.now index) }
     {
         let parent = self.place.as_str();
@@ -78,6 +73,18 @@ impl Position {
     {
         let place = format!(in alloc; "/{name}/{index}")?;
         Ok(Position { file, place })
+    }
+
+    /// The element of this number, counted from 0, of the list at the place.
+    pub(crate) fn item(&self, alloc: Global, index: usize) -> Result<Position, NoMemory>
+        ensures { IfOk result (λ at. at ≡ item_at self.now index) }
+    {
+        let parent = self.place.as_str();
+        let place = format!(in alloc; "{parent}/{index}")?;
+        Ok(Position {
+            file: self.file,
+            place,
+        })
     }
 
     /// The same place.

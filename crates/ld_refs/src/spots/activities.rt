@@ -60,10 +60,23 @@ fn push_activity<'a>(
     ensures { OnOk result (AddsSpots spots.old.items spots.new.items (activity_spots_at at.now a activity.now)) }
 {
     let runs = activity_runs(activity);
-    push_whole(alloc, spots, at, Place::Activity(a), &activity.identifier, runs)?;
+    push_whole(
+        alloc,
+        spots,
+        at,
+        Place::Activity(a),
+        &activity.identifier,
+        runs,
+    )?;
     push_before_items(alloc, spots, at, activity)?;
     push_items(alloc, spots, at, "items", activity.items.as_slice())?;
-    push_follows(alloc, spots, at, activity.complete.is_some(), &activity.on_completion)?;
+    push_follows(
+        alloc,
+        spots,
+        at,
+        activity.complete.is_some(),
+        &activity.on_completion,
+    )?;
     Ok(())
 }
 
@@ -77,9 +90,28 @@ fn push_before_items<'a>(
 ) -> Result<(), NoMemory>
     ensures { OnOk result (AddsSpots spots.old.items spots.new.items (spots_before_items at.now activity.now)) }
 {
-    push_items(alloc, spots, at, "learning-objectives", activity.learning_objectives.as_slice())?;
-    push_items(alloc, spots, at, "prerequisites", activity.prerequisites.as_slice())?;
-    push_references(alloc, spots, at, "supports", Wanted::Role, activity.supports.as_slice())?;
+    push_items(
+        alloc,
+        spots,
+        at,
+        "learning-objectives",
+        activity.learning_objectives.as_slice(),
+    )?;
+    push_items(
+        alloc,
+        spots,
+        at,
+        "prerequisites",
+        activity.prerequisites.as_slice(),
+    )?;
+    push_references(
+        alloc,
+        spots,
+        at,
+        "supports",
+        Wanted::Role,
+        activity.supports.as_slice(),
+    )?;
     push_environments_of(alloc, spots, at, activity.environments.as_slice())?;
     Ok(())
 }
@@ -144,8 +176,22 @@ fn push_structure<'a>(
 ) -> Result<(), NoMemory>
     ensures { OnOk result (AddsSpots spots.old.items spots.new.items (structure_spots_at at.now s structure.now)) }
 {
-    push_whole(alloc, spots, at, Place::Structure(s), &structure.identifier, false)?;
+    push_whole(
+        alloc,
+        spots,
+        at,
+        Place::Structure(s),
+        &structure.identifier,
+        false,
+    )?;
     push_environments_of(alloc, spots, at, structure.environments.as_slice())?;
-    push_references(alloc, spots, at, "children", Wanted::Child, structure.children.as_slice())?;
+    push_references(
+        alloc,
+        spots,
+        at,
+        "children",
+        Wanted::Child,
+        structure.children.as_slice(),
+    )?;
     Ok(())
 }

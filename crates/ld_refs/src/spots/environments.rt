@@ -56,7 +56,14 @@ fn push_environment<'a>(
 ) -> Result<(), NoMemory>
     ensures { OnOk result (AddsSpots spots.old.items spots.new.items (environment_spots_at at.now e environment.now)) }
 {
-    push_whole(alloc, spots, at, Place::Environment(e), &environment.identifier, false)?;
+    push_whole(
+        alloc,
+        spots,
+        at,
+        Place::Environment(e),
+        &environment.identifier,
+        false,
+    )?;
     push_objects(alloc, spots, at, e, environment.learning_objects.as_slice())?;
     push_services(alloc, spots, at, e, environment.services.as_slice())?;
     push_environments_of(alloc, spots, at, environment.environments.as_slice())?;

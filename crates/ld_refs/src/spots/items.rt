@@ -131,7 +131,14 @@ pub(crate) fn push_environments_of<'a>(
 ) -> Result<(), NoMemory>
     ensures { OnOk result (AddsSpots spots.old.items spots.new.items (reference_spots at.now (codes "environments") Wanted.Environment targets.now)) }
 {
-    push_references(alloc, spots, at, "environments", Wanted::Environment, targets)?;
+    push_references(
+        alloc,
+        spots,
+        at,
+        "environments",
+        Wanted::Environment,
+        targets,
+    )?;
     Ok(())
 }
 

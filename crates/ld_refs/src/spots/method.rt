@@ -32,8 +32,20 @@ pub(crate) fn push_unit<'a>(
 {
     push_own(alloc, spots, &unit.identifier)?;
     let at = Position::root(alloc, FileNo::Unit);
-    push_items(alloc, spots, &at, "learning-objectives", unit.learning_objectives.as_slice())?;
-    push_items(alloc, spots, &at, "prerequisites", unit.prerequisites.as_slice())?;
+    push_items(
+        alloc,
+        spots,
+        &at,
+        "learning-objectives",
+        unit.learning_objectives.as_slice(),
+    )?;
+    push_items(
+        alloc,
+        spots,
+        &at,
+        "prerequisites",
+        unit.prerequisites.as_slice(),
+    )?;
     push_method(alloc, spots, &unit.method)?;
     Ok(())
 }
@@ -71,7 +83,13 @@ fn push_method<'a>(
     push_other(spots, own, Level::A, method.on_completion.is_none())?;
     push_plays(alloc, spots, &at, method.plays.as_slice())?;
     push_completion(alloc, spots, &at, Wanted::Play, &method.complete)?;
-    push_follows(alloc, spots, &at, method.complete.is_some(), &method.on_completion)?;
+    push_follows(
+        alloc,
+        spots,
+        &at,
+        method.complete.is_some(),
+        &method.on_completion,
+    )?;
     Ok(())
 }
 
@@ -121,7 +139,13 @@ fn push_play<'a>(
     push_whole(alloc, spots, at, Place::Play(p), &play.identifier, runs)?;
     push_acts(alloc, spots, at, p, play.acts.as_slice())?;
     push_completion(alloc, spots, at, Wanted::Play, &play.complete)?;
-    push_follows(alloc, spots, at, play.complete.is_some(), &play.on_completion)?;
+    push_follows(
+        alloc,
+        spots,
+        at,
+        play.complete.is_some(),
+        &play.on_completion,
+    )?;
     Ok(())
 }
 
@@ -226,7 +250,14 @@ fn push_part<'a>(
 ) -> Result<(), NoMemory>
     ensures { OnOk result (AddsSpots spots.old.items spots.new.items (part_spots_at at.now p a r part.now)) }
 {
-    push_whole(alloc, spots, at, Place::RolePart(p, a, r), &part.identifier, r == 0)?;
+    push_whole(
+        alloc,
+        spots,
+        at,
+        Place::RolePart(p, a, r),
+        &part.identifier,
+        r == 0,
+    )?;
     push_reference(alloc, spots, at, "role", Wanted::Role, &part.role)?;
     push_reference(alloc, spots, at, "ref", Wanted::Target, &part.target)?;
     Ok(())

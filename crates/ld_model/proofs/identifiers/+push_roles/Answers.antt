@@ -1,4 +1,4 @@
-use Rattle.std.proofs.Common.{rules, ◌≡◌, ◌++◌, List, [], ◌∷◌, ℕ, sym, ap, ◌∙◌, ◌+◌, drop, append_assoc}
+use Rattle.std.proofs.Common.{◌++◌, [], ◌∷◌, sym, ap, ◌∙◌, ◌+◌, drop, append_assoc}
 use Rattle.ld_model.specs.RoleRows.{joined}
 use Rattle.ld_model.proofs.RoleRows.{ids, ids_step}
 use Rattle.ld_model.proofs.identifiers.+push_roles.Goals as goal

@@ -1,4 +1,4 @@
-use Rattle.std.proofs.Common.{rules, ◌≡◌, ◌++◌, List, [], ◌∷◌, ℕ, sym, ap, ◌∙◌, append_assoc}
+use Rattle.std.proofs.Common.{◌++◌, [], ◌∷◌, sym, ap, ◌∙◌, append_assoc}
 use Rattle.ld_model.proofs.Differing.{differ_new}
 use Rattle.ld_model.proofs.identifiers.index_identifiers.Goals as goal
 

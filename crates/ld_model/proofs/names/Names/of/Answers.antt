@@ -1,8 +1,7 @@
-use Rattle.std.proofs.Common.{rules, ◌≡◌, ◌<◌, length, map, ◌+◌, ap, sym, ◌∙◌, refl, arith}
+use Rattle.std.proofs.Common.{sym, ◌∙◌, arith}
 use Rattle.std.proofs.lemmas.List.{length-map}
 use Rattle.ld_model.proofs.Counted.{count_identifiers}
 use Rattle.ld_model.specs.Names.{number_at}
-use Rattle.ld_model.specs.Rules.{rules_of}
 use Rattle.ld_model.specs.Things.{things_of}
 use Rattle.ld_model.proofs.names.Names.of.Goals as goal
 
