@@ -1,7 +1,5 @@
 pub mod Cells
 pub mod Replaying
-pub mod Flattened
-pub mod JsonTrees
 pub mod Ranges
 pub mod Copied
 pub mod Held
@@ -14,7 +12,9 @@ pub mod Unstarted
 pub mod Places
 pub mod Openings
 pub mod Told
-pub mod RoleRows
 pub mod Refused
 pub mod Refusals
 pub mod Fronts
+pub mod Trees
+pub mod FolderFiles
+pub mod Refusing

@@ -47,7 +47,7 @@ IsRefusalEnding ShelfFault = ⊥
 IsRefusalEnding UnitRefused = Unit {0}
 IsRefusalEnding ReadFault = ⊥
 IsRefusalEnding WriteFault = Unit {0}
-IsRefusalEnding NoMemory = ⊥
+IsRefusalEnding NoMemory = Unit {0}
 IsRefusalEnding InputTooLong = ⊥
 
 -- How a replay can end.

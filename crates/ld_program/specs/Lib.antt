@@ -1,10 +1,9 @@
 pub mod Answers
 pub mod Appending
 pub mod Firing
-pub mod FirstForm
+pub mod Folder
 pub mod InFolder
-pub mod Json
-pub mod Maybe
+pub mod Reading
 pub mod Reply
 pub mod Step
 pub mod Tests
@@ -16,7 +15,6 @@ pub mod Words
 pub mod WorldView
 pub mod Answering
 pub mod Replay
-pub mod References
 pub mod PlanView
 pub mod LookupView
 pub mod Stepping

@@ -6,7 +6,7 @@ use Rattle.ld_base.specs.declared.numbers.PersonNo.{PersonNo}
 use Rattle.ld_base.specs.declared.numbers.ThingNo.{ThingNo}
 use Rattle.ld_lines.specs.declared.command.RunCommand.{RunCommand}
 use Rattle.ld_lines.specs.declared.command.RunCommand.TheVariants.{Enrol, Assign, Start, Complete, Tree}
-use Rattle.ld_model.specs.Members.{activity_number, person_number, is_member_at, holds_role}
+use Rattle.ld_model.specs.Members.{activity_number, person_number, holds_role}
 use Rattle.ld_model.specs.Names.{role_number}
 use Rattle.ld_model.specs.State.{PersonState, RunState, with_cell, moment_in}
 use Rattle.ld_model.specs.Names.{thing_number}
@@ -53,9 +53,11 @@ is_back s moment = is_before moment (moment_in (s.cells Now))
 abbrev pub is_enrolled : RunState → List ℕ → Bool
 is_enrolled s person = is_some (person_number s person)
 
+-- The person of this number holds the role of this number.
 abbrev pub holds_at : RunState → Option ℕ → Option ℕ → Bool
 holds_at s None r = false
-holds_at s (Some p) r = is_member_at s r p
+holds_at s (Some p) None = false
+holds_at s (Some p) (Some r) = holds_role (slice_get s.persons p) r
 
 -- The person holds this very role.
 abbrev pub holds_already : Course → RunState → List ℕ → List ℕ → Bool

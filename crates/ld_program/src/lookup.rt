@@ -3,11 +3,12 @@
 //! This is the plain program with which faster ones are compared: it may be slow on a large unit.
 ghost use Rattle.std.specs.Prelude.{◌≡◌, Some, IfSome, ◌<◌, ◌^◌, length};
 ghost use Rattle.std.specs.List.{list_any, flat_map};
-ghost use Rattle.ld_model.specs.Members.{activity_number, person_number, holds_role, is_member, is_member_at, is_member_of, has_member, is_mine};
+ghost use Rattle.ld_model.specs.Members.{activity_number, person_number, holds_role, is_member, is_member_of, has_member, is_mine};
 ghost use Rattle.ld_model.specs.Names.{role_number};
 ghost use Rattle.ld_program.specs.LookupView.{HasFewPersons, makes_mine};
 ghost use Rattle.ld_program.specs.PlanView.{IsPlanOf};
 ghost use Rattle.ld_program.specs.StateView.{state_of, person_state};
+ghost use Rattle.ld_program.specs.Step.{holds_at};
 
 use crate::plan::Plan;
 use crate::state::{Person, State};
@@ -77,7 +78,7 @@ pub fn is_member_of(unit: &Unit, plan: &Plan, state: &State, role: &Id, person: 
 /// Whether the person of this number holds the role of this identifier.
 pub fn holds_by_name(unit: &Unit, plan: &Plan, state: &State, person: usize, role: &Id) -> bool
     requires { IsPlanOf unit.now plan.now }
-    ensures { result ≡ is_member_at (state_of state.now) (role_number unit.now role.now) person }
+    ensures { result ≡ holds_at (state_of state.now) (Some person) (role_number unit.now role.now) }
 {
     match (state.persons.get(person), plan.role_number(role)) {
         (Some(person), Some(role)) => holds_role(person, role as usize),

@@ -1,6 +1,6 @@
 //! The plan of a unit: its names and its rules, made once and used by all its runs.
 ghost use Rattle.std.specs.Prelude.{◌≡◌, ◌<◌, ◌^◌, length, IfOk};
-ghost use Rattle.ld_model.specs.Identifiers.{HasDistinctIdentifiers};
+ghost use Rattle.ld_model.specs.Names.{names_of};
 ghost use Rattle.ld_program.specs.PlanView.{IsPlanOf, role_in, thing_in, number_in};
 
 use ld_base::id::Id;
@@ -19,12 +19,11 @@ pub struct Plan {
 }
 
 impl Plan {
-    /// The plan of the unit, no two of whose parts have one identifier.
-    pub fn of(alloc: Global, unit: &Unit) -> Result<Plan, NoMemory>
-        requires { HasDistinctIdentifiers unit.now }
+    /// The plan of the unit, whose names these are.
+    pub fn of(alloc: Global, unit: &Unit, names: Names) -> Result<Plan, NoMemory>
+        requires { names ≡ names_of unit.now }
         ensures { IfOk result (IsPlanOf unit.now) }
     {
-        let names = Names::of(alloc, unit)?;
         let rules = list_rules(alloc, unit)?;
         number(rules.len())?;
         number(unit.activities.len())?;

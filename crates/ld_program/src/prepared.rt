@@ -1,11 +1,11 @@
 //! A unit with the plan of its things and rules.
 ghost use Rattle.std.specs.Prelude.{◌≡◌, IfOk};
-ghost use Rattle.ld_model.specs.Identifiers.{HasDistinctIdentifiers};
 ghost use Rattle.ld_program.specs.PlanView.{IsPlanOf};
 
 use crate::plan::Plan;
 use ld_base::memory::NoMemory;
 use ld_model::unit::Unit;
+use ld_refs::check::Checked;
 use std::alloc::Global;
 
 /// A unit, and the plan that was made of it.
@@ -17,12 +17,12 @@ pub struct PreparedUnit {
 }
 
 impl PreparedUnit {
-    /// The unit with its plan.
-    pub fn new(alloc: Global, unit: Unit) -> Result<PreparedUnit, NoMemory>
-        requires { HasDistinctIdentifiers unit }
-        ensures { IfOk result (λ prepared. prepared.unit ≡ unit) }
+    /// The checked unit with its plan.
+    pub fn new(alloc: Global, checked: Checked) -> Result<PreparedUnit, NoMemory>
+        ensures { IfOk result (λ prepared. prepared.unit ≡ checked.unit) }
     {
-        let plan = Plan::of(alloc, &unit)?;
+        let (unit, names) = checked.into_parts();
+        let plan = Plan::of(alloc, &unit, names)?;
         Ok(PreparedUnit { unit, plan })
     }
 }

@@ -1,6 +1,5 @@
 //! Answering the lines of a source, one after the other.
 ghost use Rattle.std.specs.Prelude.{◌≡◌, ◌≤◌, ◌<◌, ℕ, [], ◌∷◌, false, true, Err, Ok, Option, List, None, ◌^◌};
-ghost use Rattle.ld_model.specs.Identifiers.{HasDistinctIdentifiers};
 ghost use Rattle.ld_base.specs.Outside.{Rose, then_piece};
 ghost use Rattle.ld_base.specs.Roomy.{room_of};
 ghost use Rattle.ld_lines.specs.Answer.{Answer, HandsOut};
@@ -18,7 +17,7 @@ use ld_base::write::write_all;
 use ld_lines::lines::Lines;
 use ld_lines::next::Next;
 use ld_lines::stop::LineStop;
-use ld_model::unit::Unit;
+use ld_refs::check::Checked;
 use std::alloc::Global;
 
 /// Asks for the next line and answers it into `out`. True where there was one, false at the end.
@@ -83,13 +82,17 @@ fn answer_lines<S: Source, K: Sink>(
     }
 }
 
-/// Answers the lines of the source from the world of the unit on. Where memory is wanting nothing
+/// Answers the lines of the source from the world of the checked unit on. Where memory is wanting nothing
 /// was taken and nothing was written.
-pub fn replay<S: Source, K: Sink>(alloc: Global, unit: Unit, source: &mut S, sink: &mut K) -> Ending
-    requires { HasDistinctIdentifiers unit }
-    ensures done { result ≡ Ending.Done → AnsweredAll (first_world (unit ∷ [])) (S.left source.old) (S.left source.new) (K.written sink.old) (K.written sink.new) }
-    ensures read { result ≡ Ending.ReadFault → AnsweredTaken (λ n. n < 2 ^ 40) (first_world (unit ∷ [])) (S.left source.old) (S.left source.new) (K.written sink.old) (K.written sink.new) }
-    ensures long { result ≡ Ending.InputTooLong → AnsweredTaken (λ n. n ≡ 2 ^ 40) (first_world (unit ∷ [])) (S.left source.old) (S.left source.new) (K.written sink.old) (K.written sink.new) }
+pub fn replay<S: Source, K: Sink>(
+    alloc: Global,
+    checked: Checked,
+    source: &mut S,
+    sink: &mut K,
+) -> Ending
+    ensures done { result ≡ Ending.Done → AnsweredAll (first_world (checked.unit ∷ [])) (S.left source.old) (S.left source.new) (K.written sink.old) (K.written sink.new) }
+    ensures read { result ≡ Ending.ReadFault → AnsweredTaken (λ n. n < 2 ^ 40) (first_world (checked.unit ∷ [])) (S.left source.old) (S.left source.new) (K.written sink.old) (K.written sink.new) }
+    ensures long { result ≡ Ending.InputTooLong → AnsweredTaken (λ n. n ≡ 2 ^ 40) (first_world (checked.unit ∷ [])) (S.left source.old) (S.left source.new) (K.written sink.old) (K.written sink.new) }
     ensures no_memory { result ≡ Ending.NoMemory → (source.new ≡ source.old) × (sink.new ≡ sink.old) }
     ensures read_cause { result ≡ Ending.ReadFault → Rose (S.faults source.old) (S.faults source.new) }
     ensures write_cause { result ≡ Ending.WriteFault → Rose (K.faults sink.old) (K.faults sink.new) }
@@ -97,7 +100,7 @@ pub fn replay<S: Source, K: Sink>(alloc: Global, unit: Unit, source: &mut S, sin
     ensures sink_counts { K.faults sink.old ≤ K.faults sink.new }
     ensures endings { IsReplayEnding result }
 {
-    let Ok(mut world) = World::new(alloc, unit) else {
+    let Ok(mut world) = World::new(alloc, checked) else {
         return Ending::NoMemory;
     };
     let Ok(mut lines) = Lines::new(alloc) else {

@@ -17,15 +17,28 @@ use std::marker::Brand;
 use std::sync::ledger::{Blank, Ledger};
 use std::test::Fail;
 
+mod folders;
+pub mod plans;
 mod refusals;
 
-const ROLES: &str = r#"{"roles":[{"identifier":"learner","kind":"learner"}]}"#;
+/// A file: its name and its bytes.
+type Named<'a> = (&'a str, &'a [u8]);
 
-const ACTIVITIES: &str =
-    r#"{"activities":[{"identifier":"read","title":"Read","complete":{"user-choice":true},"items":[{"identifier":"i1","title":"Text","href":"text.html"}]}]}"#;
-
-const UNIT: &str =
-    r#"{"format":1,"identifier":"u1","level":"A","title":"First","method":{"plays":[{"identifier":"p","acts":[{"identifier":"a","role-parts":[{"identifier":"rp","role":"learner","ref":"read"}]}]}]}}"#;
+/// The documents of the first unit.
+const FIRST_FILES: [Named; 3] = [
+    (
+        "roles.json",
+        br#"{"roles":[{"identifier":"learner","kind":"learner"}]}"#,
+    ),
+    (
+        "activities.json",
+        br#"{"activities":[{"identifier":"read","title":"Read","complete":{"user-choice":true},"items":[{"identifier":"i1","title":"Text","href":"text.html"}]}]}"#,
+    ),
+    (
+        "unit.json",
+        br#"{"format":1,"identifier":"u1","level":"A","title":"First","method":{"plays":[{"identifier":"p","acts":[{"identifier":"a","role-parts":[{"identifier":"rp","role":"learner","ref":"read"}]}]}]}}"#,
+    ),
+];
 
 /// A run of one person from its making to the completion of its activity.
 const FIRST_RUN: &str = r#"["2024-01-01T08:00:00Z","create","r","u1"]
@@ -56,7 +69,7 @@ no 31 not-open
 #[derive(Drop)]
 struct Case<'a> {
     words: &'a [&'a str],
-    roles: &'a str,
+    files: &'a [Named<'a>],
     lines: &'a [u8],
     piece: usize,
     room: usize,
@@ -69,7 +82,7 @@ struct Case<'a> {
 fn first<'a>(lines: &'a [u8]) -> Case<'a> {
     Case {
         words: &["replay", "u1"],
-        roles: ROLES,
+        files: &FIRST_FILES,
         lines,
         piece: 4096,
         room: 100_000,
@@ -92,19 +105,19 @@ fn call(alloc: Global, number: u64) -> Result<CallList, NoMemory> {
     Ok(calls)
 }
 
-fn file(alloc: Global, name: &str, text: &str) -> Result<File, NoMemory> {
+fn file(alloc: Global, name: &str, content: &[u8]) -> Result<File, NoMemory> {
     Ok(File {
         folder: Text::of(alloc, "u1")?,
         file: Text::of(alloc, name)?,
-        bytes: bytes(alloc, text.as_bytes())?,
+        bytes: bytes(alloc, content)?,
     })
 }
 
-fn files(alloc: Global, roles: &str) -> Result<FileList, NoMemory> {
+fn files(alloc: Global, named: &[Named<'_>]) -> Result<FileList, NoMemory> {
     let mut files = Items::new(alloc);
-    files.push(file(alloc, "roles.json", roles)?)?;
-    files.push(file(alloc, "activities.json", ACTIVITIES)?)?;
-    files.push(file(alloc, "unit.json", UNIT)?)?;
+    for (name, content) in named {
+        files.push(file(alloc, *name, *content)?)?;
+    }
     Ok(files)
 }
 
@@ -123,7 +136,7 @@ fn run<L: Ledger>(alloc: Global, case: &Case<'_>, blank: Blank) -> Result<(u8, V
     requires some { 0 < L.parts }
 {
     let words = strings(alloc, case.words)?;
-    let mut shelf = MemoryShelf::new(files(alloc, case.roles)?, call(alloc, case.shelf_fails)?);
+    let mut shelf = MemoryShelf::new(files(alloc, case.files)?, call(alloc, case.shelf_fails)?);
     let mut source = MemorySource::new(
         bytes(alloc, case.lines)?,
         case.piece.max(1),
@@ -215,7 +228,7 @@ fn long_lines_are_no_commands(rt: HostRuntime) -> Result<(), Fail> {
 fn ended(alloc: Global, words: &[&str]) -> Result<(u8, usize), NoMemory> {
     let case = Case {
         words,
-        roles: ROLES,
+        files: &FIRST_FILES,
         lines: FIRST_RUN.as_bytes(),
         piece: 4096,
         room: 100_000,
@@ -235,37 +248,6 @@ fn words_of_no_form_end_at_once(rt: HostRuntime) -> Result<(), Fail> {
     assert_eq!(rt; ended(rt.alloc(), &["replay", "-u1"])?, (2, 0));
     assert_eq!(rt; ended(rt.alloc(), &["replay", "u1", "u1"])?, (2, 0));
     assert_eq!(rt; ended(rt.alloc(), &["check", "u1"])?, (2, 0));
-    Ok(())
-}
-
-/// The status of a call over these roles, and what it wrote.
-fn ended_with(alloc: Global, roles: &str) -> Result<(u8, Vec<u8>), NoMemory> {
-    let mut case = first(FIRST_RUN.as_bytes());
-    case.roles = roles;
-    ran(alloc, &case)
-}
-
-#[test]
-fn other_folders_are_refused(rt: HostRuntime) -> Result<(), Fail> {
-    for roles in ["{}", "[", "", "{\"roles\":[]}"] {
-        let (status, written) = ended_with(rt.alloc(), roles)?;
-        assert_eq!(rt; status, 4, "at {roles}");
-        assert_eq!(rt;
-            written.as_slice(),
-            b"refused 1 unit.json . not-in-profile\n".as_slice()
-        );
-    }
-    Ok(())
-}
-
-#[test]
-fn a_shelf_that_fails_ends_the_call(rt: HostRuntime) -> Result<(), Fail> {
-    for number in 1..7 {
-        let mut case = first(FIRST_RUN.as_bytes());
-        case.shelf_fails = number;
-        let (status, written) = ran(rt.alloc(), &case)?;
-        assert_eq!(rt; (status, written.len()), (3, 0), "at call {number}");
-    }
     Ok(())
 }
 

@@ -1,9 +1,10 @@
 //! The top call: all that the program does.
-ghost use Rattle.std.specs.Prelude.{◌≡◌, ◌≤◌, ◌<◌, ◌^◌, ◌↔◌, ◌∷◌, [], None, Some};
+ghost use Rattle.std.specs.Prelude.{◌≡◌, ◌≤◌, ◌<◌, ◌^◌, ◌↔◌, ◌∷◌, [], None, Some, IfOk};
 ghost use Rattle.ld_base.specs.Outside.{Rose, then_piece};
+ghost use Rattle.ld_json.specs.Fault.{told_by};
 ghost use Rattle.ld_program.specs.Answering.{AnsweredAll, AnsweredTaken, IsEndOfLines};
 ghost use Rattle.ld_program.specs.Endings.{IsStatus, IsRefusalEnding, IsReplayEnding, number_of, NothingWritten, NothingTaken};
-ghost use Rattle.ld_program.specs.InFolder.{HasUnit};
+ghost use Rattle.ld_program.specs.InFolder.{HasFirstFault, HasUnit};
 ghost use Rattle.ld_program.specs.Replay.{ReplayedAll, ReplayedTaken, Refused, refused_line};
 ghost use Rattle.ld_program.specs.Words.{words_of, folder_in};
 ghost use Rattle.ld_program.specs.World.{first_world};
@@ -13,11 +14,14 @@ use crate::reader::folder::read_folder;
 use crate::reader::stop::FolderStop;
 use crate::replay::replay;
 use crate::words::folder_of;
+use ld_base::memory::NoMemory;
 use ld_base::shelf::Shelf;
 use ld_base::sink::Sink;
 use ld_base::source::Source;
 use ld_base::steps::Steps;
+use ld_base::text::Text;
 use ld_base::write::write_all;
+use ld_json::fault::Fault;
 use std::alloc::Global;
 use std::sync::ledger::Ledger;
 
@@ -59,24 +63,42 @@ pub fn ld_main<H: Shelf, S: Source, K: Sink, L: Ledger>(
     let Some(folder) = folder_of(words) else {
         return Status(Ending::BadWords.number());
     };
-    let unit = match read_folder(alloc, shelf, folder) {
+    let checked = match read_folder(alloc, shelf, folder) {
         Err(FolderStop::ShelfFault) => return Status(Ending::ShelfFault.number()),
         Err(FolderStop::NoMemory) => return Status(Ending::NoMemory.number()),
-        Ok(None) => return Status(refuse(output).number()),
-        Ok(Some(unit)) => unit,
+        Err(FolderStop::Refused(fault)) => return Status(refuse(alloc, &fault, output).number()),
+        Ok(checked) => checked,
     };
-    Status(replay(alloc, unit, input, output).number())
+    Status(replay(alloc, checked, input, output).number())
 }
 
-/// Writes the line that says that the folder was refused.
-fn refuse<K: Sink>(output: &mut K) -> Ending
+/// Writes the line that tells the fault of a folder. Where memory is wanting for it nothing is written.
+fn refuse<K: Sink>(alloc: Global, fault: &Fault, output: &mut K) -> Ending
     ensures endings { IsRefusalEnding result }
-    ensures written { result ≡ Ending.UnitRefused → K.written output.new ≡ then_piece (K.written output.old) refused_line }
+    ensures written { result ≡ Ending.UnitRefused → K.written output.new ≡ then_piece (K.written output.old) (refused_line (told_by fault.now)) }
+    ensures no_memory { result ≡ Ending.NoMemory → output.new ≡ output.old }
     ensures cause { result ≡ Ending.WriteFault → Rose (K.faults output.old) (K.faults output.new) }
     ensures counts { K.faults output.old ≤ K.faults output.new }
 {
-    match write_all(output, b"refused 1 unit.json . not-in-profile\n") {
+    let Ok(line) = line_of_fault(alloc, fault) else {
+        return Ending::NoMemory;
+    };
+    match write_all(output, line.as_str().as_bytes()) {
         Ok(()) => Ending::UnitRefused,
         Err(_) => Ending::WriteFault,
     }
+}
+
+/// The line that tells the fault: its file, its place and its code.
+fn line_of_fault(alloc: Global, fault: &Fault) -> Result<Text, NoMemory>
+    ensures { IfOk result (λ line. line.bytes ≡ refused_line (told_by fault.now)) }
+{
+    let mut line = Text::of(alloc, "refused 1 ")?;
+    line.push(fault.file.name())?;
+    line.push(" ")?;
+    line.push(fault.place_text())?;
+    line.push(" ")?;
+    line.push(fault.code.word())?;
+    line.push("\n")?;
+    Ok(line)
 }

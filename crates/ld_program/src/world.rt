@@ -2,7 +2,6 @@
 ghost use Rattle.std.specs.Prelude.{◌≡◌, ◌≤◌, ◌++◌, [], ◌∷◌, None, Some, IfOk, OnOk, OnErr, length};
 ghost use Rattle.ld_base.specs.Roomy.{room_of, KeepsRoom};
 ghost use Rattle.ld_lines.specs.declared.command.Line.TheVariants as line;
-ghost use Rattle.ld_model.specs.Identifiers.{HasDistinctIdentifiers};
 ghost use Rattle.ld_program.specs.Answers.{AnswersLine, line_of, block_for, no_memory_block};
 ghost use Rattle.ld_program.specs.Reply.{refusal_text};
 ghost use Rattle.ld_program.specs.Turn.{IsAnswered, IsTold, IsToldOfRun, with_first_state};
@@ -21,7 +20,7 @@ use ld_base::text::Text;
 use ld_lines::command::{Line, LineFault, RunCommand};
 use ld_lines::read::read_command;
 use ld_lines::refusal::refusal_word;
-use ld_model::unit::Unit;
+use ld_refs::check::Checked;
 use ld_value::moment::Moment;
 use std::alloc::Global;
 
@@ -43,13 +42,12 @@ pub struct World {
 }
 
 impl World {
-    /// The world of the unit, no two of whose parts have one identifier, before the first line.
-    pub fn new(alloc: Global, unit: Unit) -> Result<World, NoMemory>
-        requires { HasDistinctIdentifiers unit }
-        ensures { IfOk result (λ world. world_of world ≡ first_world (unit ∷ [])) }
+    /// The world of the checked unit before the first line.
+    pub fn new(alloc: Global, checked: Checked) -> Result<World, NoMemory>
+        ensures { IfOk result (λ world. world_of world ≡ first_world (checked.unit ∷ [])) }
     {
         Ok(World {
-            prepared: PreparedUnit::new(alloc, unit)?,
+            prepared: PreparedUnit::new(alloc, checked)?,
             run: None,
         })
     }

@@ -1,10 +1,10 @@
 //! What no clause says: that a small unit settles as a person would expect, where there is memory.
-ghost use Rattle.std.specs.Prelude.{IfOk};
 ghost use Rattle.ld_program.specs.PlanView.{IsPlanOf};
 
 use crate::firing::settle;
 use crate::plan::Plan;
 use crate::state::State;
+use crate::tests::plans::plan_of;
 use ld_base::id::Id;
 use ld_base::items::Items;
 use ld_base::numbers::{PersonNo, PropNo, RoleNo, ThingNo};
@@ -12,7 +12,6 @@ use ld_base::text::Text;
 use ld_model::activity::{Activity, ActivityKind};
 use ld_model::cell::{CellName, Owner};
 use ld_model::completion::Completion;
-use ld_model::identifiers::has_distinct_identifiers;
 use ld_model::method::{Act, Method, Play, RolePart};
 use ld_model::role::{CreateNew, MatchPersons, Role, RoleKind};
 use ld_model::unit::{Level, Unit};
@@ -135,17 +134,6 @@ fn settled(
     }
     let sums = settle(unit, plan, state)?;
     Ok(sums.map(|sums| (sums.turns, sums.fired)))
-}
-
-/// The plan of the unit, whose identifiers have to differ.
-fn plan_of(alloc: Global, unit: &Unit) -> Result<Plan, Fail>
-    ensures { IfOk result (IsPlanOf unit.now) }
-{
-    if !has_distinct_identifiers(alloc, unit)? {
-        return Err("two parts have one identifier".into());
-    }
-    let plan = Plan::of(alloc, unit)?;
-    Ok(plan)
 }
 
 #[test]

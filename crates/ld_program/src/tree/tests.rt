@@ -1,9 +1,7 @@
 //! The lines of the trees of a small unit, and how they are printed.
-ghost use Rattle.std.specs.Prelude.{IfOk};
-ghost use Rattle.ld_program.specs.PlanView.{IsPlanOf};
 
-use crate::plan::Plan;
 use crate::state::State;
+use crate::tests::plans::plan_of;
 use crate::tree::{is_open, tree_lines};
 use crate::tree_text::push_lines;
 use ld_base::id::Id;
@@ -14,7 +12,6 @@ use ld_base::text::Text;
 use ld_model::activity::{Activity, ActivityKind, ActivityList};
 use ld_model::cell::{CellName, Owner};
 use ld_model::completion::Completion;
-use ld_model::identifiers::has_distinct_identifiers;
 use ld_model::item::Item;
 use ld_model::method::{Act, Method, Play, RolePart};
 use ld_model::role::{CreateNew, MatchPersons, Role, RoleKind, RoleList};
@@ -165,17 +162,6 @@ unit u1 open "First"
       part rp done
         activity read done "Read"
           item i1 text.html "Text""#;
-
-/// The plan of the unit, whose identifiers have to differ.
-fn plan_of(alloc: Global, unit: &Unit) -> Result<Plan, Fail>
-    ensures { IfOk result (IsPlanOf unit.now) }
-{
-    if !has_distinct_identifiers(alloc, unit)? {
-        return Err("two parts have one identifier".into());
-    }
-    let plan = Plan::of(alloc, unit)?;
-    Ok(plan)
-}
 
 #[test]
 fn trees_follow_the_state(rt: HostRuntime) -> Result<(), Fail> {

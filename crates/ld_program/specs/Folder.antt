@@ -1,0 +1,101 @@
+-- What a folder holds: the unit that its files stand for, and all its faults, step by step.
+-- (docs/FORMATS.md, "Faults")
+use Rattle.std.specs.Prelude.{ℕ, List, [], ◌∷◌, ◌++◌, Bool, true, false, Option, Some, None, nat_lt, length, map, if◌then◌else◌}
+use Rattle.std.specs.List.{flat_map}
+use Rattle.serde_json.specs.Data.{Data}
+use Rattle.ld_base.specs.Maybe.{◌>>=◌}
+use Rattle.ld_base.specs.Outside.{Files}
+use Rattle.ld_json.specs.declared.code.Code.{Code}
+use Rattle.ld_json.specs.declared.code.Code.TheVariants.{Absent, TooBig, NotJson}
+use Rattle.ld_json.specs.declared.docs.Docs.{Docs}
+use Rattle.ld_json.specs.declared.file.FileNo.{FileNo}
+use Rattle.ld_json.specs.declared.file.FileNo.TheVariants.{Roles, Properties, Environments, Activities, Unit, Conditions}
+use Rattle.ld_json.specs.Fault.{Told}
+use Rattle.ld_json.specs.Files.{file_name}
+use Rattle.ld_json.specs.Json.{json_of}
+use Rattle.ld_method.specs.Units.{unit_in, method_document_faults}
+use Rattle.ld_model.specs.declared.unit.Unit.{Unit as Course}
+use Rattle.ld_reader.specs.Documents.{parts_in, parts_faults}
+use Rattle.ld_refs.specs.Checks.{check_faults}
+
+-- ---- the files
+
+-- The six files in their order.
+abbrev pub all_files : List FileNo
+all_files = Roles ∷ Properties ∷ Environments ∷ Activities ∷ Unit ∷ Conditions ∷ []
+
+-- The bytes of each of the six files, if it is there.
+abbrev pub Held : Type 0
+Held = FileNo → Option (List ℕ)
+
+-- What the folder holds.
+abbrev pub held_in : Files → List ℕ → Held
+held_in files folder file = files folder (file_name file)
+
+-- Each unit has roles, activities and a document of its own.
+abbrev pub is_required : FileNo → Bool
+is_required Roles = true
+is_required Properties = false
+is_required Environments = false
+is_required Activities = true
+is_required Unit = true
+is_required Conditions = false
+
+-- A fault of a whole file.
+abbrev pub file_fault : Code → FileNo → Told
+file_fault code file = record { file = file; place = []; code = code }
+
+-- ---- they are there and not too big
+
+abbrev pub presence_fault : FileNo → Option (List ℕ) → List Told
+presence_fault file None = if is_required file then file_fault Absent file ∷ [] else []
+presence_fault file (Some bytes) = if nat_lt 4194304 (length bytes) then file_fault TooBig file ∷ [] else []
+
+unfoldable pub presence_faults : Held → List Told
+presence_faults held = flat_map (λ file. presence_fault file (held file)) all_files
+
+-- ---- they are JSON
+
+abbrev pub tree_fault : FileNo → Option Data → List Told
+tree_fault file None = file_fault NotJson file ∷ []
+tree_fault file (Some _) = []
+
+abbrev pub json_fault : FileNo → Option (List ℕ) → List Told
+json_fault file None = []
+json_fault file (Some bytes) = tree_fault file (json_of bytes)
+
+unfoldable pub json_faults : Held → List Told
+json_faults held = flat_map (λ file. json_fault file (held file)) all_files
+
+-- The documents in the files.
+unfoldable pub docs_in : Held → Docs
+docs_in held = record { of = map (λ file. held file >>= json_of) all_files }
+
+-- ---- their shapes, and what they say
+
+unfoldable pub shape_faults : Docs → List Told
+shape_faults docs = parts_faults docs ++ method_document_faults docs
+
+-- The unit for which the documents stand, whether or not a check finds a fault in it.
+unfoldable pub unit_of : Docs → Option Course
+unit_of docs = parts_in docs >>= unit_in docs
+
+abbrev pub faults_of_unit : Option Course → List Told
+faults_of_unit None = []
+faults_of_unit (Some unit) = check_faults unit
+
+unfoldable pub document_faults : Docs → List Told
+document_faults docs = shape_faults docs ++ faults_of_unit (unit_of docs)
+
+-- ---- the whole
+
+-- All faults of the folder; the first of them is told.
+unfoldable pub folder_faults : Files → List ℕ → List Told
+folder_faults files folder =
+    presence_faults (held_in files folder)
+    ++ (json_faults (held_in files folder)
+    ++ document_faults (docs_in (held_in files folder)))
+
+-- The unit of the folder, where it has no fault.
+unfoldable pub unit_of_folder : Files → List ℕ → Option Course
+unit_of_folder files folder = unit_of (docs_in (held_in files folder))

@@ -1,1 +1,0 @@
-pub use Rattle.ld_base.specs.Maybe.{◌>>=◌, provided}
