@@ -1,4 +1,4 @@
-use Rattle.std.proofs.Common.{List, ℕ, codes, map}
+use Rattle.std.proofs.Common.{List, codes, map}
 use Rattle.std.proofs.lemmas.Result.{err_from_is_err_and}
 use Rattle.ld_json.specs.declared.file.FileNo.TheVariants as file
 use Rattle.ld_json.specs.Fault.{Told}
