@@ -2,7 +2,6 @@
 from units import (act, activity, folder, follows, item, items, named, one_act, part, parts, play, role, service,
                    structure)
 
-CHOICE = {"user-choice": True}
 DONE = {"when-role-part-completed": ["rp"]}
 LAST = {"when-last-act-completed": True}
 PLAYED = {"when-play-completed": ["p"]}

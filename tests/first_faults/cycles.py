@@ -131,6 +131,17 @@ def dense():
         environments=few(forward[:-1] + [[379]], "e"))
 
 
+def long_lists():
+    """One list of hundreds of thousands of references."""
+    ids = [f"x{n}" for n in range(300_000)]
+    place = "activities.json /structures/0/children"
+    yield "many children to nothing", f"{place}/0 unknown-ref", folder(structures=[structure("s", *ids)])
+    yield "many children, the first once more", f"{place}/300000 repeated-id", folder(
+        structures=[structure("s", *ids, "x0")])
+    yield "many children, the last once more", f"{place}/300000 repeated-id", folder(
+        structures=[structure("s", *ids, "x299999")])
+
+
 def cases():
     for name, (ways, first) in GRAPHS.items():
         yield from both(name, ways, first)
@@ -138,3 +149,4 @@ def cases():
     yield from mixed()
     yield from many()
     yield from dense()
+    yield from long_lists()
