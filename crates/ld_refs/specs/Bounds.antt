@@ -1,5 +1,5 @@
 -- The checks that look at one spot after another: levels, what follows a completion that is not said,
--- limits, and what no run is built for yet. (docs/FORMATS.md, "Faults")
+-- limits, and what no run is built for yet. (docs/FORMATS.md, "Order of faults")
 use Rattle.std.specs.Prelude.{ℕ, List, [], ◌∷◌, ◌++◌, Bool, false, ◌||◌, not, nat_lt, length, drop, map, if◌then◌else◌}
 use Rattle.std.specs.List.{filter}
 use Rattle.ld_json.specs.declared.code.Code.{Code}

@@ -28,7 +28,8 @@ amount_faults unit = rule_faults unit ++ size_faults unit
 unfoldable pub check_faults : Course → List Told
 check_faults unit = name_faults (spots_of unit) ++ (cycle_faults unit ++ (bound_faults unit.level (spots_of unit) ++ (amount_faults unit ++ running_faults (spots_of unit))))
 
--- Each member of the unit has its form, and no check finds a fault in it.
+-- Each member of the unit has its form, and no check finds a fault in it. (Units of which no run is built
+-- yet are not valid so far, as long as that check stands.)
 pub record IsValid (unit : Course) : Type 0 where
   pub formed : is_well_formed unit ≡ true
   pub faultless : check_faults unit ≡ []

@@ -1,5 +1,5 @@
 -- The first two checks: that identifiers differ, and that references name what they should.
--- (docs/FORMATS.md, "Faults")
+-- (docs/FORMATS.md, "Order of faults")
 use Rattle.std.specs.Prelude.{ℕ, List, [], ◌∷◌, Option, Some, None, if◌then◌else◌, take, flat_map, map}
 use Rattle.std.specs.List.{list_any}
 use Rattle.std.specs.Str.{bytes_eq}

@@ -1,5 +1,5 @@
 -- The check for cycles: what environments and structures lead to by their references.
--- (docs/FORMATS.md, "Faults")
+-- (docs/FORMATS.md, "Order of faults")
 use Rattle.std.specs.Prelude.{ℕ, List, [], ◌∷◌, ◌++◌, Option, Some, None, codes, flat_map, map, position}
 use Rattle.std.specs.Str.{bytes_eq}
 use Rattle.ld_json.specs.declared.code.Code.TheVariants.{Cycle}
