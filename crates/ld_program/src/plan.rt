@@ -7,7 +7,7 @@ use ld_base::id::Id;
 use ld_base::memory::NoMemory;
 use ld_base::numbers::number;
 use ld_model::names::{Named, Names};
-use ld_model::rule::{Rule, list_rules};
+use ld_model::rule::{Rule, list_rules, number_of_rule};
 use ld_model::unit::Unit;
 use std::alloc::Global;
 
@@ -55,11 +55,6 @@ impl Plan {
         requires { length self.now.rules.items < 2 ^ 32 }
         ensures { result ≡ number_in self.now rule }
     {
-        for (number, known) in self.rules.iter().enumerate() {
-            if rule.is(*known) {
-                return Some(number as u32);
-            }
-        }
-        None
+        number_of_rule(&self.rules, rule)
     }
 }

@@ -68,21 +68,6 @@ impl Checked {
         &self.names
     }
 
-    /// The unit, in which no check finds a fault, and its names. It takes no memory.
-    pub fn into_parts(self) -> (Unit, Names)
-        ensures unit { result.0 ≡ self.unit }
-        ensures names { result.1 ≡ names_of self.unit }
-        ensures faultless { check_faults result.0 ≡ [] }
-        ensures distinct { HasDistinctIdentifiers result.0 }
-    {
-        let Checked {
-            unit,
-            names,
-            rules: _,
-        } = self;
-        (unit, names)
-    }
-
     /// The number of the unit's rules. It takes no memory.
     pub fn rules(&self) -> u32
         ensures { result ≡ length (rules_of self.now.unit) }

@@ -1,9 +1,10 @@
 //! The unit that the bytes of the six files stand for.
-ghost use Rattle.std.specs.Prelude.{◌≡◌, [], ◌∷◌, Some, IsSome, IfOk, OnOk, IfErr};
+ghost use Rattle.std.specs.Prelude.{◌≡◌, [], ◌∷◌, true, Some, IsSome, IfOk, OnOk, IfErr};
 ghost use Rattle.ld_base.specs.Maybe.{◌>>=◌ as ◌then◌};
 ghost use Rattle.ld_json.specs.Fault.{SaysFirst};
 ghost use Rattle.ld_json.specs.Json.{json_of};
 ghost use Rattle.ld_json.specs.declared.file.FileNo.TheVariants as file_no;
+ghost use Rattle.ld_model.specs.WellFormed.{is_well_formed};
 ghost use Rattle.ld_program.specs.Folder.{docs_in, document_faults, json_fault, json_faults, shape_faults, unit_of};
 ghost use Rattle.ld_program.specs.Reading.{HasRequiredFiles, content_faults, held_by, json_faults_of};
 ghost use Rattle.ld_reader.specs.Documents.{HasRequired};
@@ -121,6 +122,7 @@ fn checked_unit(alloc: Global, docs: &Docs) -> Result<Checked, ReadFault>
 fn unit_in(alloc: Global, docs: &Docs) -> Result<Unit, ReadFault>
     requires { HasRequired docs.now }
     ensures unit { IfOk result (λ unit. unit_of docs.now ≡ Some unit) }
+    ensures formed { IfOk result (λ unit. is_well_formed unit ≡ true) }
     ensures faultless { OnOk result (shape_faults docs.now ≡ []) }
     ensures first { IfErr result (SaysFirst (shape_faults docs.now)) }
 {
