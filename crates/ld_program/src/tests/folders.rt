@@ -97,16 +97,21 @@ const REFUSED: [(&[Change], &str); 11] = [
     ),
 ];
 
-/// The status of a call over the documents with these changes, and what it wrote. The call of this
-/// number to the shelf fails.
-fn read_with(
-    alloc: Global,
-    changes: &[Change<'_>],
-    failing: u64,
-) -> Result<(u8, Vec<u8>), NoMemory> {
+/// Whether one of the changes is of the file of this name.
+fn is_changed(changes: &[Change<'_>], name: &str) -> bool {
+    for (changed, _) in changes {
+        if *changed == name {
+            return true;
+        }
+    }
+    false
+}
+
+/// The files of the unit with these changes.
+fn changed_files<'a>(alloc: Global, changes: &[Change<'a>]) -> Result<Vec<Named<'a>>, NoMemory> {
     let mut files = Vec::new(alloc);
     for (name, content) in BASE {
-        if !changes.iter().any(|(changed, _)| *changed == name) {
+        if !is_changed(changes, name) {
             files.push((name, content))?;
         }
     }
@@ -115,6 +120,17 @@ fn read_with(
             files.push((*name, *content))?;
         }
     }
+    Ok(files)
+}
+
+/// The status of a call over the unit with these changes, and what it wrote. The call of this number
+/// to the shelf fails.
+fn read_with(
+    alloc: Global,
+    changes: &[Change<'_>],
+    failing: u64,
+) -> Result<(u8, Vec<u8>), NoMemory> {
+    let files = changed_files(alloc, changes)?;
     let mut case = first(b"");
     case.files = &files;
     case.shelf_fails = failing;
