@@ -1,7 +1,6 @@
 -- Counting down to a limit.
-use Rattle.std.proofs.Common.{◌≡◌, ◌≢◌, ℕ, zero, suc, ◌+◌, ◌-◌, ◌<◌, List, ◌∷◌, map, drop, length, get_or, Bool, true, refl, sym, ap, ◌∙◌, add-one, arith}
+use Rattle.std.proofs.Common.{◌≡◌, ◌≢◌, ℕ, zero, suc, ◌+◌, ◌-◌, ◌<◌, List, ◌∷◌, map, drop, length, get_or, Bool, true, refl, sym, ◌∙◌, add-one, arith}
 use Rattle.std.proofs.Math.Seq.{drop-cons}
-use Rattle.std.proofs.lemmas.Grind.{common_steps}
 use Rattle.ld_refs.specs.declared.kind.Kind.{Kind}
 use Rattle.ld_refs.specs.declared.spot.Spot.{Spot as CodeSpot}
 use Rattle.ld_refs.specs.Bounds.{beyond, declares}

@@ -3,6 +3,7 @@ pub mod Beyond
 pub mod CycleLaws
 pub mod Distinct
 pub mod ExtentFaults
+pub mod ExtentSums
 pub mod Indexed
 pub mod Noted
 pub mod RoleSpots

@@ -1,11 +1,11 @@
 -- The spots of roles: the places of those within a role go on from its place.
-use Rattle.std.proofs.Common.{◌≡◌, ℕ, zero, suc, ◌+◌, ◌<◌, List, [], ◌∷◌, ◌++◌, map, drop, length, get_or, take, slice_get, Bool, true, false, not, ◌&&◌, Option, Some, None, refl, sym, ap, ◌∙◌, add-one, codes, arith}
+use Rattle.std.proofs.Common.{◌≡◌, ℕ, ◌+◌, ◌<◌, List, [], ◌∷◌, ◌++◌, map, drop, length, get_or, slice_get, Bool, true, false, refl, sym, ap, ◌∙◌, add-one, codes, arith}
 use Rattle.std.proofs.Math.Seq.{drop-cons}
 use Rattle.std.proofs.lemmas.Grind.{common_steps}
 use Rattle.ld_model.specs.RoleRows.{RoleRow, deeper, joined, rows_within}
-use Rattle.ld_refs.specs.Listing.{next_number, next_path, role_at, role_entry, role_spot, role_spots}
+use Rattle.ld_refs.specs.Listing.{next_number, next_path, role_entry, role_spot, role_spots}
 use Rattle.ld_refs.specs.Running.{role_runs}
-use Rattle.ld_refs.specs.Spots.{At, nth, Spot}
+use Rattle.ld_refs.specs.Spots.{At, nth}
 
 -- The numbers of the last of the roles.
 abbrev pub path_after : List ℕ → List RoleRow → List ℕ

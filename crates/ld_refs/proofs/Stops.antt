@@ -1,5 +1,5 @@
 -- Loops that stop at the first fault of a list.
-use Rattle.std.proofs.Common.{◌≡◌, ℕ, suc, ◌+◌, ◌<◌, List, [], ◌∷◌, ◌++◌, map, drop, length, get_or, flat_map, Some, refl, sym, ap, ◌∙◌, add-one}
+use Rattle.std.proofs.Common.{◌≡◌, ℕ, ◌+◌, ◌<◌, List, [], ◌∷◌, ◌++◌, map, drop, length, get_or, flat_map, Some, refl, sym, ap, ◌∙◌, add-one}
 use Rattle.std.proofs.Math.Seq.{drop-cons}
 use Rattle.ld_json.specs.declared.fault.ReadFault.{ReadFault}
 use Rattle.ld_json.specs.declared.fault.ReadFault.TheVariants.{Refused, NoMemory}

@@ -1,6 +1,6 @@
 -- The checks that look at one spot after another: levels, what follows a completion that is not said,
 -- limits, and what no run is built for yet. (docs/FORMATS.md, "Faults")
-use Rattle.std.specs.Prelude.{ℕ, List, [], ◌∷◌, ◌++◌, Bool, true, false, ◌||◌, not, nat_lt, length, drop, map, if◌then◌else◌}
+use Rattle.std.specs.Prelude.{ℕ, List, [], ◌∷◌, ◌++◌, Bool, false, ◌||◌, not, nat_lt, length, drop, map, if◌then◌else◌}
 use Rattle.std.specs.List.{filter}
 use Rattle.ld_json.specs.declared.code.Code.{Code}
 use Rattle.ld_json.specs.declared.code.Code.TheVariants.{AboveLevel, NotInProfile, TooMany}
@@ -14,7 +14,7 @@ use Rattle.ld_refs.specs.declared.checks.limits.Counted.TheVariants as counted
 use Rattle.ld_refs.specs.declared.kind.Kind.{Kind}
 use Rattle.ld_refs.specs.Kinds.{is_role, is_property, is_environment, is_object_or_service, is_item, is_activity, is_structure}
 use Rattle.ld_refs.specs.Listing.{method_at}
-use Rattle.ld_refs.specs.Spots.{At, fault_at, Element, Declares, Refers, Lists, Follows, Other, Spot}
+use Rattle.ld_refs.specs.Spots.{fault_at, Element, Declares, Refers, Lists, Follows, Other, Spot}
 
 -- A fault of this code at each spot that passes the test.
 abbrev pub faults_where : (Spot → Bool) → Code → List Spot → List Told

@@ -1,5 +1,5 @@
 -- Graphs: for each node, counted from 0, the nodes to which it leads.
-use Rattle.std.specs.Prelude.{ℕ, zero, suc, ◌+◌, List, [], Option, Some, None, Bool, false, ◌||◌, nat_eq, min, map, length, position, slice_get}
+use Rattle.std.specs.Prelude.{ℕ, zero, suc, ◌+◌, List, [], Option, Some, None, Bool, false, ◌||◌, nat_eq, map, length, position, slice_get}
 use Rattle.std.specs.List.{list_any, sum_by}
 use Rattle.ld_model.specs.Counting.{numbers_below}
 

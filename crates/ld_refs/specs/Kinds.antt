@@ -1,6 +1,5 @@
 -- What a reference may name. (docs/FORMATS.md, "Documents")
 use Rattle.std.specs.Prelude.{ℕ, Bool, true, false, ◌&&◌, ◌||◌, nat_eq}
-use Rattle.ld_model.specs.declared.names.Place.{Place}
 use Rattle.ld_model.specs.declared.names.Place.TheVariants as place
 use Rattle.ld_refs.specs.declared.kind.Kind.{Kind}
 use Rattle.ld_refs.specs.declared.kind.Kind.TheVariants as kind

@@ -22,17 +22,16 @@ use Rattle.ld_model.specs.declared.names.Place.{Place}
 use Rattle.ld_model.specs.declared.names.Place.TheVariants.{Play, Act, RolePart, Activity, Structure, Environment, Object, Service, Item}
 use Rattle.ld_model.specs.declared.property.Property.{Property as PropertyOf}
 use Rattle.ld_model.specs.declared.unit.Level.{Level}
-use Rattle.ld_model.specs.declared.unit.Level.TheVariants.{A, B, C}
+use Rattle.ld_model.specs.declared.unit.Level.TheVariants.{A, B}
 use Rattle.ld_model.specs.declared.unit.Unit.{Unit as Course}
 use Rattle.ld_model.specs.Counting.{each_numbered}
 use Rattle.ld_model.specs.Roles.{roles_of}
 use Rattle.ld_model.specs.RoleRows.{RoleRow}
-use Rattle.ld_refs.specs.declared.kind.Kind.{Kind}
 use Rattle.ld_refs.specs.declared.kind.Kind.TheVariants as kind
 use Rattle.ld_refs.specs.declared.kind.Wanted.{Wanted}
 use Rattle.ld_refs.specs.declared.kind.Wanted.TheVariants as wanted
 use Rattle.ld_refs.specs.Running.{role_runs, activity_runs, play_runs, act_runs}
-use Rattle.ld_refs.specs.Spots.{At, root, member, nth, Element, Declares, Refers, Lists, Follows, Other, Spot}
+use Rattle.ld_refs.specs.Spots.{At, root, member, nth, Declares, Refers, Lists, Follows, Other, Spot}
 
 -- A thing, by its place in the unit.
 unfoldable pub thing_spot : At → Place → List ℕ → Bool → Spot

@@ -4,7 +4,7 @@ use Rattle.ld_model.specs.declared.activity.Activity.{Activity}
 use Rattle.ld_model.specs.declared.activity.ActivityKind.{ActivityKind}
 use Rattle.ld_model.specs.declared.activity.ActivityKind.TheVariants.{Learning, Support}
 use Rattle.ld_model.specs.declared.completion.Completion.{Completion}
-use Rattle.ld_model.specs.declared.completion.Completion.TheVariants.{UserChoice, TimeLimit, WhenPropertyValueIsSet, WhenRolePartCompleted, WhenConditionTrue, WhenLastActCompleted, WhenPlayCompleted}
+use Rattle.ld_model.specs.declared.completion.Completion.TheVariants.{UserChoice}
 use Rattle.ld_model.specs.declared.method.Act.{Act}
 use Rattle.ld_model.specs.declared.method.Play.{Play}
 use Rattle.ld_model.specs.declared.role.MatchPersons.{MatchPersons}

@@ -1,6 +1,6 @@
 -- What contracts see of a spot: what stands at one place of the documents, as far as the checks look
 -- at it.
-use Rattle.std.specs.Prelude.{ℕ, List, [], ◌∷◌, ◌++◌, Bool, decimal, codes}
+use Rattle.std.specs.Prelude.{ℕ, List, [], ◌∷◌, ◌++◌, Bool, decimal}
 use Rattle.ld_json.specs.declared.code.Code.{Code}
 use Rattle.ld_json.specs.declared.file.FileNo.{FileNo}
 use Rattle.ld_json.specs.Fault.{Told}

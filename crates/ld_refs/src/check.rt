@@ -87,8 +87,8 @@ impl Checked {
     pub fn into_parts(self) -> (Unit, Names)
         ensures unit { result.0 ≡ self.unit }
         ensures names { result.1 ≡ names_of self.unit }
-        ensures valid { IsValid self.unit }
-        ensures distinct { HasDistinctIdentifiers self.unit }
+        ensures valid { IsValid result.0 }
+        ensures distinct { HasDistinctIdentifiers result.0 }
     {
         let Checked { unit, names, .. } = self;
         (unit, names)

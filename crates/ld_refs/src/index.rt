@@ -108,3 +108,6 @@ pub(crate) fn index_structures<'a>(
     }
     Index::of(alloc, texts)
 }
+
+#[cfg(test)]
+mod tests;

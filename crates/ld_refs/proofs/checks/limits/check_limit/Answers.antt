@@ -1,4 +1,4 @@
-use Rattle.std.proofs.Common.{◌≡◌, ◌∙◌, true, get_or, arith}
+use Rattle.std.proofs.Common.{◌≡◌, ◌∙◌, true, arith}
 use Rattle.std.proofs.lemmas.Grind.{common_steps}
 use Rattle.ld_refs.specs.Bounds.{declares, is_counted}
 use Rattle.ld_refs.specs.SpotView.{element_of}

@@ -1,4 +1,4 @@
-use Rattle.std.proofs.Common.{◌≡◌, map, get_or}
+use Rattle.std.proofs.Common.{map}
 use Rattle.std.proofs.lemmas.Result.{err_from_is_err_and}
 use Rattle.ld_refs.specs.Identified.{names_in, targets_in, target_faults}
 use Rattle.ld_refs.specs.SpotView.{spot_of}

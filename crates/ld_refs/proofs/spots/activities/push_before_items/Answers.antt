@@ -1,4 +1,4 @@
-use Rattle.std.proofs.Common.{◌≡◌, ◌∷◌, [], map}
+use Rattle.std.proofs.Common.{map}
 use Rattle.ld_refs.specs.Listing.{spots_before_items}
 use Rattle.ld_refs.specs.SpotView.{spot_of}
 use Rattle.ld_refs.proofs.Adding.{appended_in_four}

@@ -1,6 +1,4 @@
-use Rattle.std.proofs.Common.{◌≡◌, ◌∷◌, ◌++◌, [], map, append_assoc}
 use Rattle.ld_refs.specs.Listing.{structure_spots}
-use Rattle.ld_refs.specs.SpotView.{spot_of}
 use Rattle.ld_refs.proofs.spots.activities.push_nth_structure.Goals as goal
 
 pub returns : goal.returns

@@ -1,4 +1,4 @@
-use Rattle.std.proofs.Common.{◌≡◌, ◌∷◌, ◌++◌, [], map, append_assoc}
+use Rattle.std.proofs.Common.{◌∷◌, [], map, append_assoc}
 use Rattle.ld_refs.specs.Listing.{follow_spots}
 use Rattle.ld_refs.specs.SpotView.{spot_of}
 use Rattle.ld_refs.proofs.spots.items.push_follows.Goals as goal

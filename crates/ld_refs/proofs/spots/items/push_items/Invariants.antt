@@ -1,5 +1,5 @@
 use Rattle.std.proofs.Common.{◌≡◌, ◌++◌, map, drop}
-use Rattle.ld_model.specs.Counting.{each_numbered, each_numbered_from}
+use Rattle.ld_model.specs.Counting.{each_numbered_from}
 use Rattle.ld_refs.specs.Listing.{nth_item_spot, item_spots}
 use Rattle.ld_refs.specs.SpotView.{spot_of}
 use Rattle.ld_refs.proofs.spots.items.push_items.Given as goal

@@ -1,4 +1,4 @@
-use Rattle.std.proofs.Common.{◌≡◌, ◌∷◌, ◌++◌, [], map, drop, ◌+◌, append_assoc, refl, sym, ap, ◌∙◌}
+use Rattle.std.proofs.Common.{◌∷◌, ◌++◌, [], map, drop, ◌+◌, append_assoc, refl, sym, ap, ◌∙◌}
 use Rattle.ld_model.specs.RoleRows.{joined}
 use Rattle.ld_refs.specs.Listing.{role_spots}
 use Rattle.ld_refs.specs.SpotView.{spot_of}

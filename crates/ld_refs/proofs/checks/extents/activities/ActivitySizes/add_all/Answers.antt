@@ -1,0 +1,10 @@
+use Rattle.std.proofs.Common.{◌∙◌}
+use Rattle.ld_refs.specs.Extents.{activity_ids, activity_sizes}
+use Rattle.ld_refs.proofs.ExtentSums.{sum_capped}
+use Rattle.ld_refs.proofs.checks.extents.activities.ActivitySizes.add_all.Goals as goal
+
+pub returns : goal.returns
+returns c =
+    let unit = c.args.self.now.environments.unit.now in
+    rw (c.args.self.now.ids, c.args.self.now.sizes) at c.add_all.ensures
+    ∙ sum_capped (activity_ids unit) (activity_sizes unit) c.args.size c.args.references.now

@@ -1,0 +1,11 @@
+use Rattle.std.proofs.Common.{◌∙◌}
+use Rattle.ld_refs.specs.Extents.{environment_sizes}
+use Rattle.ld_refs.specs.Reaching.{environment_ids}
+use Rattle.ld_refs.proofs.ExtentSums.{sum_capped}
+use Rattle.ld_refs.proofs.checks.extents.environments.EnvironmentSizes.add_all.Goals as goal
+
+pub returns : goal.returns
+returns c =
+    let unit = c.args.self.now.unit.now in
+    rw (c.args.self.now.ids, c.args.self.now.sizes) at c.add_all.ensures
+    ∙ sum_capped (environment_ids unit) (environment_sizes unit) c.args.size c.args.references.now

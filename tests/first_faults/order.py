@@ -1,0 +1,144 @@
+"""The order of the steps and of the checks: an earlier one is told though it stands later."""
+from units import (activities, activity, environments_of, folder, follows, item, items, named, one_act, part, parts,
+                   play, role, service, sized, structure, structures_of)
+
+BIG = b" " * 4_194_305
+NOT_JSON = b"{"
+LIST = []
+ROOM = {"services": [service("v", "monitor")]}
+REPEATED = [role("learner"), role("learner")]
+AFTER = {"on_completion": follows(item("f"))}
+METHOD = "unit.json /method"
+ACT = "/plays/0/acts/0"
+
+
+def files():
+    """Files that are not there or too big, before those that cannot be read."""
+    required = ["roles.json", "activities.json", "unit.json"]
+    for name in required:
+        yield f"no {name}", f"{name} . absent", folder(files={name: None})
+        yield f"no {name}, nor what follows", f"{name} . absent", folder(
+            files={each: None for each in required[required.index(name):]})
+    yield "an empty folder", "roles.json . absent", {}
+    names = ["roles.json", "properties.json", "environments.json", "activities.json", "unit.json", "conditions.json"]
+    for name in names:
+        yield f"{name} is too big", f"{name} . too-big", folder(files={name: BIG})
+        yield f"{name} is too big, others cannot be read", f"{name} . too-big", folder(
+            files={**{each: NOT_JSON for each in names}, name: BIG})
+        yield f"{name} cannot be read", f"{name} . not-json", folder(files={name: NOT_JSON})
+        yield f"{name} is empty", f"{name} . not-json", folder(files={name: b""})
+        yield f"{name} is no object", f"{name} . wrong-shape", folder(files={name: LIST})
+        yield f"{name} cannot be read, others are no objects", f"{name} . not-json", folder(
+            files={**{each: LIST for each in names}, name: NOT_JSON})
+        later = {each: NOT_JSON for each in names[names.index(name):]}
+        yield f"{name} and what follows cannot be read", f"{name} . not-json", folder(files=later)
+        later = {each: LIST for each in names[names.index(name):]}
+        yield f"{name} and what follows are no objects", f"{name} . wrong-shape", folder(files=later)
+    yield "the last is not there, the first cannot be read", "unit.json . absent", folder(
+        files={"roles.json": NOT_JSON, "unit.json": None})
+    yield "too big before one that is not there", "environments.json . too-big", folder(
+        files={"environments.json": BIG, "activities.json": None})
+    yield "one that is not there before too big", "activities.json . absent", folder(
+        files={"conditions.json": BIG, "activities.json": None})
+    yield "cut after its first byte", "activities.json . not-json", folder(files={"activities.json": b"{"})
+    yield "two documents in one", "unit.json . not-json", folder(files={"unit.json": b"{}{}"})
+    yield "not UTF-8", "unit.json . not-json", folder(files={"unit.json": b'{"title":"\xff"}'})
+
+
+def shapes():
+    """Shapes before checks, whatever the file."""
+    condition = {"conditions.json": {"conditions": [0]}}
+    yield "conditions before roles", "conditions.json . wrong-shape", folder(
+        roles=REPEATED, files={"conditions.json": LIST})
+    yield "a condition before roles", "conditions.json /conditions/0 not-in-profile", folder(
+        roles=REPEATED, files=condition)
+    yield "a property before roles", "properties.json /properties/0 not-in-profile", folder(
+        roles=REPEATED, files={"properties.json": {"properties": [{}]}})
+    yield "a property before a condition", "properties.json /properties/0 not-in-profile", folder(
+        files={"properties.json": {"properties": [{}]}, **condition})
+    yield "a member before roles", "unit.json . unknown-member", folder(roles=REPEATED, tittle="x")
+    yield "an inner member before roles", f"{METHOD}/complete unknown-member", folder(
+        roles=REPEATED, method={"complete": {"when-over": True}})
+    yield "a member that is missing before roles", f"{METHOD}{ACT}/role-parts/0/ref missing", folder(
+        roles=REPEATED, plays=one_act([part(ref=None)]))
+    yield "a shape before a later one", "activities.json /activities/0/visible wrong-shape", folder(
+        activities=[activity(visible=0)], tittle="x")
+    yield "a number of the format", "unit.json /format not-in-profile", folder(roles=REPEATED, format=2)
+
+
+def checks():
+    """Each check and the next one, whose place is earlier, and then one that comes much later."""
+    unknown = [part(role="none")]
+    ring = environments_of([[0]])
+    sixty_one = [role("learner")] + [role(f"r{n}") for n in range(60)]
+    yield "identifiers before references", f"{METHOD}/plays/0 repeated-id", folder(
+        environments=[named("e", environments=["none"])], plays=[play("u")])
+    yield "lists before references", f"{METHOD}/complete/when-play-completed/1 repeated-id", folder(
+        environments=[named("e", environments=["none"])], method={"complete": {"when-play-completed": ["p", "p"]}})
+    yield "identifiers before what is not built", f"{METHOD}/plays/0 repeated-id", folder(
+        roles=[role("learner", max_persons=1)], plays=[play("u")])
+    yield "references before cycles", f"{METHOD}{ACT}/role-parts/0/role unknown-ref", folder(
+        environments=ring, plays=one_act(unknown))
+    yield "kinds before cycles", f"{METHOD}/complete/when-play-completed/0 wrong-kind-of-ref", folder(
+        environments=ring, structures=structures_of([[0]]), method={"complete": {"when-play-completed": ["a"]}})
+    yield "references before levels", f"{METHOD}{ACT}/role-parts/0/role unknown-ref", folder(
+        environments=[named("e", **ROOM)], plays=one_act(unknown))
+    yield "references before limits", f"{METHOD}{ACT}/role-parts/0/role unknown-ref", folder(
+        roles=sixty_one, plays=one_act(unknown))
+    yield "cycles before levels", "activities.json /structures/0 cycle", folder(
+        environments=[named("e", **ROOM)], structures=structures_of([[1], [0]]))
+    yield "cycles before limits", "activities.json /structures/0 cycle", folder(
+        roles=sixty_one, structures=structures_of([[0]]))
+    # What is above level A stands before all that completes, so this place is the earlier one.
+    yield "levels before completions", "environments.json /environments/1/services/0 above-level", folder(
+        environments=[named("x"), named("e", **ROOM)], activities=[activity(complete=None, **AFTER)])
+    yield "levels before limits", "environments.json /environments/1/services/0 above-level", folder(
+        roles=sixty_one, environments=[named("x"), named("e", **ROOM)])
+    yield "completions before limits", f"{METHOD}/on-completion not-in-profile", folder(roles=sixty_one, method=AFTER)
+    yield "completions before sizes", f"{METHOD}/on-completion not-in-profile", folder(
+        environments=sized("big", 30_000), plays=one_act([part(ref="big")]), method=AFTER)
+    yield "completions before what is not built", f"{METHOD}/on-completion not-in-profile", folder(
+        roles=[role("learner", max_persons=1)], method=AFTER)
+
+
+def later_checks():
+    huge = {"environments": sized("big", 30_000)}
+    yield "limits before sizes", f"{METHOD}/on-completion/feedback/0 too-many", folder(
+        activities=[activity(items=items("i", 4000))], plays=one_act([part(ref="big")]),
+        method={"complete": {"when-play-completed": ["p"]}, **AFTER}, **huge)
+    yield "rules before sizes", f"{METHOD} too-many", folder(plays=one_act(parts("rp", 599, ref="big")), **huge)
+    yield "limits before what is not built", "activities.json /activities/400 too-many", folder(
+        roles=[role("learner", max_persons=1)], activities=[activity(), *activities("x", 400)])
+    yield "sizes before what is not built", f"{METHOD}{ACT}/role-parts/0 too-big", folder(
+        structures=[structure("s", "read")], plays=one_act([part(ref="big")]), **huge)
+    yield "the unit's size before what is not built", f"{METHOD} too-big", folder(
+        roles=[role("learner", max_persons=1)], environments=sized("big", 19_999),
+        plays=one_act(parts("rp", 11, ref="big")))
+
+
+def limits():
+    """Each limit before the next one, whose place is earlier where it can be."""
+    sixty_one = [role("learner", roles=[named(f"r{n}") for n in range(60)])]
+    rooms = environments_of([[]] * 401)
+    objects = named("o", learning_objects=[named(f"o{n}") for n in range(1001)])
+    more = items("i", 4001)
+    crowd = [activity(), *activities("x", 400)]
+    yield "roles before environments", "roles.json /roles/0/roles/59 too-many", folder(
+        roles=sixty_one, environments=rooms)
+    yield "environments before objects", "environments.json /environments/400 too-many", folder(
+        environments=[objects, *rooms[:400]])
+    yield "objects before items", "environments.json /environments/1/learning-objects/998 too-many", folder(
+        environments=[named("e", learning_objects=[named("first", items=more), named("second")]), named(
+            "o", learning_objects=objects["learning-objects"][:1000])])
+    yield "items before activities", "unit.json /learning-objectives/4000 too-many", folder(
+        activities=crowd, learning_objectives=more)
+    yield "activities before rules", "activities.json /activities/400 too-many", folder(
+        activities=crowd, plays=one_act(parts("rp", 300)))
+
+
+def cases():
+    yield from files()
+    yield from shapes()
+    yield from checks()
+    yield from later_checks()
+    yield from limits()
