@@ -1,6 +1,8 @@
 //! Which fault is told of a folder that is refused, and that a folder is refused before any line is
 //! answered.
-use super::{Named, first, ran};
+use super::{Named, file, first, ran_over};
+use ld_base::file::FileList;
+use ld_base::items::Items;
 use ld_base::memory::NoMemory;
 use ld_base::shelf::FILE_LIMIT;
 use std::alloc::Global;
@@ -108,16 +110,16 @@ fn is_changed(changes: &[Change<'_>], name: &str) -> bool {
 }
 
 /// The files of the unit with these changes.
-fn changed_files<'a>(alloc: Global, changes: &[Change<'a>]) -> Result<Vec<Named<'a>>, NoMemory> {
-    let mut files = Vec::new(alloc);
+fn changed_files(alloc: Global, changes: &[Change<'_>]) -> Result<FileList, NoMemory> {
+    let mut files = Items::new(alloc);
     for (name, content) in BASE {
         if !is_changed(changes, name) {
-            files.push((name, content))?;
+            files.push(file(alloc, name, content)?)?;
         }
     }
     for (name, content) in changes {
         if let Some(content) = content {
-            files.push((*name, *content))?;
+            files.push(file(alloc, *name, *content)?)?;
         }
     }
     Ok(files)
@@ -132,9 +134,8 @@ fn read_with(
 ) -> Result<(u8, Vec<u8>), NoMemory> {
     let files = changed_files(alloc, changes)?;
     let mut case = first(b"");
-    case.files = &files;
     case.shelf_fails = failing;
-    ran(alloc, &case)
+    ran_over(alloc, files, &case)
 }
 
 #[test]
