@@ -69,7 +69,6 @@ no 31 not-open
 #[derive(Drop)]
 struct Case<'a> {
     words: &'a [&'a str],
-    files: &'a [Named<'a>],
     lines: &'a [u8],
     piece: usize,
     room: usize,
@@ -78,11 +77,10 @@ struct Case<'a> {
     sink_fails: u64,
 }
 
-/// The words and documents of the first unit, with these lines and nothing that fails.
+/// The words for the first unit, with these lines and nothing that fails.
 fn first<'a>(lines: &'a [u8]) -> Case<'a> {
     Case {
         words: &["replay", "u1"],
-        files: &FIRST_FILES,
         lines,
         piece: 4096,
         room: 100_000,
@@ -113,10 +111,10 @@ fn file(alloc: Global, name: &str, content: &[u8]) -> Result<File, NoMemory> {
     })
 }
 
-fn files(alloc: Global, named: &[Named<'_>]) -> Result<FileList, NoMemory> {
+fn first_files(alloc: Global) -> Result<FileList, NoMemory> {
     let mut files = Items::new(alloc);
-    for (name, content) in named {
-        files.push(file(alloc, *name, *content)?)?;
+    for (name, content) in FIRST_FILES {
+        files.push(file(alloc, name, content)?)?;
     }
     Ok(files)
 }
@@ -129,14 +127,19 @@ fn strings(alloc: Global, words: &[&str]) -> Result<Vec<String>, NoMemory> {
     Ok(all)
 }
 
-/// The status of the call, and what it wrote.
-fn run<L: Ledger>(alloc: Global, case: &Case<'_>, blank: Blank) -> Result<(u8, Vec<u8>), NoMemory>
+/// The status of the call over these files, and what it wrote.
+fn run<L: Ledger>(
+    alloc: Global,
+    files: FileList,
+    case: &Case<'_>,
+    blank: Blank,
+) -> Result<(u8, Vec<u8>), NoMemory>
     requires name { blank.name ≡ L.name }
     requires parts { blank.parts ≡ L.parts }
     requires some { 0 < L.parts }
 {
     let words = strings(alloc, case.words)?;
-    let mut shelf = MemoryShelf::new(files(alloc, case.files)?, call(alloc, case.shelf_fails)?);
+    let mut shelf = MemoryShelf::new(files, call(alloc, case.shelf_fails)?);
     let mut source = MemorySource::new(
         bytes(alloc, case.lines)?,
         case.piece.max(1),
@@ -155,8 +158,13 @@ fn run<L: Ledger>(alloc: Global, case: &Case<'_>, blank: Blank) -> Result<(u8, V
     Ok((status, Vec::from_slice(alloc, sink.bytes())?))
 }
 
+fn ran_over(alloc: Global, files: FileList, case: &Case<'_>) -> Result<(u8, Vec<u8>), NoMemory> {
+    run::<Brand>(alloc, files, case, Blank::new(1))
+}
+
+/// The same over the documents of the first unit.
 fn ran(alloc: Global, case: &Case<'_>) -> Result<(u8, Vec<u8>), NoMemory> {
-    run::<Brand>(alloc, case, Blank::new(1))
+    ran_over(alloc, first_files(alloc)?, case)
 }
 
 #[test]
@@ -228,7 +236,6 @@ fn long_lines_are_no_commands(rt: HostRuntime) -> Result<(), Fail> {
 fn ended(alloc: Global, words: &[&str]) -> Result<(u8, usize), NoMemory> {
     let case = Case {
         words,
-        files: &FIRST_FILES,
         lines: FIRST_RUN.as_bytes(),
         piece: 4096,
         room: 100_000,

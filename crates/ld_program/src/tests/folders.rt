@@ -1,6 +1,8 @@
 //! Which fault is told of a folder that is refused, and that a folder is refused before any line is
 //! answered.
-use super::{Named, first, ran};
+use super::{Named, file, first, ran_over};
+use ld_base::file::FileList;
+use ld_base::items::Items;
 use ld_base::memory::NoMemory;
 use ld_base::shelf::FILE_LIMIT;
 use std::alloc::Global;
@@ -97,28 +99,43 @@ const REFUSED: [(&[Change], &str); 11] = [
     ),
 ];
 
-/// The status of a call over the documents with these changes, and what it wrote. The call of this
-/// number to the shelf fails.
+/// Whether one of the changes is of the file of this name.
+fn is_changed(changes: &[Change<'_>], name: &str) -> bool {
+    for (changed, _) in changes {
+        if *changed == name {
+            return true;
+        }
+    }
+    false
+}
+
+/// The files of the unit with these changes.
+fn changed_files(alloc: Global, changes: &[Change<'_>]) -> Result<FileList, NoMemory> {
+    let mut files = Items::new(alloc);
+    for (name, content) in BASE {
+        if !is_changed(changes, name) {
+            files.push(file(alloc, name, content)?)?;
+        }
+    }
+    for (name, content) in changes {
+        if let Some(content) = content {
+            files.push(file(alloc, *name, *content)?)?;
+        }
+    }
+    Ok(files)
+}
+
+/// The status of a call over the unit with these changes, and what it wrote. The call of this number
+/// to the shelf fails.
 fn read_with(
     alloc: Global,
     changes: &[Change<'_>],
     failing: u64,
 ) -> Result<(u8, Vec<u8>), NoMemory> {
-    let mut files = Vec::new(alloc);
-    for (name, content) in BASE {
-        if !changes.iter().any(|(changed, _)| *changed == name) {
-            files.push((name, content))?;
-        }
-    }
-    for (name, content) in changes {
-        if let Some(content) = content {
-            files.push((*name, *content))?;
-        }
-    }
+    let files = changed_files(alloc, changes)?;
     let mut case = first(b"");
-    case.files = &files;
     case.shelf_fails = failing;
-    ran(alloc, &case)
+    ran_over(alloc, files, &case)
 }
 
 #[test]
