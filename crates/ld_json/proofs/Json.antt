@@ -1,5 +1,5 @@
 -- What bytes are as JSON, by whether they are UTF-8.
-use Rattle.std.proofs.Common.{ℕ, List, ◌≡◌, if◌then◌else◌, Option, Some, None, Bool, true, false, refl}
+use Rattle.std.proofs.Common.{ℕ, List, ◌≡◌, if◌then◌else◌, Some, None, true, false, refl}
 use Rattle.std.specs.Str.{IsUtf8, is_utf8}
 use Rattle.std.proofs.lemmas.Str.{IsUtf8-from_is_utf8, is_utf8-from_IsUtf8}
 use Rattle.serde_json.specs.Data.{Data}

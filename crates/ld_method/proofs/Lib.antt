@@ -1,4 +1,3 @@
-pub mod Later
 pub mod Making
 pub mod FormedMethods
 pub mod FormedUnits

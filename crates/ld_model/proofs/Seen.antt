@@ -21,7 +21,7 @@ abbrev pub no_text : Bor (List ℕ)
 no_text = record { ref_ptr = (0, 0); now = [] }
 
 -- A further text that is none of those that differ.
-differ_further : (xs : List (List ℕ)) (x : List ℕ) → all_differ xs ≡ true → list_any (bytes_eq x) xs ≡ false → all_differ (xs ++ x ∷ []) ≡ true
+pub differ_further : (xs : List (List ℕ)) (x : List ℕ) → all_differ xs ≡ true → list_any (bytes_eq x) xs ≡ false → all_differ (xs ++ x ∷ []) ≡ true
 differ_further [] x differ new = refl
 differ_further (y ∷ ys) x differ new =
     let turned = bytes_eq-turned x y in
@@ -53,9 +53,11 @@ added_last true false = refl
 added_last false true = refl
 added_last false false = refl
 
-pub seen_more : (old new : BTreeSet (Bor (List ℕ))) (xs : List (Bor (List ℕ))) (i : ℕ) (d : Bor (List ℕ)) → i < length xs → HasSeen old (texts_of (take i xs)) → Updates (λ x y. slice_cmp nat_cmp x.now y.now) old new (get_or xs i d) true → HasSeen new (texts_of (take (i + 1) xs))
-seen_more old new xs i d within seen updates q =
-    let x = (get_or xs i d).now in
-    let front = texts_of (take i xs) in
+-- The set after one more text.
+pub seen_added : (old new : BTreeSet (Bor (List ℕ))) (text : Bor (List ℕ)) (texts : List (List ℕ)) → HasSeen old texts → Updates (λ x y. slice_cmp nat_cmp x.now y.now) old new text true → HasSeen new (texts ++ text.now ∷ [])
+seen_added old new text texts seen updates q =
     updates.0 (record { ref_ptr = (0, 0); now = q })
-    ∙ rw (is_eq-slice_cmp x q, bytes_eq-turned x q, seen q, texts_more xs i d within, list_any-append (bytes_eq q) front (x ∷ [])) (added_last (bytes_eq q x) (list_any (bytes_eq q) front))
+    ∙ rw (is_eq-slice_cmp text.now q, bytes_eq-turned text.now q, seen q, list_any-append (bytes_eq q) texts (text.now ∷ [])) (added_last (bytes_eq q text.now) (list_any (bytes_eq q) texts))
+
+pub seen_more : (old new : BTreeSet (Bor (List ℕ))) (xs : List (Bor (List ℕ))) (i : ℕ) (d : Bor (List ℕ)) → i < length xs → HasSeen old (texts_of (take i xs)) → Updates (λ x y. slice_cmp nat_cmp x.now y.now) old new (get_or xs i d) true → HasSeen new (texts_of (take (i + 1) xs))
+seen_more old new xs i d within seen updates = rw (texts_more xs i d within) (seen_added old new (get_or xs i d) (texts_of (take i xs)) seen updates)

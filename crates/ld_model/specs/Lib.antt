@@ -9,5 +9,4 @@ pub mod Rules
 pub mod State
 pub mod ThingView
 pub mod Things
-pub mod Validity
 pub mod WellFormed

@@ -26,8 +26,8 @@ pub record RunState : Type 0 where
   pub outbox : List NoticeState
   pub cells : CellMap
 
--- How the cells begin in a run of a unit of the first form that is made at this moment: no thing is
--- hidden at first, and there are no properties and no conditions yet. A person's cells begin so too: nothing
+-- How the cells begin in a run that is made at this moment, of a unit of which runs are built: no thing is
+-- hidden at first, and there are no properties and no conditions. A person's cells begin so too: nothing
 -- writes a cell of a person who is not enrolled.
 abbrev pub cells_at_first : ℤ → CellMap
 cells_at_first moment (Prop _ _) = None

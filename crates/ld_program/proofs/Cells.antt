@@ -1,24 +1,23 @@
 -- Writing a cell of the code's map is writing it in the model.
-use Rattle.std.proofs.Common.{ℕ, ◌≡◌, Option, Some, None, Bool, true, false, cond, refl, arith, ap, ◌∙◌, sym, nat_eq, ◌&&◌, List, [], map}
+use Rattle.std.proofs.Common.{ℕ, ◌≡◌, Option, Some, Bool, true, false, cond, refl, arith, ap, ◌∙◌, nat_eq, ◌&&◌, [], map}
 use Rattle.std.specs.Option.{option_map}
 use Rattle.std.specs.declared.cmp.Ordering.{Ordering}
 use Rattle.std.specs.declared.cmp.Ordering.TheVariants.{Less, Equal, Greater}
-use Rattle.std.specs.BTreeMap.{get, Updates}
+use Rattle.std.specs.BTreeMap.{get}
 use Rattle.std.specs.BTreeMap.{BTreeMap}
 use Rattle.std.specs.Ordering.{is_eq, nat_cmp, ordering_then}
 use Rattle.std.specs.Cmp.{unsigned_tied}
 use Rattle.std.proofs.lemmas.Grind.{common_steps}
-use Rattle.ld_model.specs.Cells.{CellMap, put_cell, same_cell, same_owner}
+use Rattle.ld_model.specs.Cells.{CellMap, put_cell, same_cell}
 use Rattle.ld_model.specs.declared.cell.CellName.{CellName}
 use Rattle.ld_model.specs.declared.cell.CellName.TheVariants.{Prop, Vis, Member, Chosen, Opened, ActOpened, Started, Mark, Now, Roster}
-use Rattle.ld_model.specs.declared.cell.Owner.{Owner}
 use Rattle.ld_model.specs.declared.cell.Owner.TheVariants.{Run, Person}
 use Rattle.ld_model.specs.contracts.cell.CellNameOrd.TheImpl as order
 use Rattle.ld_value.specs.Datum.{Datum, datum_of}
 use Rattle.ld_value.specs.declared.value.Value.{Value}
-use Rattle.ld_program.specs.StateView.{written_or, person_state, cell_in, state_of}
+use Rattle.ld_program.specs.StateView.{written_or, person_state, state_of}
 use Rattle.ld_program.specs.declared.state.State.{State}
-use Rattle.ld_model.specs.State.{RunState, cells_at_first, with_cell}
+use Rattle.ld_model.specs.State.{cells_at_first, with_cell}
 
 eq_swapped : (x y : ℕ) → nat_eq x y ≡ nat_eq y x
 eq_swapped x y = grind (arith, common_steps)

@@ -1,10 +1,9 @@
 -- The start opens the first act of each play.
 use Rattle.std.proofs.Common.{◌≡◌, ◌⊎◌, inl, inr, ◌+◌, ◌==◌, ℕ, suc, zero, ℤ, List, ◌++◌, [], ◌∷◌, Bool, true, false, ◌||◌, Option, Some, None, length, nat_eq, refl, sym, ap, subst, ◌∙◌, if◌then◌else◌, slice_get}
 use Rattle.std.specs.List.{fold}
-use Rattle.std.specs.Str.{bytes_eq}
 use Rattle.std.proofs.lemmas.Bool.{eqb-true}
 use Rattle.std.proofs.Math.Bool.{or-true}
-use Rattle.std.proofs.lemmas.Cmp.{nat_list_eq_equiv, nat_eq_equiv}
+use Rattle.std.proofs.lemmas.Cmp.{nat_eq_equiv}
 use Rattle.ld_lines.specs.declared.command.RunCommand.TheVariants.{Start}
 use Rattle.ld_model.specs.Cells.{same_cell}
 use Rattle.ld_model.specs.Counting.{each_numbered}

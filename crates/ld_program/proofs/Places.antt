@@ -1,6 +1,5 @@
 -- What is where in lists whose elements are counted.
-use Rattle.std.proofs.Common.{◌≡◌, ◌⊎◌, inl, inr, ℕ, suc, zero, ◌+◌, List, [], ◌∷◌, ◌++◌, Bool, true, false, cond, Option, Some, slice_get, refl, sym, ap, subst, ◌∙◌, arith}
-use Rattle.std.specs.List.{position_from}
+use Rattle.std.proofs.Common.{◌≡◌, ◌⊎◌, inl, inr, ℕ, suc, zero, ◌+◌, List, [], ◌∷◌, ◌++◌, Some, slice_get, sym, ap, subst, arith}
 use Rattle.ld_model.specs.Counting.{each_numbered, each_numbered_from}
 
 -- The element is in the list.

@@ -1,16 +1,15 @@
 -- A replay under way: what was taken, which lines were handed out, and what was written for them.
-use Rattle.std.proofs.Common.{ℕ, List, [], ◌∷◌, ◌++◌, ◌≡◌, ◌<◌, ◌≤◌, ◌^◌, length, Option, Some, None, Bool, true, false, refl, sym, ◌∙◌, ap, append_assoc, append-nil, ◌⊎◌, ◌+◌, arith, inl, inr, Result, Ok, Err, subst}
+use Rattle.std.proofs.Common.{ℕ, List, [], ◌∷◌, ◌++◌, ◌≡◌, ◌<◌, ◌^◌, length, Option, Some, None, true, false, refl, sym, ◌∙◌, ap, append_assoc, append-nil, ◌⊎◌, ◌+◌, arith, inl, inr, Ok, Err, subst}
 use Rattle.std.proofs.lemmas.Grind.{common_steps}
 use Rattle.ld_base.specs.Outside.{piece_then, then_piece}
 use Rattle.ld_lines.specs.Answer.{Answer, WholeLine, OverLine, NoLine, Fault, TooLong, HandsOut}
-use Rattle.ld_lines.specs.Handed.{Handed, Stopped, HandedOn}
-use Rattle.ld_lines.specs.Lines.{lines_of, ended_lines_of}
+use Rattle.ld_lines.specs.Handed.{Handed}
+use Rattle.ld_lines.specs.Lines.{lines_of}
 use Rattle.ld_lines.specs.Reading.{Reading, IsEnd}
 use Rattle.ld_lines.proofs.Handed.{Handed-first, Handed-next}
-use Rattle.ld_lines.specs.declared.stop.LineStop.{LineStop}
 use Rattle.ld_lines.specs.declared.stop.LineStop.TheVariants.{ReadFault, InputTooLong}
 use Rattle.ld_program.specs.Answering.{AnswersWhat, Answered, AnsweredAll, AnsweredTaken}
-use Rattle.ld_program.specs.Answers.{AnswersLine, Leads, Answers, line_of}
+use Rattle.ld_program.specs.Answers.{AnswersLine, Leads, line_of}
 use Rattle.ld_program.specs.World.{WorldState}
 
 pub record IsUnderWay (at_first : WorldState) (first : Option (List ℕ)) (before : Option (List ℕ)) (r : Reading) (left : Option (List ℕ)) (world : WorldState) (written : Option (List ℕ)) : Type 0 where

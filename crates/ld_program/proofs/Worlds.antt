@@ -1,18 +1,16 @@
 -- What a line does to a world of one unit.
-use Rattle.std.proofs.Common.{ℕ, ℤ, List, [], ◌∷◌, ◌++◌, ◌≡◌, Option, Some, None, Bool, true, false, refl, sym, ◌∙◌, ap, append_assoc, arith, cond, Result, Ok, Err, OnOk, IfOk, codes}
+use Rattle.std.proofs.Common.{ℕ, List, [], ◌∷◌, ◌++◌, ◌≡◌, Option, Some, None, true, false, refl, sym, ◌∙◌, ap, append_assoc, Result, Ok, Err, OnOk, IfOk, codes}
 use Rattle.std.specs.Str.{bytes_eq}
-use Rattle.std.proofs.lemmas.Grind.{common_steps}
 use Rattle.ld_lines.specs.declared.command.Line.{Line}
 use Rattle.ld_lines.specs.declared.command.Line.TheVariants.{Create, OfRun}
 use Rattle.ld_lines.specs.declared.command.RunCommand.{RunCommand}
 use Rattle.ld_model.specs.State.{RunState, state_at_first}
 use Rattle.ld_model.specs.declared.unit.Unit.{Unit as Course}
 use Rattle.ld_value.specs.declared.moment.Moment.{Moment}
-use Rattle.ld_program.specs.Answers.{block_for}
-use Rattle.ld_program.specs.Reply.{reply_block, refusal_text, done_text}
-use Rattle.ld_program.specs.Step.{Work, Reply, done, refused, refusal, step}
-use Rattle.ld_program.specs.Turn.{IsAnswered, IsTold, IsToldOfRun, at_state, first_at_state, with_first_state, left_by}
-use Rattle.ld_program.specs.World.{RunOf, WorldState, WorldOutcome, line_outcome, world_step, world_refusal, no_work, run_named, with_state, step_run, with_outcome, has_run}
+use Rattle.ld_program.specs.Reply.{reply_block, refusal_text}
+use Rattle.ld_program.specs.Step.{done, refused, step}
+use Rattle.ld_program.specs.Turn.{IsAnswered, IsTold, IsToldOfRun, at_state}
+use Rattle.ld_program.specs.World.{RunOf, WorldState, WorldOutcome, line_outcome, world_step, world_refusal, no_work, has_run}
 
 pub on_ok : {T E : Type 0} {P Q : Type 0} (r : Result T E) → OnOk r P → (P → Q) → OnOk r Q
 on_ok (Ok x) p f = f p

@@ -1,5 +1,5 @@
 -- What one turn of a replay does: a line is asked for, and is answered where there is one.
-use Rattle.std.specs.Prelude.{ℕ, List, [], ◌++◌, ◌≡◌, ◌<◌, ◌^◌, length, Bool, true, false, Option, Some, None, Result, Ok, Err}
+use Rattle.std.specs.Prelude.{ℕ, List, [], ◌≡◌, ◌<◌, ◌^◌, length, Bool, true, false, Option, Some, None, Result, Ok, Err}
 use Rattle.ld_base.specs.Outside.{piece_then, then_piece}
 use Rattle.ld_lines.specs.Lines.{lines_of, ended_lines_of}
 use Rattle.ld_lines.specs.Answer.{Answer, WholeLine, OverLine, NoLine, Fault, TooLong}

@@ -1,11 +1,9 @@
 -- Which texts answer the lines of a history.
-use Rattle.std.specs.Prelude.{ℕ, List, [], ◌∷◌, ◌++◌, ◌≡◌, ◌⊎◌, Option, Some, None, Bool, length, nat_lt, codes, if◌then◌else◌}
-use Rattle.ld_base.specs.Outside.{Files, then_piece}
+use Rattle.std.specs.Prelude.{ℕ, List, [], ◌∷◌, ◌++◌, ◌≡◌, ◌⊎◌, Option, None, length, nat_lt, if◌then◌else◌}
 use Rattle.ld_lines.specs.Commands.{command_of}
 use Rattle.ld_lines.specs.declared.command.Line.{Line}
-use Rattle.ld_model.specs.declared.unit.Unit.{Unit as Course}
 use Rattle.ld_program.specs.Reply.{reply_block, refusal_line}
-use Rattle.ld_program.specs.World.{WorldState, WorldOutcome, first_world, world_step}
+use Rattle.ld_program.specs.World.{WorldState, world_step}
 
 -- The command that a line is. A line of more than 65,536 bytes is none, whatever it holds.
 abbrev pub line_of : List ℕ → Option Line

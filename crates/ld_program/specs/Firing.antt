@@ -1,9 +1,7 @@
 -- The firing of a site, a sweep over all sites, and the settling of a run.
-use Rattle.std.specs.Prelude.{ℕ, suc, zero, ◌+◌, ◌==◌, List, Option, Some, None, Bool, true, false, slice_get, length, if◌then◌else◌}
+use Rattle.std.specs.Prelude.{ℕ, suc, zero, ◌+◌, ◌==◌, Option, Some, None, Bool, false, slice_get, length, if◌then◌else◌}
 use Rattle.std.specs.List.{fold}
 use Rattle.ld_value.specs.Datum.{Datum, truth_datum, same_truth}
-use Rattle.ld_base.specs.declared.numbers.RuleNo.{RuleNo}
-use Rattle.ld_base.specs.declared.numbers.ThingNo.{ThingNo}
 use Rattle.ld_model.specs.Rules.{rules_of, Site, sites_of}
 use Rattle.ld_model.specs.declared.rule.Rule.{Rule}
 use Rattle.ld_model.specs.declared.rule.Rule.TheVariants.{CompletesActivity, CompletesStructure, OpensAct, CompletesPart, CompletesAct, CompletesPlay, CompletesUnit, JudgesCondition}

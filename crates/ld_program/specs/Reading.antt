@@ -2,7 +2,6 @@
 use Rattle.std.specs.Prelude.{◌≡◌, ℕ, List, ◌++◌, Option, Some, IsSome, slice_get}
 use Rattle.std.specs.List.{flat_map}
 use Rattle.ld_base.specs.Maybe.{◌>>=◌}
-use Rattle.ld_json.specs.declared.fault.Fault.{Fault}
 use Rattle.ld_json.specs.declared.file.FileNo.{FileNo}
 use Rattle.ld_json.specs.declared.file.FileNo.TheVariants as file_no
 use Rattle.ld_json.specs.Fault.{Told, told_by, first_of}

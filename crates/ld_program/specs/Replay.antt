@@ -1,5 +1,5 @@
 -- What a call of the program is to have done when it ends.
-use Rattle.std.specs.Prelude.{ℕ, List, [], ◌∷◌, ◌++◌, ◌≡◌, ◌⊎◌, ◌<◌, ◌^◌, length, Option, Some, None, codes}
+use Rattle.std.specs.Prelude.{ℕ, List, [], ◌∷◌, ◌++◌, ◌≡◌, Option, Some, None, codes}
 use Rattle.ld_base.specs.Outside.{Files, then_piece}
 use Rattle.ld_json.specs.Codes.{word_of}
 use Rattle.ld_json.specs.Fault.{Told}

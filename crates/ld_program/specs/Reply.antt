@@ -1,13 +1,11 @@
 -- The text of a reply.
-use Rattle.std.specs.Prelude.{ℕ, List, [], ◌∷◌, ◌++◌, Option, Some, None, Bool, true, false, length, codes, decimal, ◌==◌, ◌&&◌, nat_le, if◌then◌else◌, unwrap_or}
+use Rattle.std.specs.Prelude.{ℕ, List, [], ◌∷◌, ◌++◌, Option, Some, None, length, codes, decimal, ◌==◌, if◌then◌else◌, unwrap_or}
 use Rattle.ld_lines.specs.Refusals.{word_of_refusal}
 use Rattle.ld_lines.specs.declared.command.Line.{Line}
 use Rattle.ld_lines.specs.declared.command.Line.TheVariants.{Create, OfRun}
 use Rattle.ld_lines.specs.declared.command.RunCommand.{RunCommand}
 use Rattle.ld_lines.specs.declared.command.RunCommand.TheVariants.{Enrol, Assign, Start, Complete, Tree}
 use Rattle.ld_model.specs.Members.{person_number}
-use Rattle.ld_model.specs.State.{RunState}
-use Rattle.ld_model.specs.declared.unit.Unit.{Unit as Course}
 use Rattle.ld_program.specs.Step.{Work, Reply, done, refused}
 use Rattle.ld_program.specs.Tree.{TreeLine, tree_lines, lines_text}
 use Rattle.ld_program.specs.World.{RunOf, WorldState, run_named}

@@ -1,9 +1,5 @@
 -- What a command does to its run, in stages.
-use Rattle.std.specs.Prelude.{ℕ, zero, suc, ◌+◌, ℤ, List, [], ◌∷◌, ◌++◌, Option, Some, None, Bool, true, false, ◌&&◌, ◌||◌, not, length, is_some, is_none, nat_le, int_lt, if◌then◌else◌, pos, slice_get}
-use Rattle.std.specs.List.{list_any}
-use Rattle.std.specs.Str.{bytes_eq}
-use Rattle.ld_base.specs.declared.numbers.PersonNo.{PersonNo}
-use Rattle.ld_base.specs.declared.numbers.ThingNo.{ThingNo}
+use Rattle.std.specs.Prelude.{ℕ, zero, suc, ◌+◌, ℤ, List, [], ◌∷◌, ◌++◌, Option, Some, None, Bool, true, false, ◌&&◌, not, length, is_some, is_none, nat_le, int_lt, if◌then◌else◌, slice_get}
 use Rattle.ld_lines.specs.declared.command.RunCommand.{RunCommand}
 use Rattle.ld_lines.specs.declared.command.RunCommand.TheVariants.{Enrol, Assign, Start, Complete, Tree}
 use Rattle.ld_model.specs.Members.{activity_number, person_number, holds_role}
@@ -18,7 +14,7 @@ use Rattle.ld_model.specs.declared.unit.Unit.{Unit as Course}
 use Rattle.ld_program.specs.Firing.{Settling, quiet_at, settling}
 use Rattle.ld_program.specs.Tests.{of_person}
 use Rattle.ld_program.specs.Tree.{is_open}
-use Rattle.ld_value.specs.Datum.{Datum, truth_datum, moment_datum}
+use Rattle.ld_value.specs.Datum.{truth_datum, moment_datum}
 
 -- What a command is answered: it is done, with the sums over its settlings, or it is refused, with
 -- the number of the cause.

@@ -1,5 +1,5 @@
 -- What the code answers to a command of a run, beside the step of the run.
-use Rattle.std.specs.Prelude.{ℕ, ℤ, ◌≡◌}
+use Rattle.std.specs.Prelude.{◌≡◌}
 use Rattle.ld_model.specs.State.{RunState}
 use Rattle.ld_program.specs.StateView.{state_of}
 use Rattle.ld_program.specs.Step.{Work, Outcome, done, refusal}

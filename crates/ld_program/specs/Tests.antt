@@ -1,10 +1,6 @@
 -- What the test of a rule says, for a site of a run.
-use Rattle.std.specs.Prelude.{ℕ, suc, zero, List, Option, Some, None, Bool, true, false, ◌&&◌, ◌||◌, not, slice_get, is_some}
+use Rattle.std.specs.Prelude.{ℕ, suc, zero, Option, Some, None, Bool, true, false, ◌&&◌, ◌||◌, not, slice_get, is_some}
 use Rattle.std.specs.List.{list_all}
-use Rattle.ld_base.specs.declared.numbers.PersonNo.{PersonNo}
-use Rattle.ld_base.specs.declared.numbers.RuleNo.{RuleNo}
-use Rattle.ld_base.specs.declared.numbers.ThingNo.{ThingNo}
-use Rattle.ld_model.specs.Counting.{numbers_below}
 use Rattle.ld_model.specs.Members.{is_member_of, has_member, is_mine, all_persons, activity_number}
 use Rattle.ld_model.specs.Rules.{rules_of, rule_number, Site}
 use Rattle.ld_model.specs.declared.rule.Rule.{Rule}

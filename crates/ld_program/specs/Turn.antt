@@ -6,7 +6,7 @@ use Rattle.ld_model.specs.State.{RunState}
 use Rattle.ld_program.specs.Answers.{block_for}
 use Rattle.ld_program.specs.Reply.{refusal_text, done_text}
 use Rattle.ld_program.specs.Step.{Work, done, refusal, step}
-use Rattle.ld_program.specs.World.{RunOf, WorldState, WorldOutcome, world_step}
+use Rattle.ld_program.specs.World.{RunOf, WorldState, world_step}
 
 -- The text is the line's reply block, and the new world is what the line leaves.
 abbrev pub IsAnswered : WorldState → Option Line → List ℕ → WorldState → Type 0

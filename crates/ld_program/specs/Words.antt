@@ -1,5 +1,5 @@
 -- The words of a call, and which of them have a form.
-use Rattle.std.specs.Prelude.{ℕ, List, [], ◌∷◌, Option, Some, None, Bool, true, false, ◌&&◌, not, ◌==◌, codes, if◌then◌else◌, map, string_bytes, String}
+use Rattle.std.specs.Prelude.{ℕ, List, [], ◌∷◌, Option, None, Bool, false, ◌&&◌, not, ◌==◌, codes, map, string_bytes, String}
 use Rattle.std.specs.Str.{bytes_eq}
 use Rattle.std.specs.declared.alloc.Global.{Global}
 use Rattle.ld_base.specs.Maybe.{provided}

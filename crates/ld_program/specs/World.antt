@@ -1,11 +1,10 @@
 -- The world of all runs, and what a line does to it.
-use Rattle.std.specs.Prelude.{ℕ, List, [], ◌∷◌, ◌++◌, Option, Some, None, Bool, true, false, length, nat_lt, nat_le, ◌&&◌, ◌==◌, if◌then◌else◌, ℤ}
-use Rattle.std.specs.List.{find, list_any}
+use Rattle.std.specs.Prelude.{ℕ, List, [], ◌∷◌, ◌++◌, Option, Some, None, Bool, true, false, if◌then◌else◌, ℤ}
+use Rattle.std.specs.List.{find}
 use Rattle.std.specs.Str.{bytes_eq}
 use Rattle.ld_lines.specs.declared.command.Line.{Line}
 use Rattle.ld_lines.specs.declared.command.Line.TheVariants.{Create, OfRun}
 use Rattle.ld_lines.specs.declared.command.RunCommand.{RunCommand}
-use Rattle.ld_value.specs.declared.moment.Moment.{Moment}
 use Rattle.ld_model.specs.State.{RunState, state_at_first}
 use Rattle.ld_model.specs.declared.unit.Unit.{Unit as Course}
 use Rattle.ld_program.specs.Step.{Work, Reply, done, refused, Outcome, step}

@@ -9,7 +9,7 @@ use Rattle.ld_json.proofs.Elements.{drop_at}
 use Rattle.ld_json.specs.Access.{nodes_from, nodes_of, item_nodes, shape_faults}
 use Rattle.ld_json.specs.Fault.{Told, SaysFirst}
 use Rattle.ld_json.specs.declared.fault.ReadFault.{ReadFault}
-use Rattle.ld_reader.proofs.Firsts.{says_more}
+use Rattle.ld_json.proofs.First.{says_more}
 use Rattle.ld_json.specs.Node.{Placed}
 use Rattle.ld_reader.specs.Walks.{count_items, each_of, elements_of, list_of, in_list, left_out, first_left_out, no_elements, empty_list_of}
 

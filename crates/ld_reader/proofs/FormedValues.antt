@@ -4,8 +4,8 @@ use Rattle.std.specs.List.{list_all}
 use Rattle.serde_json.specs.Find.{as_str, as_bool}
 use Rattle.ld_base.specs.Identifier.{has_identifier_form}
 use Rattle.ld_json.specs.Access.{whole_of}
-use Rattle.ld_model.specs.WellFormed.{has_length, is_title, is_address, if_given, is_formed_item}
-use Rattle.ld_reader.specs.Forms.{text_between, identifier_of, title_of, is_visible_ascii, href_of, number_between}
+use Rattle.ld_model.specs.WellFormed.{is_visible_ascii, has_length, is_title, is_address, if_given, is_formed_item}
+use Rattle.ld_reader.specs.Forms.{text_between, identifier_of, title_of, href_of, number_between}
 use Rattle.ld_reader.specs.Items.{item_names, item_of, items_of, references_of}
 use Rattle.ld_reader.specs.Walks.{only, member_of, optional_of, default_of}
 use Rattle.ld_reader.proofs.Passing.{Reads, both, provided_passes, then_passes, found_passes, member_passes, optional_passes, lists_pass}

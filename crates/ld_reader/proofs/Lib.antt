@@ -3,7 +3,6 @@ pub mod Listing
 pub mod Objects
 pub mod RolesWithin
 pub mod Depths
-pub mod Firsts
 pub mod Passing
 pub mod FormedValues
 pub mod FormedCompletions

@@ -14,7 +14,7 @@ use Rattle.ld_json.specs.Node.{Placed, member_node}
 use Rattle.ld_json.specs.Places.{member_place}
 use Rattle.ld_json.specs.Walk.{part_faults}
 use Rattle.ld_json.specs.declared.fault.ReadFault.{ReadFault}
-use Rattle.ld_reader.proofs.Firsts.{says_more}
+use Rattle.ld_json.proofs.First.{says_more}
 use Rattle.ld_json.specs.declared.file.FileNo.{FileNo}
 use Rattle.ld_model.specs.declared.role.RoleKind.{RoleKind}
 use Rattle.ld_reader.specs.RoleNodes.{inner_node_faults, roles_at, in_roles, rows_of, inner_part_faults, outer_part_faults, outer_rows_of}

@@ -7,6 +7,7 @@ use Rattle.serde_json.specs.Find.{as_str, as_bool}
 use Rattle.ld_base.specs.Identifier.{has_identifier_form}
 use Rattle.ld_base.specs.Maybe.{◌>>=◌, provided}
 use Rattle.ld_json.specs.Access.{whole_of}
+use Rattle.ld_model.specs.WellFormed.{is_visible_ascii}
 use Rattle.ld_value.specs.Duration.{duration_of}
 
 -- A text of so many bytes.
@@ -24,10 +25,6 @@ identifier_of tree = do
 -- A title or a subject: 1 to 256 bytes.
 abbrev pub title_of : Data → Option (List ℕ)
 title_of = text_between 1 256
-
--- Whether the byte is a visible character of ASCII.
-abbrev pub is_visible_ascii : ℕ → Bool
-is_visible_ascii b = nat_le 33 b && nat_le b 126
 
 -- An address: 1 to 1,024 visible characters of ASCII.
 unfoldable pub href_of : Data → Option (List ℕ)

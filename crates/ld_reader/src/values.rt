@@ -3,7 +3,8 @@ ghost use Rattle.std.specs.Prelude.{◌≡◌, ◌≤◌, [], Some, IfOk, OnOk, 
 ghost use Rattle.std.specs.List.{list_all};
 ghost use Rattle.serde_json.specs.Find.{as_bool};
 ghost use Rattle.ld_json.specs.Fault.{SaysFirst};
-ghost use Rattle.ld_reader.specs.Forms.{text_between as spec_text, identifier_of, href_of, number_between as spec_between, number_from as spec_from, true_of, seconds_of, is_visible_ascii};
+ghost use Rattle.ld_reader.specs.Forms.{text_between as spec_text, identifier_of, href_of, number_between as spec_between, number_from as spec_from, true_of, seconds_of};
+ghost use Rattle.ld_model.specs.WellFormed.{is_visible_ascii};
 ghost use Rattle.ld_reader.specs.Walks.{leaf_faults};
 
 use crate::part::Part;

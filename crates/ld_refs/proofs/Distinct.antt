@@ -18,7 +18,7 @@ use Rattle.ld_model.specs.Things.{Entry, item_entries, feedback_entries, environ
 use Rattle.ld_refs.specs.Checks.{name_faults, check_faults}
 use Rattle.ld_refs.specs.Identified.{identifiers_in, repeated_faults, target_faults}
 use Rattle.ld_refs.specs.Spots.{At, root, nth}
-use Rattle.ld_refs.proofs.Unrepeated.{identifiers_append, differ_moved, faultless_differ}
+use Rattle.ld_refs.proofs.Unrepeated.{identifiers_append, differ_moved, faultless_differ, none_before}
 use Rattle.ld_refs.proofs.SpotNames.{identifiers_listed, Names, IsNameless, names_append, names_behind, names_numbered, items_named, follows_named, completions_nameless, roles_named, properties_named, environment_named, activity_named, structure_named}
 use Rattle.ld_refs.specs.declared.kind.Wanted.{Wanted}
 use Rattle.ld_refs.specs.declared.kind.Wanted.TheVariants as wanted
@@ -138,13 +138,9 @@ distinct unit none =
     let differ = faultless_differ (first_spots unit ++ last_spots unit) none in
     rw (things_listed unit) (differ_in_order roles properties environments activities structures (identifiers_listed (method_entries unit)) unit.identifier (rw (sym listed) differ))
 
-first_none : {A : Type 0} (xs ys : List A) → xs ++ ys ≡ [] → xs ≡ []
-first_none [] ys none = refl
-first_none (x ∷ xs) ys none = cc
-
 -- Where no check finds a fault in a unit, no two parts of it have one identifier.
 pub check_distinct : (unit : Course) → check_faults unit ≡ [] → HasDistinctIdentifiers unit
 unfolding check_faults name_faults
 check_distinct unit none =
-    let names = first_none (name_faults (spots_of unit)) _ none in
-    distinct unit (first_none (repeated_faults (spots_of unit)) (target_faults (spots_of unit)) names)
+    let names = none_before (name_faults (spots_of unit)) _ none in
+    distinct unit (none_before (repeated_faults (spots_of unit)) (target_faults (spots_of unit)) names)

@@ -2,7 +2,6 @@ pub mod Adding
 pub mod Beyond
 pub mod CycleLaws
 pub mod Distinct
-pub mod ExtentFaults
 pub mod ExtentSums
 pub mod Indexed
 pub mod Noted

@@ -1,18 +1,18 @@
 -- The set of the references that were seen, and the map of the objects that were noted.
 use denote.Ref.{Bor}
-use Rattle.std.proofs.Common.{◌≡◌, ℕ, ◌+◌, ◌<◌, List, [], ◌∷◌, ◌++◌, length, take, get_or, map, Bool, true, false, ◌||◌, cond, Option, Some, None, refl, sym, ap, ◌∙◌, append-nil}
+use Rattle.std.proofs.Common.{◌≡◌, ℕ, ◌+◌, ◌<◌, List, [], ◌∷◌, ◌++◌, length, take, get_or, map, Bool, true, false, cond, Option, Some, None, refl, sym, ap, ◌∙◌, append-nil}
 use Rattle.std.proofs.lemmas.Slice.Eq.{bytes_eq-Decides}
 use Rattle.std.proofs.lemmas.Grind.{flat_map-append}
 use Rattle.std.proofs.lemmas.List.{take_more, map_push}
-use Rattle.std.proofs.lemmas.List.Folds.{list_any-append}
 use Rattle.std.proofs.lemmas.Map.Text.{is_eq-slice_cmp}
-use Rattle.std.specs.BTreeSet.{BTreeSet, contains_by, Updates as SetUpdates}
+use Rattle.std.specs.BTreeSet.{BTreeSet, Updates}
 use Rattle.std.specs.BTreeMap.{BTreeMap, Updates as MapUpdates}
 use Rattle.std.specs.Cmp.Lexicographic.{slice_cmp}
 use Rattle.std.specs.List.{list_any}
 use Rattle.std.specs.Ordering.{nat_cmp}
 use Rattle.std.specs.Str.{bytes_eq}
 use Rattle.ld_model.proofs.Differing.{bytes_eq-turned}
+use Rattle.ld_model.proofs.Seen.{HasSeen, seen_added}
 use Rattle.ld_refs.specs.declared.kind.Kind.{Kind}
 use Rattle.ld_refs.specs.Directory.{LooksUp}
 use Rattle.ld_refs.specs.declared.spot.Spot.{Spot as CodeSpot}
@@ -21,20 +21,8 @@ use Rattle.ld_refs.specs.SpotView.{spot_of}
 
 -- ---- references that were seen
 
-added_last : (added there : Bool) → cond added true there ≡ (there || (added || false))
-added_last true true = refl
-added_last true false = refl
-added_last false true = refl
-added_last false false = refl
-
-abbrev pub HasSeen : BTreeSet (Bor (List ℕ)) → List (List ℕ) → Type 0
-HasSeen seen ids = (id : List ℕ) → contains_by (λ text. slice_cmp nat_cmp id text.now) seen ≡ list_any (bytes_eq id) ids
-
-pub seen_more : (old new : BTreeSet (Bor (List ℕ))) (text : Bor (List ℕ)) (ids : List (List ℕ)) (i : ℕ) (d : List ℕ) → i < length ids → text.now ≡ get_or ids i d → HasSeen old (take i ids) → SetUpdates (λ x y. slice_cmp nat_cmp x.now y.now) old new text true → HasSeen new (take (i + 1) ids)
-seen_more old new text ids i d within is seen updates id =
-    let front = take i ids in
-    updates.0 (record { ref_ptr = (0, 0); now = id })
-    ∙ rw (is_eq-slice_cmp text.now id, bytes_eq-turned text.now id, seen id, take_more ids i d within, list_any-append (bytes_eq id) front (get_or ids i d ∷ []), sym is) (added_last (bytes_eq id text.now) (list_any (bytes_eq id) front))
+pub seen_more : (old new : BTreeSet (Bor (List ℕ))) (text : Bor (List ℕ)) (ids : List (List ℕ)) (i : ℕ) (d : List ℕ) → i < length ids → text.now ≡ get_or ids i d → HasSeen old (take i ids) → Updates (λ x y. slice_cmp nat_cmp x.now y.now) old new text true → HasSeen new (take (i + 1) ids)
+seen_more old new text ids i d within is seen updates = rw (take_more ids i d within, sym is) (seen_added old new text (take i ids) seen updates)
 
 -- ---- objects that were noted
 

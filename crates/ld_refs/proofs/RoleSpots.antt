@@ -1,11 +1,11 @@
 -- The spots of roles: the places of those within a role go on from its place.
 use Rattle.std.proofs.Common.{◌≡◌, ℕ, ◌+◌, ◌<◌, List, [], ◌∷◌, ◌++◌, map, drop, length, get_or, slice_get, Bool, true, false, refl, sym, ap, ◌∙◌, add-one, codes, arith}
-use Rattle.std.proofs.Math.Seq.{drop-cons}
 use Rattle.std.proofs.lemmas.Grind.{common_steps}
 use Rattle.ld_model.specs.RoleRows.{RoleRow, deeper, joined, rows_within}
 use Rattle.ld_refs.specs.Listing.{next_number, next_path, role_entry, role_spot, role_spots}
 use Rattle.ld_refs.specs.Running.{role_runs}
 use Rattle.ld_refs.specs.Spots.{At, nth}
+use Rattle.ld_refs.proofs.Stops.{from_here}
 
 -- The numbers of the last of the roles.
 abbrev pub path_after : List ℕ → List RoleRow → List ℕ
@@ -40,7 +40,7 @@ IsNext i before = next_number (slice_get before 0) ≡ i
 pub role_step : (at : At) (nested : Bool) (roles : List (List RoleRow)) (i : ℕ) (rows : List RoleRow) (own : RoleRow) (inner : List (List RoleRow)) (before : List ℕ) → i < length roles → rows ≡ get_or roles i rows → rows ≡ own ∷ rows_within inner → own.depth ≡ 0 → IsNext i before → role_spots at nested before (joined (drop i roles)) ≡ role_entry (nth at (codes "roles") i) (role_runs nested own) own.identifier ∷ (role_spots (nth at (codes "roles") i) true [] (joined inner) ++ role_spots at nested (i ∷ path_after [] (joined inner)) (joined (drop (i + 1) roles)))
 role_step at nested roles i rows own inner before within is seen top next =
     let rest = joined (drop (i + 1) roles) in
-    let front : drop i roles ≡ get_or roles i rows ∷ drop (i + 1) roles = drop-cons roles i rows within ∙ rw (add-one i) refl in
+    let front : drop i roles ≡ get_or roles i rows ∷ drop (i + 1) roles = from_here roles i rows within in
     let path : next_path before own.depth ≡ i ∷ [] = rw (top, next) refl in
     let behind : role_spots at nested (i ∷ []) (map deeper (joined inner) ++ rest) ≡ role_spots (nth at (codes "roles") i) true [] (joined inner) ++ role_spots at nested (i ∷ path_after [] (joined inner)) rest = rw (spots_append at nested (i ∷ []) (map deeper (joined inner)) rest, spots_deeper at nested i [] (joined inner), after_deeper i [] (joined inner)) refl in
     rw (front, sym is, seen, path, behind) refl

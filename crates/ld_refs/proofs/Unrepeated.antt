@@ -7,21 +7,13 @@ use Rattle.std.proofs.lemmas.List.Folds.{list_any-append}
 use Rattle.std.specs.List.{list_any}
 use Rattle.std.specs.Str.{bytes_eq}
 use Rattle.ld_model.proofs.Differing.{bytes_eq-turned}
+use Rattle.ld_model.proofs.Seen.{differ_further}
 use Rattle.ld_model.specs.Counting.{each_numbered_from}
 use Rattle.ld_model.specs.Identifiers.{all_differ}
 use Rattle.ld_refs.specs.Identified.{name_in, names_in, identifiers_in, repeated_if, repeated_in, repeated_at, repeated_faults}
 use Rattle.ld_refs.specs.Spots.{At, Element, Declares, Refers, Lists, Follows, Other, Spot}
 
 -- ---- texts of which no two are equal
-
--- A further text that is none of those that differ.
-differ_further : (xs : List (List ℕ)) (x : List ℕ) → all_differ xs ≡ true → list_any (bytes_eq x) xs ≡ false → all_differ (xs ++ x ∷ []) ≡ true
-differ_further [] x differ new = refl
-differ_further (y ∷ ys) x differ new =
-    let turned = bytes_eq-turned x y in
-    let more = list_any-append (bytes_eq y) ys (x ∷ []) in
-    let rest = differ_further ys x in
-    grind (arith, common_steps, turned, more, rest)
 
 -- One of the texts may as well be the first.
 pub differ_moved : (xs : List (List ℕ)) (x : List ℕ) (ys : List (List ℕ)) → all_differ (xs ++ x ∷ ys) ≡ true → all_differ (x ∷ (xs ++ ys)) ≡ true
@@ -38,7 +30,7 @@ differ_moved (y ∷ xs) x ys differ =
 pub identifiers_append : (xs ys : List Spot) → identifiers_in (xs ++ ys) ≡ identifiers_in xs ++ identifiers_in ys
 identifiers_append xs ys = ap (map (λ name. name.identifier)) (flat_map-append (λ spot. name_in spot.element) xs ys) ∙ map-append (λ name. name.identifier) (names_in xs) (names_in ys)
 
-none_before : {A : Type 0} (xs ys : List A) → xs ++ ys ≡ [] → xs ≡ []
+pub none_before : {A : Type 0} (xs ys : List A) → xs ++ ys ≡ [] → xs ≡ []
 none_before [] ys none = refl
 none_before (x ∷ xs) ys none = cc
 

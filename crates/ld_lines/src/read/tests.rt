@@ -1,5 +1,7 @@
 //! Which bytes are which command, and which are none. The tables are written by hand from
 //! docs/COMMANDS.md.
+mod bytes;
+
 use crate::command::{Line, LineFault, RunCommand};
 use crate::read::read_command;
 use std::alloc::Global;
@@ -261,72 +263,6 @@ fn moments_out_of_form(rt: HostRuntime) -> Result<(), Fail> {
     for moment in table {
         let told = told_at(rt.alloc(), moment)?;
         assert_eq!(rt; told.as_str(), "bad-line", "{moment}");
-    }
-    Ok(())
-}
-
-#[test]
-fn spaces_around_the_json(rt: HostRuntime) -> Result<(), Fail> {
-    let table = [
-        b" [\"1970-01-01T00:00:00Z\",\"start\",\"r\"]".as_slice(),
-        b"[\"1970-01-01T00:00:00Z\",\"start\",\"r\"]  ",
-        b"\t[\"1970-01-01T00:00:00Z\",\"start\",\"r\"]\t",
-        b"[\"1970-01-01T00:00:00Z\",\"start\",\"r\"]\r",
-        b"\r\n[ \"1970-01-01T00:00:00Z\" ,\t\"start\" , \"r\" ]\n",
-    ];
-    for bytes in table {
-        let told = told(rt.alloc(), bytes)?;
-        assert_eq!(rt; told.as_str(), "0 start r", "{bytes:?}");
-    }
-    Ok(())
-}
-
-#[test]
-fn bytes_that_are_no_array_of_texts(rt: HostRuntime) -> Result<(), Fail> {
-    let table = [
-        // No JSON.
-        b"".as_slice(),
-        b" ",
-        b"start",
-        b"[",
-        b"]",
-        b"[\"1970-01-01T00:00:00Z\",\"start\",\"r\"",
-        b"[\"1970-01-01T00:00:00Z\",\"start\",\"r",
-        b"[\"1970-01-01T00:00:00Z\",\"start\",\"r\",]",
-        b"[\"1970-01-01T00:00:00Z\" \"start\" \"r\"]",
-        b"['1970-01-01T00:00:00Z','start','r']",
-        b"[\"1970-01-01T00:00:00Z\",\"start\",r]",
-        b"[\"1970-01-01T00:00:00Z\",\"start\",\"\xff\"]",
-        b"\xef\xbb\xbf[\"1970-01-01T00:00:00Z\",\"start\",\"r\"]",
-        // More bytes behind the array.
-        b"[\"1970-01-01T00:00:00Z\",\"start\",\"r\"]x",
-        b"[\"1970-01-01T00:00:00Z\",\"start\",\"r\"],",
-        b"[\"1970-01-01T00:00:00Z\",\"start\",\"r\"] []",
-        b"[\"1970-01-01T00:00:00Z\",\"start\",\"r\"]\0",
-        // JSON that is no array.
-        b"null",
-        b"true",
-        b"1",
-        b"\"start\"",
-        b"{}",
-        b"{\"1970-01-01T00:00:00Z\":\"start\"}",
-        // An array that has too little, or other things than texts.
-        b"[]",
-        b"[\"1970-01-01T00:00:00Z\"]",
-        b"[\"start\",\"r\"]",
-        b"[0,\"start\",\"r\"]",
-        b"[\"1970-01-01T00:00:00Z\",0,\"r\"]",
-        b"[\"1970-01-01T00:00:00Z\",\"start\",1]",
-        b"[\"1970-01-01T00:00:00Z\",\"start\",null]",
-        b"[\"1970-01-01T00:00:00Z\",\"start\",true]",
-        b"[\"1970-01-01T00:00:00Z\",\"start\",[\"r\"]]",
-        b"[\"1970-01-01T00:00:00Z\",[\"start\",\"r\"]]",
-        b"[[\"1970-01-01T00:00:00Z\",\"start\",\"r\"]]",
-        b"[\"1970-01-01T00:00:00Z\",\"start\",\"r\",1]",
-    ];
-    for bytes in table {
-        let told = told(rt.alloc(), bytes)?;
-        assert_eq!(rt; told.as_str(), "bad-line", "{bytes:?}");
     }
     Ok(())
 }

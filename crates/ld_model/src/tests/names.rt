@@ -2,7 +2,7 @@
 use super::course::{course, id};
 use crate::identifiers::has_distinct_identifiers;
 use crate::names::{Named, Names, Place};
-use crate::rule::{Rule, RuleKind, list_rules};
+use crate::rule::{Rule, RuleKind, list_rules, number_of_rule};
 use crate::unit::Unit;
 use ld_base::id::Id;
 use ld_base::numbers::{PropNo, RoleNo, RuleNo, ThingNo};
@@ -120,6 +120,13 @@ fn rules_stand_in_their_order(rt: HostRuntime) -> Result<(), Fail> {
         assert_eq!(rt; *rule, *expected);
         assert_eq!(rt; rule.kind(), *kind);
     }
+    Ok(())
+}
+
+#[test]
+fn a_rule_has_its_place_as_its_number(rt: HostRuntime) -> Result<(), Fail> {
+    assert_eq!(rt; number_of_rule(&RULES, Rule::CompletesPlay(0)), Some(7));
+    assert_eq!(rt; number_of_rule(&RULES, Rule::JudgesCondition(0)), None);
     Ok(())
 }
 

@@ -3,7 +3,7 @@ use Rattle.ld_json.specs.declared.file.FileNo.TheVariants as file_no
 use Rattle.ld_method.specs.Units.{unit_in, method_document_faults, unit_faults, conditions_faults}
 use Rattle.ld_reader.specs.Documents.{in_document}
 use Rattle.ld_method.proofs.FormedUnits.{unit_formed}
-use Rattle.ld_method.proofs.Later.{says_later}
+use Rattle.ld_json.proofs.First.{says_later}
 use Rattle.ld_method.proofs.whole.read_method.Goals as goal
 
 pub returns-in_err-conditions-clause-first : goal.returns-in_err-conditions-clause-first

@@ -1,6 +1,6 @@
-use Rattle.std.proofs.Common.{rules, arith, ap, ◌∙◌, ◌≡◌, ◌<◌, ◌+◌, length, true}
+use Rattle.std.proofs.Common.{arith, ap, ◌∙◌, ◌≡◌, true}
 use Rattle.ld_base.specs.Outside.{then_piece}
-use Rattle.ld_program.proofs.Replaying.{IsUnderWay-first, IsUnderWay-next, falls, stopped_by_fault, stopped_by_length, ended_well}
+use Rattle.ld_program.proofs.Replaying.{IsUnderWay-first, IsUnderWay-next, stopped_by_fault, stopped_by_length}
 use Rattle.ld_program.proofs.replay.answer_lines.Goals as goal
 
 pub loop-sink-init : goal.loop-sink-init

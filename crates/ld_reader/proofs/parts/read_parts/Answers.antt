@@ -1,4 +1,4 @@
-use Rattle.std.proofs.Common.{◌≡◌, Some, refl}
+use Rattle.std.proofs.Common.{refl}
 use Rattle.ld_model.specs.declared.unit.Parts.{Parts}
 use Rattle.ld_reader.specs.Documents.{parts_in}
 use Rattle.ld_reader.proofs.FormedDocuments.{parts_formed, no_properties}

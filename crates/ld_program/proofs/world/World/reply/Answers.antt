@@ -1,8 +1,7 @@
-use Rattle.std.proofs.Common.{◌≡◌, true, false, Some, None, arith, rules}
+use Rattle.std.proofs.Common.{◌≡◌, true, false, arith}
 use Rattle.std.specs.Str.{bytes_eq}
 use Rattle.std.proofs.lemmas.Grind.{common_steps}
 use Rattle.ld_program.proofs.Worlds.{is_none, refused_line, no_run, other_run, told_of_run}
-use Rattle.ld_program.specs.WorldView.{run_of}
 use Rattle.ld_program.proofs.world.World.reply.Goals as goal
 
 pub returns-in_default-clause-told : goal.returns-in_default-clause-told

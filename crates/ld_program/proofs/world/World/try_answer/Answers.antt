@@ -1,4 +1,4 @@
-use Rattle.std.proofs.Common.{◌≡◌, true, false, Some, None, Err, ap, arith}
+use Rattle.std.proofs.Common.{◌≡◌, None, Err, ap, arith}
 use Rattle.ld_lines.specs.Commands.{command_of}
 use Rattle.std.proofs.lemmas.Grind.{common_steps}
 use Rattle.ld_program.proofs.Worlds.{on_ok, refused_line, no_line}
