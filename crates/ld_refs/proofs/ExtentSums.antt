@@ -20,6 +20,13 @@ sums_alike f h x y (a ∷ xs) same each =
     let rest = sums_alike f h (x + f a) (y + h a) xs first each in
     omega (arith, terms, wholes, rest)
 
+-- Sums of which the parts stand still at the greatest, too.
+pub three_capped : (a b c : ℕ) → min 1000000 (min 1000000 a + min 1000000 (min 1000000 b + min 1000000 c)) ≡ min 1000000 (a + (b + c))
+three_capped a b c = omega arith
+
+pub sum_of_capped : (a b c : ℕ) → min 1000000 (min 1000000 (a + b) + c) ≡ min 1000000 (a + (b + c))
+sum_of_capped a b c = omega arith
+
 maps_alike : (f h : ℕ → ℕ) (xs : List ℕ) → ((a : ℕ) → min 1000000 (f a) ≡ min 1000000 (h a)) → map (min 1000000) (map f xs) ≡ map (min 1000000) (map h xs)
 maps_alike f h [] each = refl
 maps_alike f h (a ∷ xs) each = rw (each a, maps_alike f h xs each) refl

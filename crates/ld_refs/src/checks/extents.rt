@@ -52,7 +52,7 @@ fn sizes_of<'a>(
 ) -> Result<StructureSizes<'a>, NoMemory>
     requires environments { map (λ next. next.items) graphs.now.environments.items ≡ environment_graph unit.now }
     requires structures { map (λ next. next.items) graphs.now.structures.items ≡ structure_graph unit.now }
-    ensures { IfOk result (λ sizes. sizes.activities.environments.unit.now ≡ unit.now) }
+    ensures { IfOk result (λ sizes. sizes ≡ unit.now) }
 {
     let environments = EnvironmentSizes::of(alloc, unit, &graphs.environments)?;
     let activities = ActivitySizes::of(alloc, environments)?;
@@ -63,10 +63,10 @@ fn sizes_of<'a>(
 /// That no role-part is too big, and the unit is not.
 #[tactic(auto, using(ld_json::proofs::First::first_of_both))]
 fn check_sizes(alloc: Global, sizes: &StructureSizes<'_>) -> Result<(), ReadFault>
-    ensures faultless { OnOk result (size_faults sizes.now.activities.environments.unit.now ≡ []) }
-    ensures first { IfErr result (SaysFirst (size_faults sizes.now.activities.environments.unit.now)) }
+    ensures faultless { OnOk result (size_faults sizes.now ≡ []) }
+    ensures first { IfErr result (SaysFirst (size_faults sizes.now)) }
 {
-    let plays = sizes.activities.environments.unit.method.plays.as_slice();
+    let plays = sizes.unit().method.plays.as_slice();
     check_plays(alloc, sizes, plays)?;
     check_unit(alloc, sizes)?;
     Ok(())
@@ -74,8 +74,8 @@ fn check_sizes(alloc: Global, sizes: &StructureSizes<'_>) -> Result<(), ReadFaul
 
 /// That the unit is not too big.
 fn check_unit(alloc: Global, sizes: &StructureSizes<'_>) -> Result<(), ReadFault>
-    ensures faultless { OnOk result (unit_size_faults sizes.now.activities.environments.unit.now ≡ []) }
-    ensures first { IfErr result (SaysFirst (unit_size_faults sizes.now.activities.environments.unit.now)) }
+    ensures faultless { OnOk result (unit_size_faults sizes.now ≡ []) }
+    ensures first { IfErr result (SaysFirst (unit_size_faults sizes.now)) }
 {
     if unit_size(sizes) <= UNIT_LIMIT {
         return Ok(());
@@ -87,8 +87,8 @@ fn check_unit(alloc: Global, sizes: &StructureSizes<'_>) -> Result<(), ReadFault
 /// That no role-part of the plays is too big.
 #[tactic(auto, using(ld_json::proofs::First::first_of_both))]
 fn check_plays(alloc: Global, sizes: &StructureSizes<'_>, plays: &[Play]) -> Result<(), ReadFault>
-    ensures faultless { OnOk result (each_numbered (play_size_faults sizes.now.activities.environments.unit.now) plays.now ≡ []) }
-    ensures first { IfErr result (SaysFirst (each_numbered (play_size_faults sizes.now.activities.environments.unit.now) plays.now)) }
+    ensures faultless { OnOk result (each_numbered (play_size_faults sizes.now) plays.now ≡ []) }
+    ensures first { IfErr result (SaysFirst (each_numbered (play_size_faults sizes.now) plays.now)) }
 {
     for (p, play) in plays.iter().enumerate() {
         check_play(alloc, sizes, p, play)?;
@@ -103,8 +103,8 @@ fn check_play(
     p: usize,
     play: &Play,
 ) -> Result<(), ReadFault>
-    ensures faultless { OnOk result (play_size_faults sizes.now.activities.environments.unit.now p play.now ≡ []) }
-    ensures first { IfErr result (SaysFirst (play_size_faults sizes.now.activities.environments.unit.now p play.now)) }
+    ensures faultless { OnOk result (play_size_faults sizes.now p play.now ≡ []) }
+    ensures first { IfErr result (SaysFirst (play_size_faults sizes.now p play.now)) }
 {
     let at = method_position(alloc)?.nth(alloc, "plays", p)?;
     check_acts(alloc, sizes, &at, play.acts.as_slice())?;
@@ -119,8 +119,8 @@ fn check_acts(
     at: &Position,
     acts: &[Act],
 ) -> Result<(), ReadFault>
-    ensures faultless { OnOk result (each_numbered (act_size_faults sizes.now.activities.environments.unit.now at.now) acts.now ≡ []) }
-    ensures first { IfErr result (SaysFirst (each_numbered (act_size_faults sizes.now.activities.environments.unit.now at.now) acts.now)) }
+    ensures faultless { OnOk result (each_numbered (act_size_faults sizes.now at.now) acts.now ≡ []) }
+    ensures first { IfErr result (SaysFirst (each_numbered (act_size_faults sizes.now at.now) acts.now)) }
 {
     for (a, act) in acts.iter().enumerate() {
         check_act(alloc, sizes, at, a, act)?;
@@ -136,8 +136,8 @@ fn check_act(
     a: usize,
     act: &Act,
 ) -> Result<(), ReadFault>
-    ensures faultless { OnOk result (act_size_faults sizes.now.activities.environments.unit.now at.now a act.now ≡ []) }
-    ensures first { IfErr result (SaysFirst (act_size_faults sizes.now.activities.environments.unit.now at.now a act.now)) }
+    ensures faultless { OnOk result (act_size_faults sizes.now at.now a act.now ≡ []) }
+    ensures first { IfErr result (SaysFirst (act_size_faults sizes.now at.now a act.now)) }
 {
     let own = at.nth(alloc, "acts", a)?;
     check_parts(alloc, sizes, &own, act.role_parts.as_slice())?;
@@ -152,8 +152,8 @@ fn check_parts(
     at: &Position,
     parts: &[RolePart],
 ) -> Result<(), ReadFault>
-    ensures faultless { OnOk result (each_numbered (part_size_faults sizes.now.activities.environments.unit.now at.now) parts.now ≡ []) }
-    ensures first { IfErr result (SaysFirst (each_numbered (part_size_faults sizes.now.activities.environments.unit.now at.now) parts.now)) }
+    ensures faultless { OnOk result (each_numbered (part_size_faults sizes.now at.now) parts.now ≡ []) }
+    ensures first { IfErr result (SaysFirst (each_numbered (part_size_faults sizes.now at.now) parts.now)) }
 {
     for (r, part) in parts.iter().enumerate() {
         check_part(alloc, sizes, at, r, part)?;
@@ -169,8 +169,8 @@ fn check_part(
     r: usize,
     part: &RolePart,
 ) -> Result<(), ReadFault>
-    ensures faultless { OnOk result (part_size_faults sizes.now.activities.environments.unit.now at.now r part.now ≡ []) }
-    ensures first { IfErr result (SaysFirst (part_size_faults sizes.now.activities.environments.unit.now at.now r part.now)) }
+    ensures faultless { OnOk result (part_size_faults sizes.now at.now r part.now ≡ []) }
+    ensures first { IfErr result (SaysFirst (part_size_faults sizes.now at.now r part.now)) }
 {
     if part_size(sizes, part) <= PART_LIMIT {
         return Ok(());

@@ -9,16 +9,33 @@ use ld_base::id::Id;
 use ld_base::memory::NoMemory;
 use ld_model::activity::Activity;
 use ld_model::completion::OnCompletion;
+use ld_model::unit::Unit;
 use std::alloc::Global;
+use std::marker::Model;
 
 /// The sizes of the activities of a unit, or `GREATEST` where that is less, and those of its
-/// environments.
+/// environments. Contracts see the unit.
 #[derive(Drop)]
 pub(crate) struct ActivitySizes<'a> {
-    pub(crate) environments: EnvironmentSizes<'a>,
+    environments: EnvironmentSizes<'a>,
     table: Table<'a>,
-    ghost ids: { table.ids ≡ activity_ids environments.unit.now },
-    ghost sizes: { table.sizes.items ≡ map (min 1000000) (activity_sizes environments.unit.now) },
+}
+
+impl<'a> Model for ActivitySizes<'a> {
+    ghost use Rattle.std.specs.Prelude.{◌≡◌, map, min};
+    ghost use Rattle.std.specs.Coded.{codes};
+    ghost use Rattle.ld_model.specs.contracts.expression.Term as term;
+    ghost use Rattle.ld_model.specs.contracts.expression.Test as test;
+    ghost use Rattle.ld_model.specs.declared.unit.Unit.{Unit as Course};
+    ghost use Rattle.ld_refs.specs.Extents.{activity_ids, activity_sizes};
+
+    ghost Value = { Course };
+
+    ghost coded = { Prim.hlevel (codes, test.the_row.coded, term.the_row.coded) };
+
+    ghost view = { λ s. s.environments };
+
+    ghost invariant = { λ s. (s.table.ids ≡ activity_ids s.environments) × (s.table.sizes.items ≡ map (min 1000000) (activity_sizes s.environments)) };
 }
 
 impl<'a> ActivitySizes<'a> {
@@ -27,9 +44,9 @@ impl<'a> ActivitySizes<'a> {
         alloc: Global,
         environments: EnvironmentSizes<'a>,
     ) -> Result<ActivitySizes<'a>, NoMemory>
-        ensures { IfOk result (λ sizes. sizes.environments.unit.now ≡ environments.entry.unit.now) }
+        ensures { IfOk result (λ sizes. sizes ≡ environments.entry) }
     {
-        let activities = environments.unit.activities.as_slice();
+        let activities = environments.unit().activities.as_slice();
         let ids = index_activities(alloc, activities)?;
         let sizes = activity_sizes(alloc, &environments, activities)?;
         let table = Table { ids, sizes };
@@ -39,16 +56,30 @@ impl<'a> ActivitySizes<'a> {
         })
     }
 
+    /// The unit.
+    pub(crate) fn unit(&self) -> &'a Unit
+        ensures { result.now ≡ self.now }
+    {
+        self.environments.unit()
+    }
+
+    /// The sizes of the environments.
+    pub(crate) fn environments(&self) -> &EnvironmentSizes<'a>
+        ensures { result.now ≡ self.now }
+    {
+        &self.environments
+    }
+
     /// The size of the activity of this identifier, or 0 where it is that of none.
     pub(crate) fn size(&self, id: &Id) -> u64
-        ensures { result ≡ min 1000000 (size_named (activity_ids self.now.environments.unit.now) (activity_sizes self.now.environments.unit.now) id.now) }
+        ensures { result ≡ min 1000000 (size_named (activity_ids self.now) (activity_sizes self.now) id.now) }
     {
         self.table.size(id)
     }
 
     /// The size with those of the activities among what the references name.
     pub(crate) fn add_all(&self, size: u64, references: &[Id]) -> u64
-        ensures { result ≡ min 1000000 (size + sizes_named (activity_ids self.now.environments.unit.now) (activity_sizes self.now.environments.unit.now) references.now) }
+        ensures { result ≡ min 1000000 (size + sizes_named (activity_ids self.now) (activity_sizes self.now) references.now) }
     {
         self.table.add_all(size, references)
     }
@@ -60,7 +91,7 @@ fn activity_sizes(
     environments: &EnvironmentSizes<'_>,
     activities: &[Activity],
 ) -> Result<Vec<u64>, NoMemory>
-    ensures { IfOk result (λ sizes. sizes.items ≡ map (min 1000000) (map (activity_size environments.now.unit.now) activities.now)) }
+    ensures { IfOk result (λ sizes. sizes.items ≡ map (min 1000000) (map (activity_size environments.now) activities.now)) }
 {
     let mut sizes = Vec::new(alloc);
     for activity in activities {
@@ -71,7 +102,7 @@ fn activity_sizes(
 
 /// The activity with its items, its feedback and its environments.
 fn activity_size(environments: &EnvironmentSizes<'_>, activity: &Activity) -> u64
-    ensures { result ≡ min 1000000 (activity_size environments.now.unit.now activity.now) }
+    ensures { result ≡ min 1000000 (activity_size environments.now activity.now) }
 {
     let size = add(1, activity.items.len() as u64);
     let size = add(size, feedback_size(&activity.on_completion));

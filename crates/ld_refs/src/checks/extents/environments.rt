@@ -12,14 +12,31 @@ use ld_base::memory::NoMemory;
 use ld_model::environment::{Environment, LearningObject};
 use ld_model::unit::Unit;
 use std::alloc::Global;
+use std::marker::Model;
 
-/// What the environments of a unit expand to, or `GREATEST` where that is less.
+/// What the environments of a unit expand to, or `GREATEST` where that is less. Contracts see the unit.
 #[derive(Drop)]
 pub(crate) struct EnvironmentSizes<'a> {
-    pub(crate) unit: &'a Unit,
+    unit: &'a Unit,
     table: Table<'a>,
-    ghost ids: { table.ids ≡ environment_ids unit.now },
-    ghost sizes: { table.sizes.items ≡ map (min 1000000) (environment_sizes unit.now) },
+}
+
+impl<'a> Model for EnvironmentSizes<'a> {
+    ghost use Rattle.std.specs.Prelude.{◌≡◌, map, min};
+    ghost use Rattle.std.specs.Coded.{codes};
+    ghost use Rattle.ld_model.specs.contracts.expression.Term as term;
+    ghost use Rattle.ld_model.specs.contracts.expression.Test as test;
+    ghost use Rattle.ld_model.specs.declared.unit.Unit.{Unit as Course};
+    ghost use Rattle.ld_refs.specs.Extents.{environment_sizes};
+    ghost use Rattle.ld_refs.specs.Reaching.{environment_ids};
+
+    ghost Value = { Course };
+
+    ghost coded = { Prim.hlevel (codes, test.the_row.coded, term.the_row.coded) };
+
+    ghost view = { λ s. s.unit.now };
+
+    ghost invariant = { λ s. (s.table.ids ≡ environment_ids s.unit.now) × (s.table.sizes.items ≡ map (min 1000000) (environment_sizes s.unit.now)) };
 }
 
 impl<'a> EnvironmentSizes<'a> {
@@ -30,7 +47,7 @@ impl<'a> EnvironmentSizes<'a> {
         graph: &[Vec<usize>],
     ) -> Result<EnvironmentSizes<'a>, NoMemory>
         requires { map (λ next. next.items) graph.now ≡ environment_graph unit.now }
-        ensures { IfOk result (λ sizes. sizes.unit.now ≡ unit.now) }
+        ensures { IfOk result (λ sizes. sizes ≡ unit.now) }
     {
         let environments = unit.environments.as_slice();
         let ids = index_environments(alloc, environments)?;
@@ -40,16 +57,23 @@ impl<'a> EnvironmentSizes<'a> {
         Ok(EnvironmentSizes { unit, table })
     }
 
+    /// The unit.
+    pub(crate) fn unit(&self) -> &'a Unit
+        ensures { result.now ≡ self.now }
+    {
+        self.unit
+    }
+
     /// The size of the environment of this identifier, or 0 where it is that of none.
     pub(crate) fn size(&self, id: &Id) -> u64
-        ensures { result ≡ min 1000000 (size_named (environment_ids self.now.unit.now) (environment_sizes self.now.unit.now) id.now) }
+        ensures { result ≡ min 1000000 (size_named (environment_ids self.now) (environment_sizes self.now) id.now) }
     {
         self.table.size(id)
     }
 
     /// The size with those of the environments that the references name.
     pub(crate) fn add_all(&self, size: u64, references: &[Id]) -> u64
-        ensures { result ≡ min 1000000 (size + environments_size self.now.unit.now references.now) }
+        ensures { result ≡ min 1000000 (size + environments_size self.now references.now) }
     {
         self.table.add_all(size, references)
     }

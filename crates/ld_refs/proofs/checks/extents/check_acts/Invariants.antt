@@ -4,4 +4,4 @@ use Rattle.ld_refs.specs.Extents.{act_size_faults}
 use Rattle.ld_refs.proofs.checks.extents.check_acts.Given as goal
 
 abbrev pub invariant-loop-a : goal.invariant-loop-a
-invariant-loop-a l = each_numbered_from (act_size_faults l.sizes.activities.environments.unit.now l.at) l.a (drop l.a l.acts) ≡ each_numbered (act_size_faults l.sizes.activities.environments.unit.now l.at) l.acts
+invariant-loop-a l = each_numbered_from (act_size_faults l.sizes l.at) l.a (drop l.a l.acts) ≡ each_numbered (act_size_faults l.sizes l.at) l.acts

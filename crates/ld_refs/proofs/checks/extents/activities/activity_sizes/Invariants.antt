@@ -3,4 +3,4 @@ use Rattle.ld_refs.specs.Extents.{activity_size}
 use Rattle.ld_refs.proofs.checks.extents.activities.activity_sizes.Given as goal
 
 abbrev pub invariant-loop-activity : goal.invariant-loop-activity
-invariant-loop-activity l = l.sizes.items ++ map (min 1000000) (map (activity_size l.environments.unit.now) (drop l.activity-index l.activities)) ≡ map (min 1000000) (map (activity_size l.environments.unit.now) l.activities)
+invariant-loop-activity l = l.sizes.items ++ map (min 1000000) (map (activity_size l.environments) (drop l.activity-index l.activities)) ≡ map (min 1000000) (map (activity_size l.environments) l.activities)

@@ -5,6 +5,6 @@ use Rattle.ld_refs.proofs.checks.extents.activities.ActivitySizes.add_all.Goals 
 
 pub returns : goal.returns
 returns c =
-    let unit = c.args.self.now.environments.unit.now in
-    rw (c.args.self.now.ids, c.args.self.now.sizes) at c.add_all.ensures
+    let unit = c.args.self.now in
+    rw (c.self.invariant.0, c.self.invariant.1, c.self.view_is) at c.add_all.ensures
     ∙ sum_capped (activity_ids unit) (activity_sizes unit) c.args.size c.args.references.now

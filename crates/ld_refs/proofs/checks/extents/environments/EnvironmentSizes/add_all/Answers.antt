@@ -6,6 +6,6 @@ use Rattle.ld_refs.proofs.checks.extents.environments.EnvironmentSizes.add_all.G
 
 pub returns : goal.returns
 returns c =
-    let unit = c.args.self.now.unit.now in
-    rw (c.args.self.now.ids, c.args.self.now.sizes) at c.add_all.ensures
+    let unit = c.args.self.now in
+    rw (c.self.invariant.0, c.self.invariant.1, c.self.view_is) at c.add_all.ensures
     ∙ sum_capped (environment_ids unit) (environment_sizes unit) c.args.size c.args.references.now

@@ -1,0 +1,11 @@
+use Rattle.std.proofs.Common.{◌∙◌}
+use Rattle.ld_refs.specs.Extents.{environment_sizes}
+use Rattle.ld_refs.specs.Reaching.{environment_ids}
+use Rattle.ld_refs.proofs.ExtentSums.{size_capped}
+use Rattle.ld_refs.proofs.checks.extents.environments.EnvironmentSizes.size.Goals as goal
+
+pub returns : goal.returns
+returns c =
+    let unit = c.args.self.now in
+    rw (c.self.invariant.0, c.self.invariant.1, c.self.view_is) at c.size.ensures
+    ∙ size_capped (environment_ids unit) (environment_sizes unit) c.args.id.now
