@@ -8,9 +8,6 @@ use ld_base::source::{Source, SourceFailed};
 use std::alloc::Global;
 use std::marker::Model;
 
-/// The most bytes of a line, its line feed not counted.
-pub(crate) const LINE_LIMIT: usize = 65_536;
-
 /// The most bytes that one take asks for.
 const TAKE_LIMIT: usize = 65_536;
 

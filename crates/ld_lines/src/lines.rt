@@ -10,6 +10,9 @@ use ld_base::source::Source;
 use std::alloc::Global;
 use std::marker::Model;
 
+/// The most bytes of a line, its line feed not counted.
+pub const LINE_LIMIT: usize = 65_536;
+
 /// The lines of a source, which are handed out one after the other. Contracts see the bytes that
 /// were taken and not yet handed out, the number of all bytes that were taken, and whether the
 /// source told its end.

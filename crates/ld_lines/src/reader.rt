@@ -7,8 +7,9 @@ ghost use Rattle.ld_lines.specs.Answer.{HandsOut};
 ghost use Rattle.ld_lines.specs.Cutting.{Cutting, FeedAt, Fetches, CutsOf, CutsOff, StopsAt, answer_of_cut};
 ghost use Rattle.std.specs.List.{list_all};
 
-use crate::buffer::{Buffer, LINE_LIMIT};
+use crate::buffer::Buffer;
 use crate::cut::Cut;
+use crate::lines::LINE_LIMIT;
 use crate::stop::LineStop;
 use ld_base::memory::NoMemory;
 use ld_base::source::Source;

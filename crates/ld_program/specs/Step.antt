@@ -3,14 +3,12 @@ use Rattle.std.specs.Prelude.{ℕ, zero, suc, ◌+◌, ℤ, List, [], ◌∷◌,
 use Rattle.ld_lines.specs.declared.command.RunCommand.{RunCommand}
 use Rattle.ld_lines.specs.declared.command.RunCommand.TheVariants.{Enrol, Assign, Start, Complete, Tree}
 use Rattle.ld_model.specs.Members.{activity_number, person_number, holds_role}
-use Rattle.ld_model.specs.Names.{role_number}
+use Rattle.ld_model.specs.Names.{role_number, thing_number}
 use Rattle.ld_model.specs.State.{PersonState, RunState, with_cell, moment_in}
-use Rattle.ld_model.specs.Names.{thing_number}
 use Rattle.ld_model.specs.declared.activity.Activity.{Activity}
-use Rattle.ld_model.specs.declared.completion.Completion.{Completion}
-use Rattle.ld_model.specs.declared.completion.Completion.TheVariants.{UserChoice}
 use Rattle.ld_model.specs.declared.cell.CellName.TheVariants.{Chosen, Now, Started}
 use Rattle.ld_model.specs.declared.unit.Unit.{Unit as Course}
+use Rattle.ld_refs.specs.Running.{is_by_choice}
 use Rattle.ld_program.specs.Firing.{Settling, quiet_at, settling}
 use Rattle.ld_program.specs.Tests.{of_person}
 use Rattle.ld_program.specs.Tree.{is_open}
@@ -58,11 +56,6 @@ holds_at s (Some p) (Some r) = holds_role (slice_get s.persons p) r
 -- The person holds this very role.
 abbrev pub holds_already : Course → RunState → List ℕ → List ℕ → Bool
 holds_already unit s person role = holds_at s (person_number s person) (role_number unit role)
-
-abbrev pub is_by_choice : Option Completion → Bool
-is_by_choice (Some UserChoice) = true
-is_by_choice (Some _) = false
-is_by_choice None = false
 
 abbrev pub activity_by_choice : Option Activity → Bool
 activity_by_choice None = false

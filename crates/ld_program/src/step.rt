@@ -9,8 +9,7 @@ ghost use Rattle.ld_program.specs.FiringView.{settling_of};
 ghost use Rattle.ld_program.specs.StateView.{state_of};
 ghost use Rattle.ld_program.specs.Step.{step, settled_if, is_not_open, changed, has_change, after_first, with_role_at, chosen_at};
 ghost use Rattle.ld_model.specs.Members.{person_number};
-ghost use Rattle.ld_model.specs.Names.{role_number};
-ghost use Rattle.ld_model.specs.Names.{thing_number};
+ghost use Rattle.ld_model.specs.Names.{role_number, thing_number};
 ghost use Rattle.ld_program.specs.Stepping.{OutcomeIs};
 
 use crate::causes::{first_cause, is_started};

@@ -260,12 +260,29 @@ fn words_of_no_form_end_at_once(rt: HostRuntime) -> Result<(), Fail> {
 
 #[test]
 fn a_source_that_fails_ends_the_call(rt: HostRuntime) -> Result<(), Fail> {
-    let mut case = first(FIRST_RUN.as_bytes());
-    case.piece = 44;
-    case.source_fails = 2;
-    let (status, written) = ran(rt.alloc(), &case)?;
-    assert_eq!(rt; status, 5);
-    assert_eq!(rt; written.as_slice(), b"ok create\n".as_slice());
+    // The take that fails, and how much of the replies stands: the lines that were ended before it.
+    let table = [
+        (1, 0),
+        (2, 10),
+        (3, 53),
+        (4, 53),
+        (5, 97),
+        (6, 140),
+        (7, 186),
+        (8, 374),
+        (9, 389),
+    ];
+    for (number, length) in table {
+        let mut case = first(FIRST_RUN.as_bytes());
+        case.piece = 44;
+        case.source_fails = number;
+        let (status, written) = ran(rt.alloc(), &case)?;
+        assert_eq!(rt; (status, written.len()), (5, length), "at take {number}");
+        assert!(rt;
+            FIRST_REPLIES.as_bytes().starts_with(&written),
+            "at take {number}"
+        );
+    }
     Ok(())
 }
 

@@ -18,14 +18,12 @@ use ld_base::id::Id;
 use ld_base::memory::NoMemory;
 use ld_base::text::Text;
 use ld_lines::command::{Line, LineFault, RunCommand};
+use ld_lines::lines::LINE_LIMIT;
 use ld_lines::read::read_command;
 use ld_lines::refusal::refusal_word;
 use ld_refs::check::Checked;
 use ld_value::moment::Moment;
 use std::alloc::Global;
-
-/// The most bytes of a command line, its line feed not counted.
-const LINE_LIMIT: usize = 65_536;
 
 /// A run, by its name.
 #[derive(Drop)]

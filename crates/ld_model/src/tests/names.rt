@@ -125,8 +125,13 @@ fn rules_stand_in_their_order(rt: HostRuntime) -> Result<(), Fail> {
 
 #[test]
 fn a_rule_has_its_place_as_its_number(rt: HostRuntime) -> Result<(), Fail> {
-    assert_eq!(rt; number_of_rule(&RULES, Rule::CompletesPlay(0)), Some(7));
-    assert_eq!(rt; number_of_rule(&RULES, Rule::JudgesCondition(0)), None);
+    let rules = [
+        Rule::CompletesActivity(0),
+        Rule::OpensAct(0, 0),
+        Rule::CompletesUnit,
+    ];
+    assert_eq!(rt; number_of_rule(&rules, Rule::OpensAct(0, 0)), Some(1));
+    assert_eq!(rt; number_of_rule(&rules, Rule::OpensAct(0, 1)), None);
     Ok(())
 }
 
