@@ -1,0 +1,79 @@
+"""The lines of an input and the command of each, after docs/COMMANDS.md."""
+import datetime
+import json
+import re
+
+LONGEST_LINE = 65_536
+
+# The words of each verb, by what they name.
+WORDS = {
+    "create": ["run", "unit"],
+    "enrol": ["run", "person"],
+    "assign": ["run", "person", "role"],
+    "start": ["run"],
+    "complete": ["run", "person", "activity"],
+    "tree": ["run", "person"],
+}
+
+IDENTIFIER = re.compile("[A-Za-z_][A-Za-z0-9_.-]{0,63}")
+MOMENT = re.compile("([0-9]{4})-([0-9]{2})-([0-9]{2})T([0-9]{2}):([0-9]{2}):([0-9]{2})Z")
+
+
+def lines_of(data):
+    """Lines end with a line feed; a last line without one counts."""
+    lines = data.split(b"\n")
+    return lines if lines[-1] else lines[:-1]
+
+
+def is_over_long(line):
+    """A line of more than 65,536 bytes, its line feed not counted, is a bad line, whatever it holds."""
+    return len(line) > LONGEST_LINE
+
+
+def is_passed_over(line):
+    """A line of only spaces, tabs and carriage returns is passed over, if it is not over-long."""
+    return not is_over_long(line) and line.strip(b" \t\r") == b""
+
+
+def is_identifier(text):
+    """An identifier has 1 to 64 characters of a few kinds and begins with a letter or `_`."""
+    return IDENTIFIER.fullmatch(text) is not None
+
+
+def moment_of(text):
+    """A moment is 86,400 times the number of its day plus the second of the day; None where it is none."""
+    match = MOMENT.fullmatch(text)
+    if match is None:
+        return None
+    year, month, day, hour, minute, second = [int(digits) for digits in match.groups()]
+    if hour > 23 or minute > 59 or second > 59:
+        return None
+    try:
+        number = datetime.date(year, month, day).toordinal() - datetime.date(1970, 1, 1).toordinal()
+    except ValueError:
+        return None
+    return 86_400 * number + 3_600 * hour + 60 * minute + second
+
+
+def texts_of(line):
+    """The texts of a line that is one JSON array of texts; None for any other line."""
+    try:
+        value = json.loads(line.decode("utf-8"))
+    except (ValueError, RecursionError):
+        return None
+    if not isinstance(value, list) or not all(isinstance(element, str) for element in value):
+        return None
+    return value
+
+
+def command_of(line):
+    """A command line has a moment, a verb and as many identifiers as the verb's words; None for a bad line."""
+    texts = None if is_over_long(line) else texts_of(line)
+    if texts is None or len(texts) < 2:
+        return None
+    moment, verb, words = moment_of(texts[0]), texts[1], texts[2:]
+    if moment is None or verb not in WORDS or len(words) != len(WORDS[verb]):
+        return None
+    if not all(is_identifier(word) for word in words):
+        return None
+    return {"moment": moment, "verb": verb, **dict(zip(WORDS[verb], words))}
