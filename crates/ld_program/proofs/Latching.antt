@@ -23,7 +23,7 @@ use Rattle.ld_value.specs.Datum.{Datum, truth_datum}
 use Rattle.ld_program.specs.Firing.{Tally, site_visit, site_fired, mark_of, mark_says, effect, open_act, open_thing}
 use Rattle.ld_program.specs.Histories.{is_marked_yes}
 use Rattle.ld_program.specs.Step.{step, changed, chosen_at, with_role_at}
-use Rattle.ld_program.specs.Tests.{site_test, rule_test, is_marked, act_at}
+use Rattle.ld_program.specs.Tests.{site_test, rule_test, is_marked, says_for_good, act_at}
 use Rattle.ld_program.proofs.Kept.{IsLasting, step_keeps}
 
 -- ---- names of cells
@@ -79,35 +79,46 @@ effect_leaves unit s (Some (JudgesCondition _)) name other = refl
 abbrev IsYes : RuleNo → Owner → RunState → Type 0
 IsYes rule owner s = is_marked_yes s rule owner ≡ true
 
+abbrev IsForGood : Course → RuleNo → Type 0
+IsForGood unit rule = says_for_good (slice_get (rules_of unit) rule.0) ≡ true
+
 yes_again : (b verdict : Bool) (old : Option Datum) → (b ≡ true → verdict ≡ true) → says_yes old ≡ true → says_yes (if b then Some (truth_datum verdict) else old) ≡ true
 yes_again true verdict old again told = again refl
 yes_again false verdict old again told = told
 
-or_true : (b c : Bool) → b ≡ true → (b || c) ≡ true
-or_true true c told = refl
-or_true false c told = cc
+both_or : (a b c : Bool) → a ≡ true → b ≡ true → ((a && b) || c) ≡ true
+both_or true true c good told = refl
+both_or true false c good told = cc
+both_or false b c good told = cc
+
+-- The number of the rule whose mark the cell is.
+abbrev number_in_mark : CellName → ℕ
+number_in_mark (Mark rule owner) = rule.0
+number_in_mark _ = 0
 
 -- The test of a site that is marked says yes.
-verdict_yes : (unit : Course) (s : RunState) (rule : RuleNo) (owner : Owner) (site : Site) → IsYes rule owner s → same_cell (Mark rule owner) (mark_of site) ≡ true → site_test unit s site ≡ true
-verdict_yes unit s rule owner site told same =
-    let here : says_yes (s.cells (mark_of site)) ≡ true = ap (λ (name : CellName). says_yes (s.cells name)) (sym (one_mark rule owner site same)) ∙ told in
-    or_true (is_marked s (Some site.rule) site.owner) (rule_test unit s (slice_get (rules_of unit) site.rule) site.owner) here
+verdict_yes : (unit : Course) (s : RunState) (rule : RuleNo) (owner : Owner) (site : Site) → IsForGood unit rule → IsYes rule owner s → same_cell (Mark rule owner) (mark_of site) ≡ true → site_test unit s site ≡ true
+verdict_yes unit s rule owner site good told same =
+    let one = one_mark rule owner site same in
+    let here : says_yes (s.cells (mark_of site)) ≡ true = ap (λ (name : CellName). says_yes (s.cells name)) (sym one) ∙ told in
+    let good_here : says_for_good (slice_get (rules_of unit) site.rule) ≡ true = ap (λ (n : ℕ). says_for_good (slice_get (rules_of unit) n)) (sym (ap number_in_mark one)) ∙ good in
+    both_or (says_for_good (slice_get (rules_of unit) site.rule)) (is_marked s (Some site.rule) site.owner) (rule_test unit s (slice_get (rules_of unit) site.rule) site.owner) good_here here
 
-fired_yes : (unit : Course) (s : RunState) (rule : RuleNo) (owner : Owner) (site : Site) → IsYes rule owner s → IsYes rule owner (site_fired unit s site (site_test unit s site))
-fired_yes unit s rule owner site told =
+fired_yes : (unit : Course) (s : RunState) (rule : RuleNo) (owner : Owner) (site : Site) → IsForGood unit rule → IsYes rule owner s → IsYes rule owner (site_fired unit s site (site_test unit s site))
+fired_yes unit s rule owner site good told =
     let verdict : Bool = site_test unit s site in
     let marked : RunState = with_cell s (mark_of site) (Some (truth_datum verdict)) in
     ap says_yes (effect_leaves unit marked (slice_get (rules_of unit) site.rule) (Mark rule owner) (λ thing. refl))
-    ∙ yes_again (same_cell (Mark rule owner) (mark_of site)) verdict (s.cells (Mark rule owner)) (verdict_yes unit s rule owner site told) told
+    ∙ yes_again (same_cell (Mark rule owner) (mark_of site)) verdict (s.cells (Mark rule owner)) (verdict_yes unit s rule owner site good told) told
 
 pub either_tally : (P : RunState → Type 0) (b : Bool) (x y : Tally) → P x.state → P y.state → P (if b then x else y).state
 either_tally P true x y this other = this
 either_tally P false x y this other = other
 
-visit_yes : (unit : Course) (rule : RuleNo) (owner : Owner) (t : Tally) (site : Site) → IsYes rule owner t.state → IsYes rule owner (site_visit unit t site).state
-visit_yes unit rule owner t site told =
+visit_yes : (unit : Course) (rule : RuleNo) (owner : Owner) → IsForGood unit rule → (t : Tally) (site : Site) → IsYes rule owner t.state → IsYes rule owner (site_visit unit t site).state
+visit_yes unit rule owner good t site told =
     let verdict : Bool = site_test unit t.state site in
-    either_tally (IsYes rule owner) (mark_says (t.state.cells (mark_of site)) verdict) t (record { state = site_fired unit t.state site verdict; fired = t.fired + 1; rejected = t.rejected; sent = t.sent }) told (fired_yes unit t.state rule owner site told)
+    either_tally (IsYes rule owner) (mark_says (t.state.cells (mark_of site)) verdict) t (record { state = site_fired unit t.state site verdict; fired = t.fired + 1; rejected = t.rejected; sent = t.sent }) told (fired_yes unit t.state rule owner site good told)
 
 -- ---- what a direct change leaves
 
@@ -138,12 +149,12 @@ mark_is_no_change rule owner = record { started = refl; chosen = λ thing person
 
 -- ---- steps
 
-yes_lasts : (unit : Course) (rule : RuleNo) (owner : Owner) → IsLasting unit (IsYes rule owner)
-yes_lasts unit rule owner = record {
-  visits = visit_yes unit rule owner;
+yes_lasts : (unit : Course) (rule : RuleNo) (owner : Owner) → IsForGood unit rule → IsLasting unit (IsYes rule owner)
+yes_lasts unit rule owner good = record {
+  visits = visit_yes unit rule owner good;
   moments = λ s moment told. told;
   changes = λ s moment command told. ap says_yes (change_leaves unit s moment command (Mark rule owner) (mark_is_no_change rule owner)) ∙ told;
 }
 
-pub stays_yes : (unit : Course) (s : RunState) (moment : ℤ) (command : RunCommand) (rule : RuleNo) (owner : Owner) → is_marked_yes s rule owner ≡ true → is_marked_yes (step unit s moment command).state rule owner ≡ true
-stays_yes unit s moment command rule owner told = step_keeps unit (IsYes rule owner) (yes_lasts unit rule owner) s moment command told
+pub stays_yes : (unit : Course) (s : RunState) (moment : ℤ) (command : RunCommand) (rule : RuleNo) (owner : Owner) → IsForGood unit rule → is_marked_yes s rule owner ≡ true → is_marked_yes (step unit s moment command).state rule owner ≡ true
+stays_yes unit s moment command rule owner good told = step_keeps unit (IsYes rule owner) (yes_lasts unit rule owner good) s moment command told

@@ -1,5 +1,5 @@
 -- The start opens the first act of each play.
-use Rattle.std.proofs.Common.{◌≡◌, ◌⊎◌, inl, inr, ◌+◌, ◌==◌, ℕ, suc, zero, ℤ, List, ◌++◌, [], ◌∷◌, Bool, true, false, ◌||◌, Option, Some, None, length, nat_eq, refl, sym, ap, subst, ◌∙◌, if◌then◌else◌, slice_get}
+use Rattle.std.proofs.Common.{◌≡◌, ◌⊎◌, inl, inr, ◌+◌, ◌==◌, ℕ, suc, zero, ℤ, List, ◌++◌, [], ◌∷◌, Bool, true, false, Option, Some, None, length, nat_eq, refl, sym, ap, subst, ◌∙◌, if◌then◌else◌, slice_get}
 use Rattle.std.specs.List.{fold}
 use Rattle.std.proofs.lemmas.Bool.{eqb-true}
 use Rattle.std.proofs.Math.Bool.{or-true}
@@ -26,7 +26,7 @@ use Rattle.ld_value.specs.Datum.{Datum, text_datum, truth_datum, number_datum, m
 use Rattle.ld_program.specs.Firing.{Tally, Settling, site_visit, site_fired, visit_with, mark_of, mark_says, effect, open_act, open_thing, sweep, settling_within, quiet_at, after_turn, tally_from}
 use Rattle.ld_program.specs.Histories.{is_marked_yes, opened_at, Given, run_after}
 use Rattle.ld_program.specs.Step.{Work, done, Outcome, step, is_started, is_back, at_moment, settled_if, finished, after_first, after_checks, first_cause, causes}
-use Rattle.ld_program.specs.Tests.{site_test, rule_test, is_marked, act_at, act_in}
+use Rattle.ld_program.specs.Tests.{site_test, site_test_by, is_marked, act_at, act_in}
 use Rattle.ld_program.proofs.Kept.{VisitsKeep, HoldsSettled, visits_keep, settling_keeps, after_turn_holds}
 use Rattle.ld_program.proofs.Latching.{one_rule_and_owner, effect_leaves, either_tally}
 use Rattle.ld_program.proofs.Places.{IsIn, in_front, in_back, in_each, place_of}
@@ -174,7 +174,7 @@ own_visit unit moment thing number t opens will =
     let site : Site = site_for number in
     let s : RunState = t.state in
     let marked : RunState = with_cell s (mark_of site) (Some (truth_datum true)) in
-    let verdict : site_test unit s site ≡ true = ap (λ (rule : Option Rule). is_marked s (Some number) Run || rule_test unit s rule Run) opens.rule ∙ or-true (is_marked s (Some number) Run) in
+    let verdict : site_test unit s site ≡ true = ap (λ (rule : Option Rule). site_test_by unit s site rule) opens.rule ∙ or-true (is_marked s (Some number) Run) in
     let fired : HasOpened moment thing (site_fired unit s site true) = record {
       now = effect_leaves unit marked (slice_get (rules_of unit) number) Now (λ other. refl) ∙ will.now;
       opened = ap (λ (rule : Option Rule). (effect unit marked rule).cells (ActOpened (record { 0 = thing }))) opens.rule ∙ effect_opens unit marked thing number opens ∙ will.now;

@@ -35,7 +35,7 @@ has_chosen s None p = false
 has_chosen s (Some thing) p = says_yes (s.cells (Chosen (record { 0 = thing }) (of_person p)))
 
 -- The completion rule of the activity holds for the person. Without a rule there is nothing to wait
--- for. (No unit that is read has a rule of another form yet.)
+-- for. (No valid unit has a rule of another form yet.)
 abbrev pub completion_holds : Course → RunState → Activity → Option Completion → ℕ → Bool
 completion_holds unit s activity None p = true
 completion_holds unit s activity (Some UserChoice) p = has_chosen s (thing_number unit activity.identifier) p
@@ -57,8 +57,8 @@ abbrev pub has_opened : RunState → Option ℕ → Bool
 has_opened s None = false
 has_opened s (Some thing) = is_some (s.cells (ActOpened (record { 0 = thing })))
 
--- The first act of a play opens at once. (Any other opens when the act before it is done, and no act
--- has a completion rule yet.)
+-- The first act of a play opens at once. (Any other opens when the act before it is done, and in no
+-- valid unit has an act a completion rule yet.)
 abbrev pub opening_test : ℕ → Bool
 opening_test zero = true
 opening_test (suc _) = false
@@ -84,7 +84,7 @@ abbrev pub part_test_in : Course → RunState → Option Act → ℕ → Bool
 part_test_in unit s None r = false
 part_test_in unit s (Some act) r = part_test unit s act (slice_get act.role_parts r)
 
--- What the rule asks of the state, for its owner. (No unit that is read has a rule of another kind
+-- What the rule asks of the state, for its owner. (No valid unit has a rule of another kind
 -- than the first three yet.)
 abbrev pub rule_test : Course → RunState → Option Rule → Owner → Bool
 rule_test unit s None owner = false
@@ -98,6 +98,22 @@ rule_test unit s (Some (CompletesPlay _)) owner = false
 rule_test unit s (Some CompletesUnit) owner = false
 rule_test unit s (Some (JudgesCondition _)) owner = false
 
--- The test of a site: what is once marked stays so.
+-- What the rule has once said yes to stays so. Only a condition is judged anew each time.
+abbrev pub says_for_good : Option Rule → Bool
+says_for_good None = false
+says_for_good (Some (CompletesActivity _)) = true
+says_for_good (Some (CompletesStructure _)) = true
+says_for_good (Some (OpensAct _ _)) = true
+says_for_good (Some (CompletesPart _ _ _)) = true
+says_for_good (Some (CompletesAct _ _)) = true
+says_for_good (Some (CompletesPlay _)) = true
+says_for_good (Some CompletesUnit) = true
+says_for_good (Some (JudgesCondition _)) = false
+
+-- What a site's rule, if it is there, says of the site.
+abbrev pub site_test_by : Course → RunState → Site → Option Rule → Bool
+site_test_by unit s site rule = (says_for_good rule && is_marked s (Some site.rule) site.owner) || rule_test unit s rule site.owner
+
+-- The test of a site.
 abbrev pub site_test : Course → RunState → Site → Bool
-site_test unit s site = is_marked s (Some site.rule) site.owner || rule_test unit s (slice_get (rules_of unit) site.rule) site.owner
+site_test unit s site = site_test_by unit s site (slice_get (rules_of unit) site.rule)

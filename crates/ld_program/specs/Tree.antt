@@ -94,7 +94,8 @@ act_line act = record { depth = 2; word = codes "act"; identifier = act.identifi
 abbrev pub act_lines : Course → RunState → ℕ → ℕ → ℕ → Act → List TreeLine
 act_lines unit s person p a act = if has_opened s (thing_number unit act.identifier) then act_line act ∷ each_numbered (part_lines unit s person p a) act.role_parts else []
 
--- The first act that is not done. (No act has a completion rule yet, so it is the first one.)
+-- The first act that is not done. (In no valid unit has an act a completion
+-- rule yet, so it is the first one.)
 abbrev pub open_act_lines : Course → RunState → ℕ → ℕ → Option Act → List TreeLine
 open_act_lines unit s person p None = []
 open_act_lines unit s person p (Some act) = act_lines unit s person p 0 act

@@ -1,6 +1,6 @@
 //! Laws of the definitions of a run. Each function does nothing: its contract is the law, and holds
 //! of every unit, every state or history that it names, and every command.
-ghost use Rattle.std.specs.Prelude.{ℕ, ℤ, List, ◌++◌, ◌≡◌, ◌≢◌, true, false, Option, None, Some, codes};
+ghost use Rattle.std.specs.Prelude.{ℕ, ℤ, List, ◌++◌, ◌≡◌, ◌≢◌, true, false, Option, None, Some, codes, slice_get};
 ghost use Rattle.ld_base.specs.declared.numbers.RuleNo.{RuleNo};
 ghost use Rattle.ld_base.specs.declared.numbers.ThingNo.{ThingNo};
 ghost use Rattle.ld_lines.specs.declared.command.Line.{Line};
@@ -9,6 +9,7 @@ ghost use Rattle.ld_lines.specs.declared.command.RunCommand.TheVariants as verb;
 ghost use Rattle.ld_model.specs.State.{RunState};
 ghost use Rattle.ld_model.specs.Identifiers.{HasDistinctIdentifiers};
 ghost use Rattle.ld_model.specs.Names.{thing_number};
+ghost use Rattle.ld_model.specs.Rules.{rules_of};
 ghost use Rattle.ld_model.specs.declared.cell.CellName.TheVariants as cell;
 ghost use Rattle.ld_model.specs.declared.cell.Owner.{Owner};
 ghost use Rattle.ld_model.specs.declared.method.Act.{Act};
@@ -18,13 +19,13 @@ ghost use Rattle.ld_program.specs.Answers.{Leads, no_memory_block};
 ghost use Rattle.ld_program.specs.Histories.{is_marked_yes, opened_at, Given, run_after};
 ghost use Rattle.ld_program.specs.Reply.{reply_block, reply_text};
 ghost use Rattle.ld_program.specs.Step.{Work, Reply, done, refused, is_back, is_started, step};
-ghost use Rattle.ld_program.specs.Tests.{act_at};
+ghost use Rattle.ld_program.specs.Tests.{act_at, says_for_good};
 ghost use Rattle.ld_program.specs.World.{WorldState, world_step};
 
-/// What is completed stays completed: a mark that says yes says yes after any command, at any moment,
-/// be the command done or refused.
+/// What is completed or opened stays so: the mark of a rule that is no condition, if it says yes, says
+/// yes after any command, at any moment, be the command done or refused.
 pub fn completed_stays_completed()
-    ensures { (unit : Course) (s : RunState) (moment : ℤ) (command : RunCommand) (rule : RuleNo) (owner : Owner) → is_marked_yes s rule owner ≡ true → is_marked_yes (step unit s moment command).state rule owner ≡ true }
+    ensures { (unit : Course) (s : RunState) (moment : ℤ) (command : RunCommand) (rule : RuleNo) (owner : Owner) → says_for_good (slice_get (rules_of unit) rule.0) ≡ true → is_marked_yes s rule owner ≡ true → is_marked_yes (step unit s moment command).state rule owner ≡ true }
 {}
 
 /// What is started stays started.

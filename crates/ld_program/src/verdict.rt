@@ -6,7 +6,7 @@ ghost use Rattle.ld_model.specs.declared.rule.Rule.TheVariants.{CompletesActivit
 ghost use Rattle.ld_program.specs.LookupView.{HasFewPersons};
 ghost use Rattle.ld_program.specs.PlanView.{IsPlanOf, number_in, thing_in};
 ghost use Rattle.ld_program.specs.StateView.{state_of};
-ghost use Rattle.ld_program.specs.Tests.{is_marked, has_chosen, completion_holds, activity_test, act_at, has_opened, opening_test, target_is_done, all_members_done, part_test, part_test_in, rule_test, site_test};
+ghost use Rattle.ld_program.specs.Tests.{is_marked, has_chosen, completion_holds, activity_test, act_at, has_opened, opening_test, target_is_done, all_members_done, part_test, part_test_in, rule_test, says_for_good, site_test};
 
 use crate::lookup::{activity_number, has_member, is_member_of, is_mine};
 use crate::plan::Plan;
@@ -202,11 +202,27 @@ pub fn site_test(unit: &Unit, plan: &Plan, state: &State, rule: u32, owner: Owne
     requires persons { HasFewPersons state.now }
     ensures { result ≡ site_test unit.now (state_of state.now) (record { rule = rule; owner = owner }) }
 {
-    if is_marked(state, Some(rule), owner) {
+    let Some(asked) = plan.rules.get(rule as usize) else {
+        return false;
+    };
+    if says_for_good(*asked) && is_marked(state, Some(rule), owner) {
         return true;
     }
-    match plan.rules.get(rule as usize) {
-        Some(rule) => rule_test(unit, plan, state, *rule, owner),
-        None => false,
+    rule_test(unit, plan, state, *asked, owner)
+}
+
+/// Whether what the rule has once said yes to stays so.
+fn says_for_good(rule: Rule) -> bool
+    ensures { result ≡ says_for_good (Some rule) }
+{
+    match rule {
+        Rule::CompletesActivity(_)
+        | Rule::CompletesStructure(_)
+        | Rule::OpensAct(_, _)
+        | Rule::CompletesPart(_, _, _)
+        | Rule::CompletesAct(_, _)
+        | Rule::CompletesPlay(_)
+        | Rule::CompletesUnit => true,
+        Rule::JudgesCondition(_) => false,
     }
 }
