@@ -13,7 +13,6 @@ pub enum ActivityKind {
 }
 
 /// Something that a person does.
-#[derive(Drop)]
 pub struct Activity {
     pub identifier: Id,
     pub kind: ActivityKind,
@@ -30,6 +29,25 @@ pub struct Activity {
     pub on_completion: Option<OnCompletion>,
 }
 
+// By hand, so that a function which lets one go calls this and is not proved over each field anew.
+impl Drop for Activity {
+    fn drop(self) {
+        let Self {
+            identifier: _,
+            kind: _,
+            title: _,
+            visible: _,
+            learning_objectives: _,
+            prerequisites: _,
+            supports: _,
+            environments: _,
+            items: _,
+            complete: _,
+            on_completion: _,
+        } = self;
+    }
+}
+
 /// Activities in document order.
 pub type ActivityList = Items<Activity>;
 
@@ -41,7 +59,6 @@ pub enum StructureKind {
 }
 
 /// A structure of activities and of further structures.
-#[derive(Drop)]
 pub struct Structure {
     pub identifier: Id,
     pub kind: StructureKind,
@@ -52,6 +69,21 @@ pub struct Structure {
     pub number_to_select: Option<u32>,
     pub environments: ReferenceList,
     pub children: ReferenceList,
+}
+
+// By hand, so that a function which lets one go calls this and is not proved over each field anew.
+impl Drop for Structure {
+    fn drop(self) {
+        let Self {
+            identifier: _,
+            kind: _,
+            title: _,
+            visible: _,
+            number_to_select: _,
+            environments: _,
+            children: _,
+        } = self;
+    }
 }
 
 /// Structures in document order.

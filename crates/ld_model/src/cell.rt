@@ -2,7 +2,7 @@
 use ld_base::numbers::{PersonNo, PropNo, RoleNo, RuleNo, ThingNo};
 
 /// Whose a cell or a rule is: the run's, or one person's.
-#[derive(Clone, Copy, Debug, PartialEq, Eq, PartialOrd, Ord, Hash)]
+#[derive(Clone, Copy, PartialEq, Eq, PartialOrd, Ord)]
 pub enum Owner {
     Run,
     Person(PersonNo),
@@ -10,7 +10,7 @@ pub enum Owner {
 
 /// The name of a cell (docs/MEANING.md, "The state of a run"). The owner in `Chosen` and `Opened` is
 /// a person.
-#[derive(Clone, Copy, Debug, PartialEq, Eq, PartialOrd, Ord, Hash)]
+#[derive(Clone, Copy, PartialEq, Eq, PartialOrd, Ord)]
 pub enum CellName {
     /// The value of a property.
     Prop(PropNo, Owner),

@@ -5,7 +5,6 @@ use ld_base::items::Items;
 use ld_base::plain_text::PlainText;
 
 /// Learning objects and services, and references to further environments.
-#[derive(Drop)]
 pub struct Environment {
     pub identifier: Id,
     pub title: Option<PlainText>,
@@ -14,6 +13,20 @@ pub struct Environment {
     pub learning_objects: LearningObjectList,
     pub services: ServiceList,
     pub environments: ReferenceList,
+}
+
+// By hand, so that a function which lets one go calls this and is not proved over each field anew.
+impl Drop for Environment {
+    fn drop(self) {
+        let Self {
+            identifier: _,
+            title: _,
+            visible: _,
+            learning_objects: _,
+            services: _,
+            environments: _,
+        } = self;
+    }
 }
 
 /// Environments in document order.

@@ -45,7 +45,6 @@ pub enum Named {
 
 /// The names of a unit: what its identifiers name, both ways. Roles, properties and things are each
 /// numbered from 0 in document order. (docs/MEANING.md, "Names and things")
-#[derive(Drop)]
 pub struct Names {
     /// The unit's own identifier, and then those of the roles, the properties and the things.
     identifiers: IndexSet<Id>,
@@ -55,6 +54,20 @@ pub struct Names {
     /// The number of the rule that completes each thing.
     rules: Vec<Option<u32>>,
     unit_rule: Option<u32>,
+}
+
+// By hand, so that a function which lets one go calls this and is not proved over each field anew.
+impl Drop for Names {
+    fn drop(self) {
+        let Self {
+            identifiers: _,
+            roles: _,
+            properties: _,
+            places: _,
+            rules: _,
+            unit_rule: _,
+        } = self;
+    }
 }
 
 impl Model for Names {

@@ -27,7 +27,6 @@ pub struct Restrictions {
 }
 
 /// A property.
-#[derive(Drop)]
 pub struct Property {
     pub identifier: Id,
     pub kind: PropertyKind,
@@ -40,6 +39,22 @@ pub struct Property {
     /// The text of the value at first.
     pub initial: Option<PlainText>,
     pub restrictions: Option<Restrictions>,
+}
+
+// By hand, so that a function which lets one go calls this and is not proved over each field anew.
+impl Drop for Property {
+    fn drop(self) {
+        let Self {
+            identifier: _,
+            kind: _,
+            datatype: _,
+            title: _,
+            role: _,
+            uri: _,
+            initial: _,
+            restrictions: _,
+        } = self;
+    }
 }
 
 /// Properties in document order.

@@ -19,7 +19,6 @@ pub enum Level {
 }
 
 /// A unit of learning: what stands in its documents.
-#[derive(Drop)]
 pub struct Unit {
     /// The number of the format of the documents.
     pub format: u32,
@@ -40,12 +39,47 @@ pub struct Unit {
     pub conditions: ConditionList,
 }
 
+// By hand, so that a function which lets one go calls this and is not proved over each field anew.
+impl Drop for Unit {
+    fn drop(self) {
+        let Self {
+            format: _,
+            identifier: _,
+            level: _,
+            title: _,
+            turns: _,
+            metadata: _,
+            learning_objectives: _,
+            prerequisites: _,
+            roles: _,
+            properties: _,
+            environments: _,
+            activities: _,
+            structures: _,
+            method: _,
+            conditions: _,
+        } = self;
+    }
+}
+
 /// What stands in the documents of roles, properties, environments and activities.
-#[derive(Drop)]
 pub struct Parts {
     pub roles: RoleList,
     pub properties: PropertyList,
     pub environments: EnvironmentList,
     pub activities: ActivityList,
     pub structures: StructureList,
+}
+
+// By hand, so that a function which lets one go calls this and is not proved over each field anew.
+impl Drop for Parts {
+    fn drop(self) {
+        let Self {
+            roles: _,
+            properties: _,
+            environments: _,
+            activities: _,
+            structures: _,
+        } = self;
+    }
 }
