@@ -21,6 +21,19 @@ GRAPHS = {
     "two of one": ([[1], [1], [2]], 1),
     "behind a diamond": ([[1, 2], [3], [3], [4], [5], [4]], 4),
     "that comes back late": ([[1], [2, 3], [], [1]], 1),
+    "of the third alone": ([[1], [2], [2, 3], [4], [5], []], 2),
+    "of the last alone": ([[1], [2], [3], [4], [5], [5]], 5),
+    "of the first alone": ([[0, 1], [2], [3], [4], [5], []], 0),
+    "of the first two": ([[1], [0, 2], [3], [4], [5], []], 0),
+    "of two in the middle": ([[1], [2], [3], [2, 4], [5], []], 2),
+    "of the last two": ([[1], [2], [3], [4], [5], [4]], 4),
+    "of the first five": ([[4], [3], [1], [0, 5], [2], [6], []], 0),
+    "of five in the middle": ([[1], [4], [5], [1, 6], [2], [3], []], 1),
+    "of the last five": ([[1], [6], [6], [5], [3], [2], [4]], 2),
+    "two, a chain between them": ([[1], [2], [6], [4], [3, 0], [6], [5]], 3),
+    "none, one node": ([[]], None),
+    "none, no ways": ([[], [], []], None),
+    "none, two ways to one node": ([[1, 2, 3], [3], [3], []], None),
     "none, a chain": ([[1], [2], [3], []], None),
     "none, a chain turned round": ([[], [0], [1], [2]], None),
     "none, a diamond": ([[1, 2], [3], [3], []], None),
@@ -94,6 +107,7 @@ def long_graphs():
         "a chain to a ring of two": (chain + [[last - 1]], last - 1),
         "all to the last ring": ([[last] for _ in range(MANY)], last),
         "rings of two": ([[n ^ 1] for n in range(MANY)], 0),
+        "a chain between two rings": (chain[:-2] + [[last - 3], [last, 0], [last - 1]], last - 3),
         "a chain": (chain + [[]], None),
         "a chain turned round": ([[]] + [[n] for n in range(last)], None),
     }
@@ -119,6 +133,21 @@ def many():
         yield f"many structures, {title}", fault, folder(structures=few(ways, "s"))
 
 
+def drawn():
+    """Graphs by chance of tens of thousands of nodes, with few ways and with many."""
+    dice = random.Random(700_000)
+    for nodes, count in [(MANY, 20_000), (MANY, 60_000), (20_000, 280_000)]:
+        ways = [set() for _ in range(nodes)]
+        for _ in range(count):
+            ways[dice.randrange(nodes)].add(dice.randrange(nodes))
+        ways = [sorted(leads) for leads in ways]
+        first = first_on_cycle(ways)
+        fault = "environments.json /environments/400 too-many"
+        if first is not None:
+            fault = f"environments.json /environments/{first} cycle"
+        yield f"{count} ways among {nodes}", fault, folder(environments=few(ways, "e"))
+
+
 def dense():
     """Hundreds of nodes with ways to all others."""
     forward = [list(range(n + 1, 380)) for n in range(380)]
@@ -127,6 +156,11 @@ def dense():
         structures=few(forward[:-1] + [[0]], "s"))
     yield "hundreds to all", "environments.json /environments/0 cycle", folder(
         environments=few([list(range(600)) for _ in range(600)], "e"))
+    backward = [list(range(n)) for n in range(380)]
+    yield "hundreds to all before", "environments.json /environments/0 not-in-profile", folder(
+        environments=few(backward, "e"))
+    yield "hundreds to all before and one way back", "environments.json /environments/220 cycle", folder(
+        environments=few([*backward[:220], backward[220] + [350], *backward[221:]], "e"))
     yield "hundreds to all behind and a ring of one", "environments.json /environments/379 cycle", folder(
         environments=few(forward[:-1] + [[379]], "e"))
 
@@ -148,5 +182,6 @@ def cases():
     yield from chance()
     yield from mixed()
     yield from many()
+    yield from drawn()
     yield from dense()
     yield from long_lists()

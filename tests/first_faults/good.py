@@ -6,11 +6,11 @@ from units import activity, act, folder, item, one_act, part, play, role
 LIMIT = 4_194_304
 
 
-def padded(length):
-    """The documents of the least unit, whose own file has so many bytes."""
+def padded(length, name="unit.json"):
+    """The documents of the least unit, whose file of this name has so many bytes."""
     documents = folder()
-    text = json.dumps(documents["unit.json"]).encode()
-    documents["unit.json"] = text + b" " * (length - len(text))
+    text = json.dumps(documents[name]).encode()
+    documents[name] = text + b" " * (length - len(text))
     return documents
 
 
@@ -95,11 +95,15 @@ def goods():
     yield "a member twice", members_twice()
     yield "members in another order", backwards()
     yield "a file of the greatest size", padded(LIMIT)
+    yield "another file of the greatest size", padded(LIMIT, "activities.json")
 
 
 def shapes():
     """One beyond each end: faults of shape."""
     yield "a file that is too big", "unit.json . too-big", padded(LIMIT + 1)
+    yield "another file that is too big", "activities.json . too-big", padded(LIMIT + 1, "activities.json")
+    yield "a file that is too big behind one that is cut", "activities.json . too-big", {
+        **padded(LIMIT + 1, "activities.json"), "roles.json": b"["}
     yield "too long an identifier", "activities.json /activities/0/identifier wrong-shape", renamed("a" * 65)
     yield "an empty title", "unit.json /title wrong-shape", folder(title="")
     yield "too long a title", "unit.json /title wrong-shape", folder(title="t" * 257)

@@ -1,5 +1,5 @@
 """The order of the steps and of the checks: an earlier one is told though it stands later."""
-from units import (activities, activity, environments_of, folder, follows, item, items, named, one_act, part, parts,
+from units import (act, activities, activity, environments_of, folder, follows, item, items, named, one_act, part, parts,
                    play, role, service, sized, structure, structures_of)
 
 BIG = b" " * 4_194_305
@@ -43,6 +43,24 @@ def files():
     yield "cut after its first byte", "activities.json . not-json", folder(files={"activities.json": b"{"})
     yield "two documents in one", "unit.json . not-json", folder(files={"unit.json": b"{}{}"})
     yield "not UTF-8", "unit.json . not-json", folder(files={"unit.json": b'{"title":"\xff"}'})
+
+
+def broken_folders():
+    """Several documents with a fault each."""
+    yield "the second is not there, others cannot be read", "activities.json . absent", folder(
+        files={"roles.json": b"[", "activities.json": None, "unit.json": b""})
+    yield "an early one is not UTF-8, a late one is cut", "properties.json . not-json", folder(
+        files={"unit.json": b"[", "properties.json": b"\xff"})
+    yield "no roles, and the last one is cut", "conditions.json . not-json", folder(
+        files={"roles.json": {}, "conditions.json": b"["})
+    yield "no roles, and a list in place of the unit", "roles.json /roles missing", folder(
+        files={"roles.json": {}, "unit.json": LIST})
+    yield "a number in place of a list", "environments.json /environments wrong-shape", folder(
+        files={"environments.json": {"environments": 1}})
+    yield "a member of the unit that there is not", "unit.json . unknown-member", folder(tittle="U")
+    yield "a role that there is not", f"{METHOD}{ACT}/role-parts/0/role unknown-ref", folder(
+        plays=one_act([part(role="lerner")]))
+    yield "an act named as its play", f"{METHOD}{ACT} repeated-id", folder(plays=[play(acts=[act("p")])])
 
 
 def shapes():
@@ -138,6 +156,7 @@ def limits():
 
 def cases():
     yield from files()
+    yield from broken_folders()
     yield from shapes()
     yield from checks()
     yield from later_checks()

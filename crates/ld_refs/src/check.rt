@@ -25,11 +25,21 @@ use std::marker::Model;
 
 /// A valid unit: each member has its form, and no check finds a fault in it. Beside it stand its names
 /// and the number of its rules.
-#[derive(Drop)]
 pub struct Checked {
     unit: Unit,
     names: Names,
     rules: u32,
+}
+
+// By hand, so that a function which lets one go calls this and is not proved over each field anew.
+impl Drop for Checked {
+    fn drop(self) {
+        let Self {
+            unit: _,
+            names: _,
+            rules: _,
+        } = self;
+    }
 }
 
 impl Model for Checked {
@@ -90,7 +100,11 @@ impl Checked {
         ensures valid { IsValid result.0 }
         ensures distinct { HasDistinctIdentifiers result.0 }
     {
-        let Checked { unit, names, .. } = self;
+        let Checked {
+            unit,
+            names,
+            rules: _,
+        } = self;
         (unit, names)
     }
 }

@@ -10,8 +10,6 @@ ghost use Rattle.ld_refs.specs.Graphs.{first_on_cycle, next_of};
 mod by_search;
 mod labels;
 mod levels;
-#[cfg(test)]
-mod tests;
 mod way_back;
 
 use by_search::first_on_cycle_by_search;

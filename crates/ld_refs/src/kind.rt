@@ -5,7 +5,7 @@ ghost use Rattle.ld_refs.specs.Kinds.{allows};
 use ld_model::names::Place;
 
 /// What an identifier names: the unit, a role, a property, or a thing by its place.
-#[derive(Clone, Copy, Debug, PartialEq, Eq)]
+#[derive(Clone, Copy, PartialEq, Eq)]
 pub(crate) enum Kind {
     Unit,
     Role,
@@ -14,7 +14,7 @@ pub(crate) enum Kind {
 }
 
 /// What a reference has to name.
-#[derive(Clone, Copy, Debug, PartialEq, Eq)]
+#[derive(Clone, Copy, PartialEq, Eq)]
 pub(crate) enum Wanted {
     Role,
     Environment,

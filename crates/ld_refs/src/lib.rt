@@ -13,5 +13,3 @@ pub mod position;
 pub mod sizes;
 pub mod spot;
 pub mod spots;
-#[cfg(test)]
-mod tests;

@@ -72,6 +72,3 @@ fn size_in(sizes: &[u64], node: usize) -> u64
         None => 0,
     }
 }
-
-#[cfg(test)]
-mod tests;

@@ -20,10 +20,19 @@ use std::alloc::Global;
 
 /// What environments and structures lead to by their references: for each of them, the numbers of
 /// those, as often as it refers to them.
-#[derive(Drop)]
 pub(crate) struct Graphs {
     pub(crate) environments: Vec<Vec<usize>>,
     pub(crate) structures: Vec<Vec<usize>>,
+}
+
+// By hand, so that a function which lets one go calls this and is not proved over each field anew.
+impl Drop for Graphs {
+    fn drop(self) {
+        let Self {
+            environments: _,
+            structures: _,
+        } = self;
+    }
 }
 
 /// That no environment reaches itself and no structure does. It gives the graphs for checks that

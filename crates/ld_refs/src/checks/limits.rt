@@ -20,7 +20,7 @@ use ld_model::unit::Unit;
 use std::alloc::Global;
 
 /// What is counted together.
-#[derive(Clone, Copy, Debug, PartialEq, Eq)]
+#[derive(Clone, Copy, PartialEq, Eq)]
 pub(crate) enum Counted {
     Roles,
     Properties,

@@ -7,10 +7,19 @@ use crate::sizes::GREATEST;
 use ld_base::id::Id;
 
 /// The things of these identifiers have these sizes, in their order.
-#[derive(Drop)]
 pub(crate) struct Table<'a> {
     pub(crate) ids: Index<'a>,
     pub(crate) sizes: Vec<u64>,
+}
+
+// By hand, so that a function which lets one go calls this and is not proved over each field anew.
+impl<'a> Drop for Table<'a> {
+    fn drop(self) {
+        let Self {
+            ids: _,
+            sizes: _,
+        } = self;
+    }
 }
 
 impl<'a> Table<'a> {

@@ -1,0 +1,62 @@
+-- The numbers and words of the endings of a call.
+use Rattle.std.specs.Prelude.{ℕ, List, codes, [], ◌∷◌, IsTrue, ◌==◌}
+use Rattle.std.specs.List.{list_any}
+use Rattle.ld_top.specs.declared.ending.Ending.{Ending}
+use Rattle.ld_top.specs.declared.ending.Ending.TheVariants.{Done, BadWords, ShelfFault, UnitRefused, ReadFault, WriteFault, NoMemory, InputTooLong}
+
+abbrev pub number_of : Ending → ℕ
+number_of Done = 0
+number_of BadWords = 2
+number_of ShelfFault = 3
+number_of UnitRefused = 4
+number_of ReadFault = 5
+number_of WriteFault = 6
+number_of NoMemory = 7
+number_of InputTooLong = 8
+
+abbrev pub word_of : Ending → List ℕ
+word_of Done = []
+word_of BadWords = codes "bad-words"
+word_of ShelfFault = codes "shelf-fault"
+word_of UnitRefused = codes "unit-refused"
+word_of ReadFault = codes "read-fault"
+word_of WriteFault = codes "write-fault"
+word_of NoMemory = codes "no-memory"
+word_of InputTooLong = codes "input-too-long"
+
+abbrev pub IsOneOf : List ℕ → ℕ → Type 0
+IsOneOf numbers n = IsTrue (list_any (λ m. m == n) numbers)
+
+-- The numbers that a call can end with.
+abbrev pub IsStatus : ℕ → Type 0
+IsStatus = IsOneOf (0 ∷ 2 ∷ 3 ∷ 4 ∷ 5 ∷ 6 ∷ 7 ∷ 8 ∷ [])
+
+-- With these numbers nothing was written.
+abbrev pub NothingWritten : ℕ → Type 0
+NothingWritten = IsOneOf (2 ∷ 3 ∷ 7 ∷ [])
+
+-- With these numbers nothing was taken from the source.
+abbrev pub NothingTaken : ℕ → Type 0
+NothingTaken = IsOneOf (2 ∷ 3 ∷ 4 ∷ 7 ∷ [])
+
+-- How a refusal of the folder can end.
+abbrev pub IsRefusalEnding : Ending → Type 0
+IsRefusalEnding Done = ⊥
+IsRefusalEnding BadWords = ⊥
+IsRefusalEnding ShelfFault = ⊥
+IsRefusalEnding UnitRefused = Unit {0}
+IsRefusalEnding ReadFault = ⊥
+IsRefusalEnding WriteFault = Unit {0}
+IsRefusalEnding NoMemory = Unit {0}
+IsRefusalEnding InputTooLong = ⊥
+
+-- How a replay can end.
+abbrev pub IsReplayEnding : Ending → Type 0
+IsReplayEnding Done = Unit {0}
+IsReplayEnding BadWords = ⊥
+IsReplayEnding ShelfFault = ⊥
+IsReplayEnding UnitRefused = ⊥
+IsReplayEnding ReadFault = Unit {0}
+IsReplayEnding WriteFault = Unit {0}
+IsReplayEnding NoMemory = Unit {0}
+IsReplayEnding InputTooLong = Unit {0}

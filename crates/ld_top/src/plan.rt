@@ -1,0 +1,60 @@
+//! The plan of a unit: its names and its rules, made once and used by all its runs.
+ghost use Rattle.std.specs.Prelude.{◌≡◌, ◌<◌, ◌^◌, length, IfOk};
+ghost use Rattle.ld_model.specs.Names.{names_of};
+ghost use Rattle.ld_top.specs.PlanView.{IsPlanOf, role_in, thing_in, number_in};
+
+use ld_base::id::Id;
+use ld_base::memory::NoMemory;
+use ld_base::numbers::number;
+use ld_model::names::{Named, Names};
+use ld_model::rule::{Rule, list_rules, number_of_rule};
+use ld_model::unit::Unit;
+use std::alloc::Global;
+
+/// The names and the rules of a unit. The number of a rule is its place in the list.
+#[derive(Drop)]
+pub struct Plan {
+    pub names: Names,
+    pub rules: Vec<Rule>,
+}
+
+impl Plan {
+    /// The plan of the unit, whose names these are.
+    pub fn of(alloc: Global, unit: &Unit, names: Names) -> Result<Plan, NoMemory>
+        requires { names ≡ names_of unit.now }
+        ensures { IfOk result (IsPlanOf unit.now) }
+    {
+        let rules = list_rules(alloc, unit)?;
+        number(rules.len())?;
+        number(unit.activities.len())?;
+        Ok(Plan { names, rules })
+    }
+
+    /// The number of the role of this identifier.
+    pub fn role_number(&self, id: &Id) -> Option<u32>
+        ensures { result ≡ role_in self.now id.now }
+    {
+        match self.names.number(id)? {
+            Named::Role(role) => Some(role.0),
+            _ => None,
+        }
+    }
+
+    /// The number of the thing of this identifier.
+    pub fn thing_number(&self, id: &Id) -> Option<u32>
+        ensures { result ≡ thing_in self.now id.now }
+    {
+        match self.names.number(id)? {
+            Named::Thing(thing) => Some(thing.0),
+            _ => None,
+        }
+    }
+
+    /// The number of the rule.
+    pub fn rule_number(&self, rule: Rule) -> Option<u32>
+        requires { length self.now.rules.items < 2 ^ 32 }
+        ensures { result ≡ number_in self.now rule }
+    {
+        number_of_rule(&self.rules, rule)
+    }
+}

@@ -1,0 +1,89 @@
+//! The files of a folder.
+ghost use Rattle.std.specs.Prelude.{◌≡◌, ◌≤◌, [], true, IfOk, OnOk, IfErr, IsSome, map};
+ghost use Rattle.ld_base.specs.Outside.{Rose};
+ghost use Rattle.ld_top.specs.Folder.{all_files, held_in, is_required, presence_fault, presence_faults};
+ghost use Rattle.ld_top.specs.InFolder.{WhereTold};
+ghost use Rattle.ld_top.specs.Reading.{HasRequiredFiles, StopsAtFirst, held_by};
+
+use crate::reader::stop::{FolderStop, fault_of_file};
+use ld_base::bytes::Bytes;
+use ld_base::items::Items;
+use ld_base::shelf::{Shelf, ShelfRefusal};
+use ld_json::code::Code;
+use ld_json::file::FileNo;
+use std::alloc::Global;
+
+/// The bytes of the six files of the folder, in their order; None where one is not there.
+///
+/// # Errors
+/// The first file that is too big or is wanting, `ShelfFault` only where the shelf's count of faults
+/// rose, and `NoMemory`. The files behind that are not asked for.
+#[tactic(auto, unfolding(crate::specs::Folder::presence_faults), using(ld_json::proofs::First::first_of_both))]
+pub(super) fn read_files<H: Shelf>(
+    alloc: Global,
+    shelf: &mut H,
+    folder: &str,
+) -> Result<[Option<Bytes>; 6], FolderStop>
+    ensures there { IfOk result (λ read. HasRequiredFiles (held_by read)) }
+    ensures read { IfOk result (λ read. WhereTold (H.files shelf.old) (λ files. read ≡ map (held_in files folder.now) all_files)) }
+    ensures faultless { OnOk result (WhereTold (H.files shelf.old) (λ files. presence_faults (held_in files folder.now) ≡ [])) }
+    ensures first { IfErr result (λ stop. WhereTold (H.files shelf.old) (λ files. StopsAtFirst (presence_faults (held_in files folder.now)) stop)) }
+    ensures fault { result ≡ Err FolderStop.ShelfFault → Rose (H.faults shelf.old) (H.faults shelf.new) }
+    ensures counts { H.faults shelf.old ≤ H.faults shelf.new }
+    ensures same { H.files shelf.new ≡ H.files shelf.old }
+{
+    let roles = file_in(alloc, shelf, folder, FileNo::Roles)?;
+    let properties = file_in(alloc, shelf, folder, FileNo::Properties)?;
+    let environments = file_in(alloc, shelf, folder, FileNo::Environments)?;
+    let activities = file_in(alloc, shelf, folder, FileNo::Activities)?;
+    let unit = file_in(alloc, shelf, folder, FileNo::Unit)?;
+    let conditions = file_in(alloc, shelf, folder, FileNo::Conditions)?;
+    Ok([
+        roles,
+        properties,
+        environments,
+        activities,
+        unit,
+        conditions,
+    ])
+}
+
+/// The bytes of the file; None where it is not there and need not be.
+fn file_in<H: Shelf>(
+    alloc: Global,
+    shelf: &mut H,
+    folder: &str,
+    file: FileNo,
+) -> Result<Option<Bytes>, FolderStop>
+    ensures there { IfOk result (λ read. is_required file ≡ true → IsSome read) }
+    ensures read { IfOk result (λ read. WhereTold (H.files shelf.old) (λ files. read ≡ held_in files folder.now file)) }
+    ensures faultless { OnOk result (WhereTold (H.files shelf.old) (λ files. presence_fault file (held_in files folder.now file) ≡ [])) }
+    ensures first { IfErr result (λ stop. WhereTold (H.files shelf.old) (λ files. StopsAtFirst (presence_fault file (held_in files folder.now file)) stop)) }
+    ensures fault { result ≡ Err FolderStop.ShelfFault → Rose (H.faults shelf.old) (H.faults shelf.new) }
+    ensures counts { H.faults shelf.old ≤ H.faults shelf.new }
+    ensures same { H.files shelf.new ≡ H.files shelf.old }
+{
+    match shelf.read(alloc, folder, file.name()) {
+        Ok(Some(bytes)) => return Ok(Some(Items::from_vec(bytes))),
+        Ok(None) => {}
+        Err(ShelfRefusal::TooBig) => {
+            return Err(FolderStop::Refused(fault_of_file(alloc, file, Code::TooBig)));
+        }
+        Err(ShelfRefusal::Failed) => return Err(FolderStop::ShelfFault),
+        Err(ShelfRefusal::NoMemory) => return Err(FolderStop::NoMemory),
+    }
+    if is_required(file) {
+        return Err(FolderStop::Refused(fault_of_file(alloc, file, Code::Absent)));
+    }
+    Ok(None)
+}
+
+/// Whether each unit has this file.
+fn is_required(file: FileNo) -> bool
+    ensures { result ≡ is_required file }
+{
+    match file {
+        FileNo::Roles | FileNo::Activities | FileNo::Unit => true,
+        FileNo::Properties | FileNo::Environments | FileNo::Conditions => false,
+    }
+}

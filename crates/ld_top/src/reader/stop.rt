@@ -1,0 +1,32 @@
+//! Why a folder was not read to its end.
+ghost use Rattle.std.specs.Prelude.{◌≡◌};
+ghost use Rattle.ld_json.specs.Fault.{told_by};
+ghost use Rattle.ld_top.specs.Folder.{file_fault};
+
+use ld_base::text::Text;
+use ld_json::code::Code;
+use ld_json::fault::Fault;
+use ld_json::file::FileNo;
+use std::alloc::Global;
+
+/// Why a folder has given no unit.
+#[derive(Debug, Drop)]
+pub enum FolderStop {
+    /// The shelf failed.
+    ShelfFault,
+    /// This is the folder's first fault.
+    Refused(Fault),
+    /// Memory is wanting.
+    NoMemory,
+}
+
+/// The fault of this code of a whole file. It takes no memory.
+pub(super) fn fault_of_file(alloc: Global, file: FileNo, code: Code) -> Fault
+    ensures { told_by result ≡ file_fault code file }
+{
+    Fault {
+        file,
+        place: Text::new(alloc),
+        code,
+    }
+}
