@@ -1,5 +1,6 @@
 pub mod Commands
-pub mod Gives
+pub mod Words
+pub mod Elements
 pub mod Refusals
 pub mod Lines
 pub mod Window

@@ -75,5 +75,3 @@ impl Lines {
     }
 }
 
-#[cfg(test)]
-mod tests;

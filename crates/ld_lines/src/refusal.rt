@@ -37,5 +37,3 @@ pub fn refusal_word(number: u8) -> &'static str
     }
 }
 
-#[cfg(test)]
-mod tests;
