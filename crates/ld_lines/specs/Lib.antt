@@ -9,3 +9,4 @@ pub mod Answer
 pub mod Handed
 pub mod Cutting
 pub mod Next
+pub mod Loan

@@ -6,17 +6,31 @@ use ld_base::plain_text::PlainText;
 #[derive(Drop)]
 pub enum RunCommand {
     /// The person joins the run.
-    Enrol { person: Id },
+    Enrol {
+        person: Id,
+    },
     /// The person holds the role from now on.
-    Assign { person: Id, role: Id },
+    Assign {
+        person: Id,
+        role: Id,
+    },
     /// The person holds the role no longer.
-    Drop { person: Id, role: Id },
+    Drop {
+        person: Id,
+        role: Id,
+    },
     /// The run starts.
     Start,
     /// The person opens the activity.
-    Open { person: Id, activity: Id },
+    Open {
+        person: Id,
+        activity: Id,
+    },
     /// The person says that the activity is completed.
-    Complete { person: Id, activity: Id },
+    Complete {
+        person: Id,
+        activity: Id,
+    },
     /// The person gives the property the value that the text has.
     Set {
         person: Id,
@@ -24,13 +38,23 @@ pub enum RunCommand {
         value: PlainText,
     },
     /// The person takes the property's value away.
-    Clear { person: Id, property: Id },
+    Clear {
+        person: Id,
+        property: Id,
+    },
     /// The person asks for the property's value.
-    Get { person: Id, property: Id },
+    Get {
+        person: Id,
+        property: Id,
+    },
     /// The person's activity tree is asked for.
-    Tree { person: Id },
+    Tree {
+        person: Id,
+    },
     /// The notices to the person are asked for.
-    Outbox { person: Id },
+    Outbox {
+        person: Id,
+    },
     /// The state of the run is asked for.
     Report,
     /// Time passes.

@@ -1,17 +1,9 @@
 //! Reading command lines.
-#![tactic(
-    auto,
-    unfolding(
-        crate::specs::Commands::command_of_verb,
-        crate::specs::Commands::line_of_verb,
-        crate::specs::Commands::command_of
-    ),
-    using(ld_json::proofs::Json::tree_read, ld_json::proofs::Json::no_tree)
-)]
-ghost use Rattle.std.specs.Prelude.{◌≡◌, option_map, Some, None, IfOk, Err};
-ghost use Rattle.serde_json.specs.View.{view};
+#![tactic(auto, unfolding(crate::specs::Commands::command_of_verb, crate::specs::Commands::line_of_verb, crate::specs::Commands::command_of), using(ld_json::proofs::Json::tree_read, ld_json::proofs::Json::no_tree))]
+
+ghost use Rattle.std.specs.Prelude.{◌≡◌, Some, None, IfOk, Err};
 ghost use Rattle.ld_lines.specs.Commands.{array_of, command_of, command_of_verb, line_of_verb, line_in};
-ghost use Rattle.ld_lines.specs.Elements.{left_of};
+ghost use Rattle.ld_lines.specs.Elements.{left_of, Reads};
 
 use crate::command::RunCommand;
 use crate::fault::LineFault;
@@ -58,7 +50,7 @@ fn read_line(words: &mut Words) -> Option<Line>
 
 /// The line of a verb with the words that it takes.
 fn read_verb(moment: Moment, verb: &str, words: &mut Words) -> Option<Line>
-    ensures { option_map (λ line. (line, left_of words.new)) result ≡ line_of_verb moment verb.now (left_of words.old) }
+    ensures { Reads (line_of_verb moment verb.now) words.old result words.new }
 {
     match verb {
         "create" => Some(Line::Create {
@@ -87,7 +79,7 @@ fn read_verb(moment: Moment, verb: &str, words: &mut Words) -> Option<Line>
 
 /// The command of a verb of one run, with the words behind the run's name.
 fn read_run_verb(verb: &str, words: &mut Words) -> Option<RunCommand>
-    ensures { option_map (λ command. (command, left_of words.new)) result ≡ command_of_verb verb.now (left_of words.old) }
+    ensures { Reads (command_of_verb verb.now) words.old result words.new }
 {
     match verb {
         "enrol" => Some(RunCommand::Enrol {

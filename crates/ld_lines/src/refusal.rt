@@ -36,4 +36,3 @@ pub fn refusal_word(number: u8) -> &'static str
         _ => unreachable!(),
     }
 }
-

@@ -22,7 +22,7 @@ impl Words {
     ghost use Rattle.std.specs.Prelude.{◌≡◌, option_map, string_bytes};
     ghost use Rattle.serde_json.specs.Find.{as_array};
     ghost use Rattle.serde_json.specs.View.{view};
-    ghost use Rattle.ld_lines.specs.Elements.{left_of};
+    ghost use Rattle.ld_lines.specs.Elements.{left_of, Reads};
     ghost use Rattle.ld_lines.specs.Words.{any_text, identifier, uri, person_or_none, moment, ended_with};
 
     /// The words of an array; None where the tree is another.
@@ -39,7 +39,7 @@ impl Words {
 
     /// A text.
     pub(crate) fn text(&mut self) -> Option<String>
-        ensures { option_map (λ text. (string_bytes text, left_of self.new)) result ≡ any_text (left_of self.old) }
+        ensures { Reads any_text self.old (option_map string_bytes result) self.new }
     {
         match self.rest.next() {
             Some(Value::String(text)) => Some(text),
@@ -49,21 +49,21 @@ impl Words {
 
     /// A text that is kept.
     pub(crate) fn plain_text(&mut self) -> Option<PlainText>
-        ensures { option_map (λ text. (text, left_of self.new)) result ≡ any_text (left_of self.old) }
+        ensures { Reads any_text self.old result self.new }
     {
         Some(PlainText::from_text(self.text()?))
     }
 
     /// An identifier.
     pub(crate) fn identifier(&mut self) -> Option<Id>
-        ensures { option_map (λ id. (id, left_of self.new)) result ≡ identifier (left_of self.old) }
+        ensures { Reads identifier self.old result self.new }
     {
         Id::from_text(self.text()?)
     }
 
     /// A uri.
     pub(crate) fn uri(&mut self) -> Option<PlainText>
-        ensures { option_map (λ text. (text, left_of self.new)) result ≡ uri (left_of self.old) }
+        ensures { Reads uri self.old result self.new }
     {
         let text = self.text()?;
         if !is_uri(text.as_bytes()) {
@@ -74,7 +74,7 @@ impl Words {
 
     /// A person, or none where the word is empty.
     pub(crate) fn person_or_none(&mut self) -> Option<Option<Id>>
-        ensures { option_map (λ person. (person, left_of self.new)) result ≡ person_or_none (left_of self.old) }
+        ensures { Reads person_or_none self.old result self.new }
     {
         let text = self.text()?;
         if text.is_empty() {
@@ -85,14 +85,14 @@ impl Words {
 
     /// A moment.
     pub(crate) fn moment(&mut self) -> Option<Moment>
-        ensures { option_map (λ moment. (moment, left_of self.new)) result ≡ moment (left_of self.old) }
+        ensures { Reads moment self.old result self.new }
     {
         read_moment(self.text()?.as_str())
     }
 
     /// The value, if no word is left.
     pub(crate) fn end<T: Drop>(&mut self, value: T) -> Option<T>
-        ensures { option_map (λ value. (value, left_of self.new)) result ≡ ended_with value (left_of self.old) }
+        ensures { Reads (ended_with value) self.old result self.new }
     {
         match self.rest.next() {
             Some(_) => None,
