@@ -6,6 +6,7 @@ ghost use Rattle.std.specs.Hash as fed;
 ghost use Rattle.std.specs.Cmp.Rules.{comparing, hashing};
 ghost use Rattle.std.proofs.Common.{rules};
 ghost use Rattle.ld_base.specs.Identifier.{IsIdentifier, has_identifier_form, begins_well, begins_identifier, continues_identifier};
+ghost use Rattle.ld_base.specs.Maybe.{provided};
 
 use crate::memory::NoMemory;
 use std::alloc::Global;
@@ -40,6 +41,16 @@ impl Id {
             })),
             Err(_) => unreachable!(),
         }
+    }
+
+    /// The identifier that the text is, if it is one. It takes no memory: the text is kept as it is.
+    pub fn from_text(text: String) -> Option<Id>
+        ensures { result ≡ provided (has_identifier_form (string_bytes text)) (string_bytes text) }
+    {
+        if !has_form(text.as_bytes()) {
+            return None;
+        }
+        Some(Id { text })
     }
 
     /// The identifier's text.

@@ -27,6 +27,13 @@ impl PlainText {
         Ok(PlainText { text })
     }
 
+    /// The text itself. It takes no memory.
+    pub fn from_text(text: String) -> PlainText
+        ensures { result ≡ string_bytes text }
+    {
+        PlainText { text }
+    }
+
     /// The whole text.
     pub fn as_str(&self) -> &str
         ensures bytes { result.now ≡ self.now }

@@ -70,6 +70,13 @@ impl Doc {
         Doc { tree }
     }
 
+    /// The document's tree. It takes no memory.
+    pub fn into_tree(self) -> Value
+        ensures { view result ≡ self }
+    {
+        self.tree
+    }
+
     /// The node of the whole document, as this file of a unit. It takes no memory.
     pub fn root(&self, file: FileNo) -> Node<'_>
         ensures node { result ≡ record { file = file; place = []; tree = self.now } }

@@ -1,5 +1,6 @@
 pub mod Commands
-pub mod Gives
+pub mod Words
+pub mod Elements
 pub mod Refusals
 pub mod Lines
 pub mod Window
@@ -8,3 +9,4 @@ pub mod Answer
 pub mod Handed
 pub mod Cutting
 pub mod Next
+pub mod Loan

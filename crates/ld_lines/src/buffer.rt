@@ -1,6 +1,7 @@
 //! Bytes that were taken from a source and wait in a room of fixed size.
-ghost use Rattle.std.specs.Prelude.{◌≡◌, ◌≤◌, ◌<◌, ◌+◌, ◌-◌, [], IfOk, IfSome, OnErr, length, take, drop, slice_range, vec_len};
+ghost use Rattle.std.specs.Prelude.{◌≡◌, ◌≤◌, ◌<◌, ◌+◌, ◌-◌, [], IfOk, OnErr, length, take, drop, slice_range, vec_len};
 ghost use Rattle.ld_base.specs.Outside.{Rose, piece_then};
+ghost use Rattle.ld_lines.specs.Reading.{IsEnd};
 ghost use Rattle.ld_lines.specs.Window.{Window, Fills};
 
 use ld_base::memory::NoMemory;
@@ -14,7 +15,8 @@ const TAKE_LIMIT: usize = 65_536;
 /// Room for the longest line and the bytes of one take behind it.
 const ROOM: usize = 131_072;
 
-/// Bytes in the order in which they were taken: the line that was cut off last, and those behind it.
+/// Bytes in the order in which they were taken: the line that was cut off last, and those behind
+/// it.
 #[derive(Drop)]
 pub(crate) struct Buffer {
     bytes: Vec<u8>,
@@ -27,9 +29,13 @@ pub(crate) struct Buffer {
 impl Model for Buffer {
     ghost Value = { Window };
 
-    ghost view = { λ b. record { line = slice_range b.bytes.items b.line_start b.line_end; held = slice_range b.bytes.items b.start b.end } };
+    ghost view = { λ b. record {
+      line = slice_range b.bytes.items b.line_start b.line_end;
+      held = slice_range b.bytes.items b.start b.end;
+    } };
 
-    ghost invariant = { λ b. (b.line_start ≤ b.line_end) × (b.line_end ≤ b.end) × (b.start ≤ b.end) × (b.end ≤ 131072) × (vec_len b.bytes ≡ 131072) };
+    ghost invariant = { λ b. (b.line_start ≤ b.line_end) × (b.line_end ≤ b.end) × (b.start ≤ b.end)
+        × (b.end ≤ 131072) × (vec_len b.bytes ≡ 131072) };
 }
 
 impl Buffer {
@@ -62,7 +68,7 @@ impl Buffer {
         &self.bytes[self.start..self.end]
     }
 
-    /// Cuts off the first `length` bytes as a line, and passes the byte behind them.
+    /// Cuts off the first `at` bytes as a line, and passes the byte behind them.
     pub(crate) fn cut(&mut self, at: usize)
         requires { at < length self.old.held }
         ensures line { self.new.line ≡ take at self.old.held }
@@ -106,9 +112,11 @@ impl Buffer {
         requires some { 0 < most }
         requires room { length self.old.held ≤ 65536 }
         ensures within { IfOk result (λ n. n ≤ most) }
-        ensures bytes { IfOk result (λ n. Fills self.old.held (S.left source.old) n self.new.held (S.left source.new)) }
-        ensures end { IfOk result (λ n. n ≡ 0 → IfSome (S.left source.new) (λ rest. rest ≡ [])) }
-        ensures err { OnErr result ((self.new.held ≡ self.old.held) × (S.left source.new ≡ S.left source.old)) }
+        ensures bytes { IfOk result
+            (λ n. Fills self.old.held (S.left source.old) n self.new.held (S.left source.new)) }
+        ensures end { IfOk result (λ n. n ≡ 0 → IsEnd (S.left source.new)) }
+        ensures err { OnErr result
+            ((self.new.held ≡ self.old.held) × (S.left source.new ≡ S.left source.old)) }
         ensures cause { OnErr result (Rose (S.faults source.old) (S.faults source.new)) }
         ensures counts { S.faults source.old ≤ S.faults source.new }
     {
@@ -132,7 +140,8 @@ fn make_room(bytes: &mut Vec<u8>, start: usize, end: usize) -> usize
     requires within { end ≤ 131072 }
     requires short { end - start ≤ 65536 }
     ensures room { vec_len bytes.new ≡ 131072 }
-    ensures held { slice_range bytes.new.items result (result + (end - start)) ≡ slice_range bytes.old.items start end }
+    ensures held { slice_range bytes.new.items result (result + (end - start))
+        ≡ slice_range bytes.old.items start end }
     ensures free { result + (end - start) ≤ 65536 }
 {
     if end <= ROOM - TAKE_LIMIT {
@@ -154,8 +163,9 @@ fn take_into<S: Source>(
     ensures room { vec_len bytes.new ≡ vec_len bytes.old }
     ensures front { take start bytes.new.items ≡ take start bytes.old.items }
     ensures within { IfOk result (λ n. start + n ≤ stop) }
-    ensures bytes { IfOk result (λ n. S.left source.old ≡ piece_then (slice_range bytes.new.items start (start + n)) (S.left source.new)) }
-    ensures end { IfOk result (λ n. n ≡ 0 → IfSome (S.left source.new) (λ rest. rest ≡ [])) }
+    ensures bytes { IfOk result
+        (λ n. S.left source.old ≡ piece_then (slice_range bytes.new.items start (start + n)) (S.left source.new)) }
+    ensures end { IfOk result (λ n. n ≡ 0 → IsEnd (S.left source.new)) }
     ensures err { OnErr result (S.left source.new ≡ S.left source.old) }
     ensures cause { OnErr result (Rose (S.faults source.old) (S.faults source.new)) }
     ensures counts { S.faults source.old ≤ S.faults source.new }
@@ -174,8 +184,9 @@ fn take_within<S: Source>(
     requires within { stop ≤ length bytes.old }
     ensures front { take start bytes.new ≡ take start bytes.old }
     ensures within { IfOk result (λ n. start + n ≤ stop) }
-    ensures bytes { IfOk result (λ n. S.left source.old ≡ piece_then (slice_range bytes.new start (start + n)) (S.left source.new)) }
-    ensures end { IfOk result (λ n. n ≡ 0 → IfSome (S.left source.new) (λ rest. rest ≡ [])) }
+    ensures bytes { IfOk result
+        (λ n. S.left source.old ≡ piece_then (slice_range bytes.new start (start + n)) (S.left source.new)) }
+    ensures end { IfOk result (λ n. n ≡ 0 → IsEnd (S.left source.new)) }
     ensures err { OnErr result (S.left source.new ≡ S.left source.old) }
     ensures cause { OnErr result (Rose (S.faults source.old) (S.faults source.new)) }
     ensures counts { S.faults source.old ≤ S.faults source.new }

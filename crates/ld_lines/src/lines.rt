@@ -28,14 +28,12 @@ impl Model for Lines {
 }
 
 impl Lines {
-    ghost use Rattle.std.specs.Prelude.{◌≡◌, ◌≤◌, ◌^◌, [], true, false, IfOk, ⊤};
+    ghost use Rattle.std.specs.Prelude.{◌≡◌, ◌≤◌, ◌^◌, [], true, false, IfOk};
     ghost use Rattle.std.specs.Borrow.{sem};
-    ghost use mathlib.Core.Option.{none};
-    ghost use denote.Follow.{follows_so};
     ghost use Rattle.ld_base.specs.Outside.{Rose};
     ghost use Rattle.ld_lines.specs.Answer.{HandsOut};
     ghost use Rattle.ld_lines.specs.Next.{answer_of};
-    ghost use Rattle.ld_lines.specs.contracts.lines.Lines.{the_row};
+    ghost use Rattle.ld_lines.specs.Loan.{LendsLine};
 
     /// The lines of a source of which nothing was taken. Takes all memory that they will need.
     pub fn new(alloc: Global) -> Result<Lines, NoMemory>
@@ -52,8 +50,8 @@ impl Lines {
     /// memory.
     ///
     /// The lines are of one source: each call is given the same. Once it told its end, it is not
-    /// asked again, and every further answer is `End`. The end comes only where fewer than 2^40 bytes
-    /// were taken.
+    /// asked again, and every further answer is `End`. The end comes only where fewer than 2^40
+    /// bytes were taken.
     ///
     /// # Errors
     /// `ReadFault` only where the source's count of faults rose. `InputTooLong` exactly where 2^40
@@ -61,8 +59,10 @@ impl Lines {
     /// told its end; nothing is taken from then on. After either the lines are done with: what is
     /// held of the last one may be a part of it.
     pub fn next<S: Source>(&mut self, source: &mut S) -> Result<Next<'_>, LineStop>
-        ensures* hands_out { sem 𝓛 (follows_so the_row the_row self.entry.ghost_name none (λ _ _. ⊤) (λ new. HandsOut self.old (S.left source.old) (answer_of result) new (S.left source.new))) }
-        ensures read_fault { result ≡ Err LineStop.ReadFault → Rose (S.faults source.old) (S.faults source.new) }
+        ensures* hands_out { sem 𝓛 (LendsLine self.entry
+            (λ new. HandsOut self.old (S.left source.old) (answer_of result) new (S.left source.new))) }
+        ensures read_fault { result ≡ Err LineStop.ReadFault
+            → Rose (S.faults source.old) (S.faults source.new) }
         ensures counts { S.faults source.old ≤ S.faults source.new }
         ensures after_end { self.old.ended ≡ true → source.new ≡ source.old }
         ensures after_limit { self.old.taken ≡ 2 ^ 40 → source.new ≡ source.old }
@@ -74,6 +74,3 @@ impl Lines {
         }
     }
 }
-
-#[cfg(test)]
-mod tests;

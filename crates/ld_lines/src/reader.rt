@@ -31,9 +31,13 @@ pub(crate) struct Reader {
 impl Model for Reader {
     ghost Value = { Cutting };
 
-    ghost view = { λ r. record { line = r.buffer.line; reading = record { held = r.buffer.held; taken = r.taken; ended = r.ended } } };
+    ghost view = { λ r. record {
+      line = r.buffer.line;
+      reading = record { held = r.buffer.held; taken = r.taken; ended = r.ended };
+    } };
 
-    ghost invariant = { λ r. (r.taken ≤ 2 ^ 40) × (r.ended ≡ true → r.buffer.held ≡ []) × (r.ended ≡ true → r.taken < 2 ^ 40) };
+    ghost invariant = { λ r. (r.taken ≤ 2 ^ 40) × (r.ended ≡ true → r.buffer.held ≡ [])
+        × (r.ended ≡ true → r.taken < 2 ^ 40) };
 }
 
 impl Reader {
@@ -66,13 +70,15 @@ impl Reader {
     fn fetch<S: Source>(&mut self, source: &mut S) -> Result<usize, LineStop>
         requires not_ended { self.old.reading.ended ≡ false }
         requires room { length self.old.reading.held ≤ 65536 }
-        ensures fetches { Fetches self.old.reading (S.left source.old) self.new.reading (S.left source.new) }
+        ensures fetches { Fetches self.old.reading (S.left source.old)
+            self.new.reading (S.left source.new) }
         ensures count { IfOk result (λ n. self.new.reading.taken ≡ self.old.reading.taken + n) }
         ensures end { IfOk result (λ n. n ≡ 0 → IsEnd (S.left source.new)) }
         ensures below { IfOk result (λ n. n ≡ 0 → self.new.reading.taken < 2 ^ 40) }
         ensures limit { self.new.reading.taken ≤ 2 ^ 40 }
         ensures err { OnErr result (self.new.reading ≡ self.old.reading) }
-        ensures read_fault { result ≡ Err LineStop.ReadFault → Rose (S.faults source.old) (S.faults source.new) }
+        ensures read_fault { result ≡ Err LineStop.ReadFault
+            → Rose (S.faults source.old) (S.faults source.new) }
         ensures stops { IfErr result (λ stop. StopsAt stop self.new.reading.taken) }
         ensures counts { S.faults source.old ≤ S.faults source.new }
         ensures after_limit { self.old.reading.taken ≡ 2 ^ 40 → source.new ≡ source.old }
@@ -96,8 +102,10 @@ impl Reader {
     /// # Errors
     /// As `Lines::next`.
     pub(crate) fn advance<S: Source>(&mut self, source: &mut S) -> Result<Cut, LineStop>
-        ensures hands_out { HandsOut self.old.reading (S.left source.old) (answer_of_cut self.new.line result) self.new.reading (S.left source.new) }
-        ensures read_fault { result ≡ Err LineStop.ReadFault → Rose (S.faults source.old) (S.faults source.new) }
+        ensures hands_out { HandsOut self.old.reading (S.left source.old)
+            (answer_of_cut self.new.line result) self.new.reading (S.left source.new) }
+        ensures read_fault { result ≡ Err LineStop.ReadFault
+            → Rose (S.faults source.old) (S.faults source.new) }
         ensures counts { S.faults source.old ≤ S.faults source.new }
         ensures after_end { self.old.reading.ended ≡ true → source.new ≡ source.old }
         ensures after_limit { self.old.reading.taken ≡ 2 ^ 40 → source.new ≡ source.old }
@@ -121,9 +129,11 @@ impl Reader {
     /// `ReadFault` only where the source's count of faults rose, `InputTooLong` where the limit of
     /// all bytes is reached. No line feed is among the bytes that are held and were taken then.
     fn next_piece<S: Source>(&mut self, source: &mut S) -> Result<Cut, LineStop>
-        ensures cuts { CutsOff self.old.reading (S.left source.old) (answer_of_cut self.new.line result) self.new.reading (S.left source.new) }
+        ensures cuts { CutsOff self.old.reading (S.left source.old)
+            (answer_of_cut self.new.line result) self.new.reading (S.left source.new) }
         ensures limit { self.new.reading.taken ≤ 2 ^ 40 }
-        ensures read_fault { result ≡ Err LineStop.ReadFault → Rose (S.faults source.old) (S.faults source.new) }
+        ensures read_fault { result ≡ Err LineStop.ReadFault
+            → Rose (S.faults source.old) (S.faults source.new) }
         ensures stops { IfErr result (λ stop. StopsAt stop self.new.reading.taken) }
         ensures counts { S.faults source.old ≤ S.faults source.new }
         ensures after_end { self.old.reading.ended ≡ true → source.new ≡ source.old }
@@ -155,9 +165,11 @@ impl Reader {
         requires not_ended { self.old.reading.ended ≡ false }
         requires clear { HasNoFeed self.old.reading.held }
         requires long { 65536 < length self.old.reading.held }
-        ensures cuts { CutsOff self.old.reading (S.left source.old) (answer_of_cut self.new.line result) self.new.reading (S.left source.new) }
+        ensures cuts { CutsOff self.old.reading (S.left source.old)
+            (answer_of_cut self.new.line result) self.new.reading (S.left source.new) }
         ensures limit { self.new.reading.taken ≤ 2 ^ 40 }
-        ensures read_fault { result ≡ Err LineStop.ReadFault → Rose (S.faults source.old) (S.faults source.new) }
+        ensures read_fault { result ≡ Err LineStop.ReadFault
+            → Rose (S.faults source.old) (S.faults source.new) }
         ensures stops { IfErr result (λ stop. StopsAt stop self.new.reading.taken) }
         ensures counts { S.faults source.old ≤ S.faults source.new }
         ensures after_limit { self.old.reading.taken ≡ 2 ^ 40 → source.new ≡ source.old }
@@ -180,7 +192,8 @@ impl Reader {
     fn cut_first(&mut self, at: usize) -> Cut
         requires not_ended { self.old.reading.ended ≡ false }
         requires feed { FeedAt self.old.reading.held (Some at) }
-        ensures cuts { CutsOf self.old.reading.held (answer_of_cut self.new.line (Ok result)) self.new.reading }
+        ensures cuts { CutsOf self.old.reading.held
+            (answer_of_cut self.new.line (Ok result)) self.new.reading }
         ensures taken { self.new.reading.taken ≡ self.old.reading.taken }
         ensures not_ended { self.new.reading.ended ≡ false }
     {
@@ -196,7 +209,8 @@ impl Reader {
         requires clear { HasNoFeed self.old.reading.held }
         requires room { length self.old.reading.held ≤ 65536 }
         requires below { self.old.reading.taken < 2 ^ 40 }
-        ensures cuts { CutsOf self.old.reading.held (answer_of_cut self.new.line (Ok result)) self.new.reading }
+        ensures cuts { CutsOf self.old.reading.held
+            (answer_of_cut self.new.line (Ok result)) self.new.reading }
         ensures taken { self.new.reading.taken ≡ self.old.reading.taken }
     {
         let some = self.len() > 0;

@@ -36,6 +36,3 @@ pub fn refusal_word(number: u8) -> &'static str
         _ => unreachable!(),
     }
 }
-
-#[cfg(test)]
-mod tests;

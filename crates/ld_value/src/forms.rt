@@ -15,7 +15,7 @@ pub(crate) fn is_text(text: &[u8]) -> bool
 }
 
 /// Whether the text is a uri: 1 to `MAX_TEXT` bytes that are visible ASCII.
-pub(crate) fn is_uri(text: &[u8]) -> bool
+pub fn is_uri(text: &[u8]) -> bool
     ensures { result ≡ spec_is_uri text.now }
 {
     if text.is_empty() || text.len() > MAX_TEXT {

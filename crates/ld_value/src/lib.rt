@@ -7,7 +7,7 @@ mod draft;
 pub mod duration;
 pub mod fault;
 pub mod fits;
-mod forms;
+pub mod forms;
 mod integer;
 pub mod kind;
 pub mod limits;
