@@ -10,3 +10,4 @@ pub mod Handed
 pub mod Cutting
 pub mod Next
 pub mod Loan
+pub mod LineMoment

@@ -1,9 +1,11 @@
 //! Reading command lines.
 #![tactic(auto, unfolding(crate::specs::Commands::command_of_verb, crate::specs::Commands::line_of_verb, crate::specs::Commands::command_of), using(ld_json::proofs::Json::tree_read, ld_json::proofs::Json::no_tree))]
 
-ghost use Rattle.std.specs.Prelude.{◌≡◌, Some, None, IfOk, Err};
+ghost use Rattle.std.specs.Prelude.{◌≡◌, Some, None, IfOk, IfSome, Err};
 ghost use Rattle.ld_lines.specs.Commands.{array_of, command_of, command_of_verb, line_of_verb, line_in};
 ghost use Rattle.ld_lines.specs.Elements.{left_of, Reads};
+ghost use Rattle.ld_lines.specs.LineMoment.{moment_of_line};
+ghost use Rattle.ld_value.specs.Calendar.{IsMoment};
 
 use crate::command::RunCommand;
 use crate::fault::LineFault;
@@ -21,6 +23,7 @@ use std::alloc::Global;
 pub fn read_command(alloc: Global, bytes: &[u8]) -> Result<Line, LineFault>
     ensures ok { IfOk result (λ line. command_of bytes.now ≡ Some line) }
     ensures bad { result ≡ Err LineFault.BadLine → command_of bytes.now ≡ None }
+    ensures years { IfOk result (λ line. IsMoment (moment_of_line line).0) }
 {
     let mut words = read_words(alloc, bytes)?;
     read_line(&mut words).ok_or(LineFault::BadLine)
@@ -40,7 +43,8 @@ fn read_words(alloc: Global, bytes: &[u8]) -> Result<Words, LineFault>
 
 /// The line that the words are, to the last of them.
 fn read_line(words: &mut Words) -> Option<Line>
-    ensures { result ≡ line_in (left_of words.old) }
+    ensures line { result ≡ line_in (left_of words.old) }
+    ensures years { IfSome result (λ line. IsMoment (moment_of_line line).0) }
 {
     let moment = words.moment()?;
     let verb = words.text()?;
@@ -50,7 +54,8 @@ fn read_line(words: &mut Words) -> Option<Line>
 
 /// The line of a verb with the words that it takes.
 fn read_verb(moment: Moment, verb: &str, words: &mut Words) -> Option<Line>
-    ensures { Reads (line_of_verb moment verb.now) words.old result words.new }
+    ensures reads { Reads (line_of_verb moment verb.now) words.old result words.new }
+    ensures moment { IfSome result (λ line. moment_of_line line ≡ moment) }
 {
     match verb {
         "create" => Some(Line::Create {

@@ -19,7 +19,8 @@ pub(crate) struct Words {
 }
 
 impl Words {
-    ghost use Rattle.std.specs.Prelude.{◌≡◌, option_map, string_bytes};
+    ghost use Rattle.std.specs.Prelude.{◌≡◌, option_map, string_bytes, IfSome};
+    ghost use Rattle.ld_value.specs.Calendar.{IsMoment};
     ghost use Rattle.serde_json.specs.Find.{as_array};
     ghost use Rattle.serde_json.specs.View.{view};
     ghost use Rattle.ld_lines.specs.Elements.{left_of, Reads};
@@ -85,14 +86,16 @@ impl Words {
 
     /// A moment.
     pub(crate) fn moment(&mut self) -> Option<Moment>
-        ensures { Reads moment self.old result self.new }
+        ensures reads { Reads moment self.old result self.new }
+        ensures years { IfSome result (λ m. IsMoment m.0) }
     {
         read_moment(self.text()?.as_str())
     }
 
     /// The value, if no word is left.
     pub(crate) fn end<T: Drop>(&mut self, value: T) -> Option<T>
-        ensures { Reads (ended_with value) self.old result self.new }
+        ensures reads { Reads (ended_with value) self.old result self.new }
+        ensures value { IfSome result (λ found. found ≡ value) }
     {
         match self.rest.next() {
             Some(_) => None,

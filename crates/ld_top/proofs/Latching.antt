@@ -3,8 +3,8 @@ use Rattle.std.proofs.Common.{◌≡◌, ◌+◌, ℕ, ℤ, Bool, true, false, �
 use Rattle.std.proofs.lemmas.Bool.{eqb-true}
 use Rattle.ld_base.specs.declared.numbers.RuleNo.{RuleNo}
 use Rattle.ld_base.specs.declared.numbers.ThingNo.{ThingNo}
-use Rattle.ld_lines.specs.declared.command.RunCommand.{RunCommand}
-use Rattle.ld_lines.specs.declared.command.RunCommand.TheVariants.{Enrol, Assign, Start, Complete, Tree}
+use Rattle.ld_top.specs.declared.built.BuiltCommand.{BuiltCommand}
+use Rattle.ld_top.specs.declared.built.BuiltCommand.TheVariants.{Enrol, Assign, Start, Complete, Tree}
 use Rattle.ld_model.specs.Cells.{same_cell, same_owner}
 use Rattle.ld_model.specs.Members.{person_number}
 use Rattle.ld_model.specs.Names.{role_number}
@@ -137,7 +137,7 @@ role_leaves s None role name = refl
 role_leaves s (Some p) None name = refl
 role_leaves s (Some p) (Some r) name = refl
 
-pub change_leaves : (unit : Course) (s : RunState) (moment : ℤ) (command : RunCommand) (name : CellName) → IsNoChange name → (changed unit s moment command).cells name ≡ s.cells name
+pub change_leaves : (unit : Course) (s : RunState) (moment : ℤ) (command : BuiltCommand) (name : CellName) → IsNoChange name → (changed unit s moment command).cells name ≡ s.cells name
 change_leaves unit s moment (Enrol person) name other = refl
 change_leaves unit s moment (Assign person role) name other = role_leaves s (person_number s person) (role_number unit role) name
 change_leaves unit s moment Start name other = rw other.started refl
@@ -156,5 +156,5 @@ yes_lasts unit rule owner good = record {
   changes = λ s moment command told. ap says_yes (change_leaves unit s moment command (Mark rule owner) (mark_is_no_change rule owner)) ∙ told;
 }
 
-pub stays_yes : (unit : Course) (s : RunState) (moment : ℤ) (command : RunCommand) (rule : RuleNo) (owner : Owner) → IsForGood unit rule → is_marked_yes s rule owner ≡ true → is_marked_yes (step unit s moment command).state rule owner ≡ true
+pub stays_yes : (unit : Course) (s : RunState) (moment : ℤ) (command : BuiltCommand) (rule : RuleNo) (owner : Owner) → IsForGood unit rule → is_marked_yes s rule owner ≡ true → is_marked_yes (step unit s moment command).state rule owner ≡ true
 stays_yes unit s moment command rule owner good told = step_keeps unit (IsYes rule owner) (yes_lasts unit rule owner good) s moment command told

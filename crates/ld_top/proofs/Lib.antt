@@ -18,3 +18,4 @@ pub mod Fronts
 pub mod Trees
 pub mod FolderFiles
 pub mod Refusing
+pub mod Printable

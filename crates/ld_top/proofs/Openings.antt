@@ -4,7 +4,8 @@ use Rattle.std.specs.List.{fold}
 use Rattle.std.proofs.lemmas.Bool.{eqb-true}
 use Rattle.std.proofs.Math.Bool.{or-true}
 use Rattle.std.proofs.lemmas.Cmp.{nat_eq_equiv}
-use Rattle.ld_lines.specs.declared.command.RunCommand.TheVariants.{Start}
+use Rattle.ld_value.specs.declared.moment.Moment.{Moment}
+use Rattle.ld_top.specs.declared.built.BuiltCommand.TheVariants.{Start}
 use Rattle.ld_model.specs.Cells.{same_cell}
 use Rattle.ld_model.specs.Counting.{each_numbered}
 use Rattle.ld_model.specs.Rules.{Site, rules_of, sites_of, sites_of_rule, activity_rule, structure_rule, play_rules, act_rules, condition_rule, rule_if_any}
@@ -25,8 +26,10 @@ use Rattle.ld_model.specs.declared.unit.Unit.{Unit as Course}
 use Rattle.ld_value.specs.Datum.{Datum, text_datum, truth_datum, number_datum, moment_datum, span_datum}
 use Rattle.ld_top.specs.Firing.{Tally, Settling, site_visit, site_fired, visit_with, mark_of, mark_says, effect, open_act, open_thing, sweep, settling_within, quiet_at, after_turn, tally_from}
 use Rattle.ld_top.specs.Histories.{is_marked_yes, opened_at, Given, run_after}
-use Rattle.ld_top.specs.Step.{Work, done, Outcome, step, is_started, is_back, at_moment, settled_if, finished, after_first, after_checks, first_cause, causes}
+use Rattle.ld_top.specs.Step.{Work, done, Outcome, step, is_started, is_back, last_moment, at_moment, settled_if, finished, after_first, after_checks, first_cause, causes}
 use Rattle.ld_top.specs.Tests.{site_test, site_test_by, is_marked, act_at, act_in}
+use Rattle.ld_top.specs.declared.refusal.Refusal.{Refusal}
+use Rattle.ld_top.specs.declared.refusal.Refusal.TheVariants.{MomentBack, StartedAlready}
 use Rattle.ld_top.proofs.Kept.{VisitsKeep, HoldsSettled, visits_keep, settling_keeps, after_turn_holds}
 use Rattle.ld_top.proofs.Latching.{one_rule_and_owner, effect_leaves, either_tally}
 use Rattle.ld_top.proofs.Places.{IsIn, in_front, in_back, in_each, place_of}
@@ -249,7 +252,7 @@ first_opened unit moment thing number s work opens unmarked accepted =
     finished_opened moment thing s (quiet_at (at_moment s moment)) (settled_if true unit (started_at s moment)) work
     (settling_opens unit moment thing number (unit.turns + 1) (started_at s moment) opens (record { now = refl; opened = inr unmarked })) accepted
 
-checks_opened : (unit : Course) (moment : ℤ) (thing number : ℕ) (s : RunState) (cause : Option ℕ) (work : Work) → Opens unit thing number → is_started s ≡ false → is_marked_yes s (record { 0 = number }) Run ≡ false → (after_checks unit s moment Start cause).reply ≡ done work → HasOpened moment thing (after_checks unit s moment Start cause).state
+checks_opened : (unit : Course) (moment : ℤ) (thing number : ℕ) (s : RunState) (cause : Option Refusal) (work : Work) → Opens unit thing number → is_started s ≡ false → is_marked_yes s (record { 0 = number }) Run ≡ false → (after_checks unit s moment Start cause).reply ≡ done work → HasOpened moment thing (after_checks unit s moment Start cause).state
 checks_opened unit moment thing number s (Some cause) work opens before unmarked accepted = cc
 checks_opened unit moment thing number s None work opens before unmarked accepted =
     let same : after_checks unit s moment Start None ≡ after_first unit s moment Start (Some (quiet_at (at_moment s moment))) = ap (λ (b : Bool). after_first unit s moment Start (settled_if b unit (at_moment s moment))) before in
@@ -260,14 +263,14 @@ unfolding step
 step_opened unit moment thing number s work opens before unmarked accepted = checks_opened unit moment thing number s (first_cause (causes unit s moment Start)) work opens before unmarked accepted
 
 -- A start of a started run is refused.
-refused_twice : (unit : Course) (s : RunState) (moment : ℤ) (back started : Bool) (work : Work) → started ≡ true → (after_checks unit s moment Start (first_cause ((5, back) ∷ (7, started) ∷ []))).reply ≡ done work → started ≡ false
-refused_twice unit s moment true started work is accepted = cc
-refused_twice unit s moment false true work is accepted = cc
-refused_twice unit s moment false false work is accepted = refl
+refused_twice : (unit : Course) (s : RunState) (moment : ℤ) (last : Moment) (back started : Bool) (work : Work) → started ≡ true → (after_checks unit s moment Start (first_cause ((MomentBack last, back) ∷ (StartedAlready, started) ∷ []))).reply ≡ done work → started ≡ false
+refused_twice unit s moment last true started work is accepted = cc
+refused_twice unit s moment last false true work is accepted = cc
+refused_twice unit s moment last false false work is accepted = refl
 
 started_or_not : (unit : Course) (s : RunState) (moment : ℤ) (work : Work) (b : Bool) → is_started s ≡ b → (step unit s moment Start).reply ≡ done work → is_started s ≡ false
 unfolding step
-started_or_not unit s moment work true is accepted = refused_twice unit s moment (is_back s moment) (is_started s) work is accepted
+started_or_not unit s moment work true is accepted = refused_twice unit s moment (last_moment s) (is_back s moment) (is_started s) work is accepted
 started_or_not unit s moment work false is accepted = is
 
 pub not_started_before : (unit : Course) (s : RunState) (moment : ℤ) (work : Work) → (step unit s moment Start).reply ≡ done work → is_started s ≡ false

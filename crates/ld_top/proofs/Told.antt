@@ -3,14 +3,17 @@ use Rattle.std.proofs.Common.{◌≡◌, inl, inr, ℕ, List, [], ◌∷◌, ◌
 use Rattle.std.specs.Fmt.{digits}
 use Rattle.std.proofs.lemmas.Cmp.{nat_eq_equiv}
 use Rattle.std.proofs.lemmas.List.{append_cancel_left}
-use Rattle.ld_lines.specs.declared.command.Line.{Line}
-use Rattle.ld_lines.specs.declared.command.Line.TheVariants.{Create, OfRun}
-use Rattle.ld_lines.specs.declared.command.RunCommand.{RunCommand}
-use Rattle.ld_lines.specs.declared.command.RunCommand.TheVariants.{Enrol, Assign, Start, Complete, Tree}
+use Rattle.ld_top.specs.declared.built.BuiltLine.{BuiltLine}
+use Rattle.ld_top.specs.declared.built.BuiltLine.TheVariants.{Create, OfRun}
+use Rattle.ld_top.specs.declared.built.BuiltCommand.{BuiltCommand}
+use Rattle.ld_top.specs.declared.built.BuiltCommand.TheVariants.{Enrol, Assign, Start, Complete, Tree}
 use Rattle.ld_top.specs.Answers.{AnswersLine, Leads, line_of, no_memory_block}
-use Rattle.ld_top.specs.Reply.{reply_block, reply_text, refusal_text, line_done_text, done_text}
+use Rattle.ld_top.specs.Refusals.{refusal_text}
+use Rattle.ld_top.specs.Reply.{reply_block, reply_text, line_done_text, done_text}
 use Rattle.ld_top.specs.Step.{Work, Reply, done, refused}
 use Rattle.ld_top.specs.World.{RunOf, WorldState, run_named, world_step}
+use Rattle.ld_top.specs.declared.refusal.Refusal.{Refusal}
+use Rattle.ld_top.specs.declared.refusal.Refusal.TheVariants.{BadLine, UnknownUnit, RunExists, UnknownRun, MomentBack, NotStarted, StartedAlready, UnknownPerson, PersonExists, RunFull, UnknownRole, HoldsAlready, UnknownActivity, NotByChoice, TurnBudget, NotOpen}
 
 -- No text begins both with the block and with the one for want of memory.
 abbrev pub IsTelling : List ℕ → Type 0
@@ -26,37 +29,46 @@ differ_at place x y differs same =
     let equal : nat_eq (get_or x place 0) (get_or y place 0) ≡ true = ap (λ (bytes : List ℕ). nat_eq (get_or x place 0) (get_or bytes place 0)) (sym same) ∙ nat_eq_equiv.refl (get_or x place 0) in
     cc
 
-either_tells : (b : Bool) (x y : List ℕ) → Tells x → Tells y → Tells (if b then x else y)
-either_tells true x y this other = this
-either_tells false x y this other = other
-
-refusal_tells : (number : ℕ) → Tells (refusal_text number)
+refusal_tells : (why : Refusal) → Tells (refusal_text why)
 unfolding digits
-refusal_tells number =
-    either_tells (number == 30) _ _ (record { block = λ rest more same. differ_at 3 _ _ refl same })
-    (either_tells (number == 31) _ _ (record { block = λ rest more same. differ_at 3 _ _ refl same }) (record { block = λ rest more same. differ_at 3 _ _ refl same }))
+refusal_tells BadLine = record { block = λ rest more same. differ_at 3 _ _ refl same }
+refusal_tells UnknownUnit = record { block = λ rest more same. differ_at 3 _ _ refl same }
+refusal_tells RunExists = record { block = λ rest more same. differ_at 3 _ _ refl same }
+refusal_tells UnknownRun = record { block = λ rest more same. differ_at 3 _ _ refl same }
+refusal_tells (MomentBack last) = record { block = λ rest more same. differ_at 3 _ _ refl same }
+refusal_tells NotStarted = record { block = λ rest more same. differ_at 3 _ _ refl same }
+refusal_tells StartedAlready = record { block = λ rest more same. differ_at 3 _ _ refl same }
+refusal_tells UnknownPerson = record { block = λ rest more same. differ_at 3 _ _ refl same }
+refusal_tells PersonExists = record { block = λ rest more same. differ_at 4 _ _ refl same }
+refusal_tells RunFull = record { block = λ rest more same. differ_at 3 _ _ refl same }
+refusal_tells UnknownRole = record { block = λ rest more same. differ_at 3 _ _ refl same }
+refusal_tells HoldsAlready = record { block = λ rest more same. differ_at 3 _ _ refl same }
+refusal_tells UnknownActivity = record { block = λ rest more same. differ_at 3 _ _ refl same }
+refusal_tells NotByChoice = record { block = λ rest more same. differ_at 3 _ _ refl same }
+refusal_tells TurnBudget = record { block = λ rest more same. differ_at 3 _ _ refl same }
+refusal_tells NotOpen = record { block = λ rest more same. differ_at 3 _ _ refl same }
 
-done_tells : (run : Option RunOf) (command : RunCommand) (work : Work) → Tells (done_text run command work)
+done_tells : (run : Option RunOf) (command : BuiltCommand) (work : Work) → Tells (done_text run command work)
 done_tells run (Enrol person) work = record { block = λ rest more same. differ_at 0 _ _ refl same }
 done_tells run (Assign person role) work = record { block = λ rest more same. differ_at 0 _ _ refl same }
 done_tells run Start work = record { block = λ rest more same. differ_at 0 _ _ refl same }
 done_tells run (Complete person activity) work = record { block = λ rest more same. differ_at 0 _ _ refl same }
 done_tells run (Tree person) work = record { block = λ rest more same. differ_at 0 _ _ refl same }
 
-line_tells : (w : WorldState) (line : Option Line) (work : Work) → Tells (line_done_text w line work)
+line_tells : (w : WorldState) (line : Option BuiltLine) (work : Work) → Tells (line_done_text w line work)
 line_tells w None work = record { block = λ rest more same. differ_at 0 _ _ refl same }
 line_tells w (Some (Create moment run unit)) work = record { block = λ rest more same. differ_at 0 _ _ refl same }
 line_tells w (Some (OfRun moment run command)) work = done_tells (run_named run w.runs) command work
 
-reply_tells : (w : WorldState) (line : Option Line) (reply : Reply) → Tells (reply_text w line reply)
-reply_tells w line (refused number) = refusal_tells number
+reply_tells : (w : WorldState) (line : Option BuiltLine) (reply : Reply) → Tells (reply_text w line reply)
+reply_tells w line (refused why) = refusal_tells why
 reply_tells w line (done work) = line_tells w line work
 
-pub block_tells : (w : WorldState) (line : Option Line) (reply : Reply) → IsTelling (reply_block w line reply)
+pub block_tells : (w : WorldState) (line : Option BuiltLine) (reply : Reply) → IsTelling (reply_block w line reply)
 unfolding reply_block
 block_tells w line reply = (reply_tells w line reply).block
 
-pub text_tells : (w : WorldState) (line : Option Line) (reply : Reply) → reply_text w line reply ≡ codes "no 99 no-memory" → ⊥
+pub text_tells : (w : WorldState) (line : Option BuiltLine) (reply : Reply) → reply_text w line reply ≡ codes "no 99 no-memory" → ⊥
 unfolding digits
 text_tells w line reply same = (reply_tells w line reply).block [] [] (ap (λ (text : List ℕ). (text ++ 10 ∷ []) ++ []) same)
 
@@ -66,7 +78,7 @@ leads_same : (lines : List (List ℕ)) (mid other : WorldState) (rest last : Lis
 leads_same lines mid other rest last new same text leads = subst (λ (w : WorldState). Leads w lines last new) same (subst (λ (t : List ℕ). Leads mid lines t new) text leads)
 
 -- What one line's texts are, and the worlds that they leave.
-one_line : (old : WorldState) (line : Option Line) (x y rest last : List ℕ) (mid other : WorldState) → AnswersLine old line x mid → AnswersLine old line y other → x ++ rest ≡ y ++ last → (mid ≡ other) × (rest ≡ last)
+one_line : (old : WorldState) (line : Option BuiltLine) (x y rest last : List ℕ) (mid other : WorldState) → AnswersLine old line x mid → AnswersLine old line y other → x ++ rest ≡ y ++ last → (mid ≡ other) × (rest ≡ last)
 one_line old line x y rest last mid other (inl this) (inl that) same =
     let text : x ≡ y = this.0 ∙ sym that.0 in
     (this.1 ∙ sym that.1, append_cancel_left y rest last (ap (λ (t : List ℕ). t ++ rest) (sym text) ∙ same))

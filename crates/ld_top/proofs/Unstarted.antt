@@ -2,8 +2,8 @@
 use Rattle.std.proofs.Common.{◌≡◌, ◌+◌, ℕ, ℤ, List, [], ◌∷◌, Bool, true, false, ◌&&◌, Option, Some, None, is_some, refl, ap, ◌∙◌, if◌then◌else◌, slice_get}
 use Rattle.ld_base.specs.declared.numbers.RuleNo.{RuleNo}
 use Rattle.ld_base.specs.declared.numbers.ThingNo.{ThingNo}
-use Rattle.ld_lines.specs.declared.command.RunCommand.{RunCommand}
-use Rattle.ld_lines.specs.declared.command.RunCommand.TheVariants.{Enrol, Assign, Start, Complete, Tree}
+use Rattle.ld_top.specs.declared.built.BuiltCommand.{BuiltCommand}
+use Rattle.ld_top.specs.declared.built.BuiltCommand.TheVariants.{Enrol, Assign, Start, Complete, Tree}
 use Rattle.ld_model.specs.Cells.{same_cell}
 use Rattle.ld_model.specs.Members.{person_number}
 use Rattle.ld_model.specs.Names.{role_number}
@@ -19,6 +19,8 @@ use Rattle.ld_top.specs.Firing.{Tally, Settling, site_visit, site_fired, mark_of
 use Rattle.ld_top.specs.Histories.{is_marked_yes, Given, state_after, run_after}
 use Rattle.ld_top.specs.Step.{Outcome, step, is_started, is_not_open, has_change, at_moment, changed, chosen_at, with_role_at, settled_if, finished, refusal, after_first, after_checks, first_cause, causes}
 use Rattle.ld_top.specs.Tests.{site_test}
+use Rattle.ld_top.specs.declared.refusal.Refusal.{Refusal}
+use Rattle.ld_top.specs.declared.refusal.Refusal.TheVariants.{NotOpen}
 use Rattle.ld_top.proofs.Kept.{HoldsSettled, IsLasting, step_keeps, settled_if_keeps}
 use Rattle.ld_top.proofs.Latching.{effect_leaves, either_tally, IsNoChange, change_leaves, mark_is_no_change, IsNoOpening}
 
@@ -48,7 +50,7 @@ started_role s None role told = told
 started_role s (Some p) None told = told
 started_role s (Some p) (Some r) told = told
 
-started_change : (unit : Course) (s : RunState) (moment : ℤ) (command : RunCommand) → HasStarted s → HasStarted (changed unit s moment command)
+started_change : (unit : Course) (s : RunState) (moment : ℤ) (command : BuiltCommand) → HasStarted s → HasStarted (changed unit s moment command)
 started_change unit s moment (Enrol person) told = told
 started_change unit s moment (Assign person role) told = started_role s (person_number s person) (role_number unit role) told
 started_change unit s moment Start told = refl
@@ -62,7 +64,7 @@ started_lasts unit = record {
   changes = started_change unit;
 }
 
-pub stays_started : (unit : Course) (s : RunState) (moment : ℤ) (command : RunCommand) → is_started s ≡ true → is_started (step unit s moment command).state ≡ true
+pub stays_started : (unit : Course) (s : RunState) (moment : ℤ) (command : BuiltCommand) → is_started s ≡ true → is_started (step unit s moment command).state ≡ true
 stays_started unit s moment command told = step_keeps unit HasStarted (started_lasts unit) s moment command told
 
 -- ---- a step that leaves the run unstarted
@@ -99,24 +101,24 @@ second_true false c h = cc
 abbrev IsQuiet : CellName → Type 0
 IsQuiet name = IsNoChange name × (same_cell name Now ≡ false)
 
-first_unstarted : (unit : Course) (name : CellName) (s : RunState) (moment : ℤ) (command : RunCommand) → IsQuiet name → LeavesUnstarted name s (after_first unit s moment command (Some (quiet_at (at_moment s moment)))).state
+first_unstarted : (unit : Course) (name : CellName) (s : RunState) (moment : ℤ) (command : BuiltCommand) → IsQuiet name → LeavesUnstarted name s (after_first unit s moment command (Some (quiet_at (at_moment s moment)))).state
 first_unstarted unit name s moment command quiet =
     let here : RunState = at_moment s moment in
     let new : RunState = changed unit here moment command in
     let again : Bool = has_change command && is_started new in
     let same : new.cells name ≡ s.cells name = change_leaves unit here moment command name quiet.0 ∙ rw quiet.1 refl in
-    either_unstarted name s (is_not_open unit here command) (refusal s 31) (finished s (quiet_at here) (settled_if again unit new)) (λ still. refl)
+    either_unstarted name s (is_not_open unit here command) (refusal s NotOpen) (finished s (quiet_at here) (settled_if again unit new)) (λ still. refl)
     (finished_unstarted unit name s new (quiet_at here) again (second_true (has_change command) (is_started new)) same)
 
-checks_unstarted : (unit : Course) (name : CellName) (s : RunState) (moment : ℤ) (command : RunCommand) (cause : Option ℕ) → IsQuiet name → is_started s ≡ false → LeavesUnstarted name s (after_checks unit s moment command cause).state
-checks_unstarted unit name s moment command (Some number) quiet still = λ still. refl
+checks_unstarted : (unit : Course) (name : CellName) (s : RunState) (moment : ℤ) (command : BuiltCommand) (cause : Option Refusal) → IsQuiet name → is_started s ≡ false → LeavesUnstarted name s (after_checks unit s moment command cause).state
+checks_unstarted unit name s moment command (Some why) quiet still = λ still. refl
 checks_unstarted unit name s moment command None quiet still = rw still (first_unstarted unit name s moment command quiet)
 
-step_unstarted : (unit : Course) (name : CellName) (s : RunState) (moment : ℤ) (command : RunCommand) → IsQuiet name → is_started s ≡ false → LeavesUnstarted name s (step unit s moment command).state
+step_unstarted : (unit : Course) (name : CellName) (s : RunState) (moment : ℤ) (command : BuiltCommand) → IsQuiet name → is_started s ≡ false → LeavesUnstarted name s (step unit s moment command).state
 unfolding step
 step_unstarted unit name s moment command quiet still = checks_unstarted unit name s moment command (first_cause (causes unit s moment command)) quiet still
 
-by_started : (unit : Course) (name : CellName) (s : RunState) (moment : ℤ) (command : RunCommand) (b : Bool) → is_started s ≡ b → IsQuiet name → LeavesUnstarted name s (step unit s moment command).state
+by_started : (unit : Course) (name : CellName) (s : RunState) (moment : ℤ) (command : BuiltCommand) (b : Bool) → is_started s ≡ b → IsQuiet name → LeavesUnstarted name s (step unit s moment command).state
 by_started unit name s moment command true is quiet = started_anyway name s (step unit s moment command).state (stays_started unit s moment command is)
 by_started unit name s moment command false is quiet = step_unstarted unit name s moment command quiet is
 
@@ -126,10 +128,10 @@ opening_is_quiet thing = (record { started = refl; chosen = λ other person. ref
 mark_is_quiet : (rule : RuleNo) (owner : Owner) → IsQuiet (Mark rule owner)
 mark_is_quiet rule owner = (mark_is_no_change rule owner, refl)
 
-pub opens_nothing : (unit : Course) (s : RunState) (moment : ℤ) (command : RunCommand) → is_started (step unit s moment command).state ≡ false → (thing : ThingNo) → (step unit s moment command).state.cells (ActOpened thing) ≡ s.cells (ActOpened thing)
+pub opens_nothing : (unit : Course) (s : RunState) (moment : ℤ) (command : BuiltCommand) → is_started (step unit s moment command).state ≡ false → (thing : ThingNo) → (step unit s moment command).state.cells (ActOpened thing) ≡ s.cells (ActOpened thing)
 opens_nothing unit s moment command still thing = by_started unit (ActOpened thing) s moment command (is_started s) refl (opening_is_quiet thing) still
 
-pub marks_nothing : (unit : Course) (s : RunState) (moment : ℤ) (command : RunCommand) → is_started (step unit s moment command).state ≡ false → (rule : RuleNo) (owner : Owner) → (step unit s moment command).state.cells (Mark rule owner) ≡ s.cells (Mark rule owner)
+pub marks_nothing : (unit : Course) (s : RunState) (moment : ℤ) (command : BuiltCommand) → is_started (step unit s moment command).state ≡ false → (rule : RuleNo) (owner : Owner) → (step unit s moment command).state.cells (Mark rule owner) ≡ s.cells (Mark rule owner)
 marks_nothing unit s moment command still rule owner = by_started unit (Mark rule owner) s moment command (is_started s) refl (mark_is_quiet rule owner) still
 
 -- ---- a history
@@ -143,11 +145,11 @@ untouched_first : (made : ℤ) → IsUntouched (state_at_first made)
 untouched_first made = record { opened = λ still thing. refl; marked = λ still rule owner. refl }
 
 -- A step to an unstarted state comes from an unstarted one.
-came_unstarted : (unit : Course) (s : RunState) (moment : ℤ) (command : RunCommand) (b : Bool) → is_started s ≡ b → is_started (step unit s moment command).state ≡ false → is_started s ≡ false
+came_unstarted : (unit : Course) (s : RunState) (moment : ℤ) (command : BuiltCommand) (b : Bool) → is_started s ≡ b → is_started (step unit s moment command).state ≡ false → is_started s ≡ false
 came_unstarted unit s moment command true is still = not_both (is_started (step unit s moment command).state) (stays_started unit s moment command is) still
 came_unstarted unit s moment command false is still = is
 
-untouched_step : (unit : Course) (s : RunState) (moment : ℤ) (command : RunCommand) → IsUntouched s → IsUntouched (step unit s moment command).state
+untouched_step : (unit : Course) (s : RunState) (moment : ℤ) (command : BuiltCommand) → IsUntouched s → IsUntouched (step unit s moment command).state
 untouched_step unit s moment command untouched = record {
   opened = λ still thing. opens_nothing unit s moment command still thing ∙ untouched.opened (came_unstarted unit s moment command (is_started s) refl still) thing;
   marked = λ still rule owner. ap says_yes (marks_nothing unit s moment command still rule owner) ∙ untouched.marked (came_unstarted unit s moment command (is_started s) refl still) rule owner;

@@ -1,16 +1,19 @@
 -- Which texts answer the lines of a history.
 use Rattle.std.specs.Prelude.{ℕ, List, [], ◌∷◌, ◌++◌, ◌≡◌, ◌⊎◌, Option, None, length, nat_lt, if◌then◌else◌}
+use Rattle.std.specs.Option.{option_and_then}
 use Rattle.ld_lines.specs.Commands.{command_of}
-use Rattle.ld_lines.specs.declared.command.Line.{Line}
-use Rattle.ld_top.specs.Reply.{reply_block, refusal_line}
+use Rattle.ld_top.specs.Built.{built_line}
+use Rattle.ld_top.specs.Refusals.{refusal_line}
+use Rattle.ld_top.specs.Reply.{reply_block}
 use Rattle.ld_top.specs.World.{WorldState, world_step}
+use Rattle.ld_top.specs.declared.built.BuiltLine.{BuiltLine}
 
--- The command that a line is. A line of more than 65,536 bytes is none, whatever it holds.
-abbrev pub line_of : List ℕ → Option Line
-line_of bytes = if nat_lt 65536 (length bytes) then None else command_of bytes
+-- The command that a line is, where it is built. A line of more than 65,536 bytes is none, whatever it holds.
+abbrev pub line_of : List ℕ → Option BuiltLine
+line_of bytes = if nat_lt 65536 (length bytes) then None else option_and_then built_line (command_of bytes)
 
 -- What is written for the line, and the world after it.
-abbrev pub block_for : WorldState → Option Line → List ℕ
+abbrev pub block_for : WorldState → Option BuiltLine → List ℕ
 block_for w line = reply_block (world_step w line).world line (world_step w line).reply
 
 -- What is written where memory is wanting; the line then counts as not given.
@@ -18,7 +21,7 @@ abbrev pub no_memory_block : List ℕ
 no_memory_block = refusal_line 99 ++ 10 ∷ []
 
 -- The text answers the line in the old world and leaves the new one.
-abbrev pub AnswersLine : WorldState → Option Line → List ℕ → WorldState → Type 0
+abbrev pub AnswersLine : WorldState → Option BuiltLine → List ℕ → WorldState → Type 0
 AnswersLine old line text new =
     ((text ≡ block_for old line) × (new ≡ (world_step old line).world))
     ⊎ ((text ≡ no_memory_block) × (new ≡ old))

@@ -1,12 +1,12 @@
 -- What the laws of a run speak of.
 use Rattle.std.specs.Prelude.{ℕ, ℤ, List, [], ◌∷◌, Option, Some, None, Bool}
 use Rattle.ld_base.specs.declared.numbers.RuleNo.{RuleNo}
-use Rattle.ld_lines.specs.declared.command.RunCommand.{RunCommand}
 use Rattle.ld_model.specs.State.{RunState, says_yes, state_at_first, moment_in}
 use Rattle.ld_model.specs.declared.cell.CellName.TheVariants.{ActOpened, Mark}
 use Rattle.ld_model.specs.declared.cell.Owner.{Owner}
 use Rattle.ld_model.specs.declared.unit.Unit.{Unit as Course}
 use Rattle.ld_top.specs.Step.{step}
+use Rattle.ld_top.specs.declared.built.BuiltCommand.{BuiltCommand}
 
 -- What the rule completes or opens is done for the owner: its mark says yes.
 abbrev pub is_marked_yes : RunState → RuleNo → Owner → Bool
@@ -20,7 +20,7 @@ opened_at s (Some thing) = moment_in (s.cells (ActOpened (record { 0 = thing }))
 -- A command with its moment.
 pub record Given : Type 0 where
   pub moment : ℤ
-  pub command : RunCommand
+  pub command : BuiltCommand
 
 -- The state that commands leave one after the other, the refused ones among them.
 abbrev pub state_after : Course → RunState → List Given → RunState

@@ -22,3 +22,5 @@ pub mod Turn
 pub mod FiringView
 pub mod TreeView
 pub mod Histories
+pub mod Built
+pub mod Refusals

@@ -1,26 +1,18 @@
 -- The text of a reply.
 use Rattle.std.specs.Prelude.{ℕ, List, [], ◌∷◌, ◌++◌, Option, Some, None, length, codes, decimal, ◌==◌, if◌then◌else◌, unwrap_or}
-use Rattle.ld_lines.specs.Refusals.{word_of_refusal}
-use Rattle.ld_lines.specs.declared.command.Line.{Line}
-use Rattle.ld_lines.specs.declared.command.Line.TheVariants.{Create, OfRun}
-use Rattle.ld_lines.specs.declared.command.RunCommand.{RunCommand}
-use Rattle.ld_lines.specs.declared.command.RunCommand.TheVariants.{Enrol, Assign, Start, Complete, Tree}
 use Rattle.ld_model.specs.Members.{person_number}
+use Rattle.ld_top.specs.Refusals.{refusal_text}
 use Rattle.ld_top.specs.Step.{Work, Reply, done, refused}
 use Rattle.ld_top.specs.Tree.{TreeLine, tree_lines, lines_text}
 use Rattle.ld_top.specs.World.{RunOf, WorldState, run_named}
+use Rattle.ld_top.specs.declared.built.BuiltCommand.{BuiltCommand}
+use Rattle.ld_top.specs.declared.built.BuiltCommand.TheVariants.{Enrol, Assign, Start, Complete, Tree}
+use Rattle.ld_top.specs.declared.built.BuiltLine.{BuiltLine}
+use Rattle.ld_top.specs.declared.built.BuiltLine.TheVariants.{Create, OfRun}
 
 -- ` turns=T fired=F rejected=R sent=S`
 abbrev pub work_text : Work → List ℕ
 work_text work = codes " turns=" ++ (decimal work.turns ++ (codes " fired=" ++ (decimal work.fired ++ (codes " rejected=" ++ (decimal work.rejected ++ (codes " sent=" ++ decimal work.sent))))))
-
--- `no NUMBER WORD`
-abbrev pub refusal_line : ℕ → List ℕ
-refusal_line number = codes "no " ++ (decimal number ++ (32 ∷ unwrap_or (word_of_refusal number) []))
-
--- These two are told by their own number, and every other is told as a bad line so far.
-abbrev pub refusal_text : ℕ → List ℕ
-refusal_text number = if number == 30 then refusal_line 30 else (if number == 31 then refusal_line 31 else refusal_line 1)
 
 abbrev pub ok_text : List ℕ → Work → List ℕ
 ok_text verb work = codes "ok " ++ (verb ++ work_text work)
@@ -38,7 +30,7 @@ tree_text None person = []
 tree_text (Some run) person = counted_lines (tree_of_person run (person_number run.state person))
 
 -- What is told of a command of a run that was done.
-abbrev pub done_text : Option RunOf → RunCommand → Work → List ℕ
+abbrev pub done_text : Option RunOf → BuiltCommand → Work → List ℕ
 done_text run (Enrol _) work = ok_text (codes "enrol") work
 done_text run (Assign _ _) work = ok_text (codes "assign") work
 done_text run Start work = ok_text (codes "start") work
@@ -46,15 +38,15 @@ done_text run (Complete _ _) work = ok_text (codes "complete") work
 done_text run (Tree person) work = ok_text (codes "tree") work ++ tree_text run person
 
 -- What is told of a line that was done, in the world after it.
-abbrev pub line_done_text : WorldState → Option Line → Work → List ℕ
+abbrev pub line_done_text : WorldState → Option BuiltLine → Work → List ℕ
 line_done_text w None work = []
 line_done_text w (Some (Create _ _ _)) work = codes "ok create"
 line_done_text w (Some (OfRun _ run command)) work = done_text (run_named run w.runs) command work
 
-abbrev pub reply_text : WorldState → Option Line → Reply → List ℕ
-reply_text w line (refused number) = refusal_text number
+abbrev pub reply_text : WorldState → Option BuiltLine → Reply → List ℕ
+reply_text w line (refused why) = refusal_text why
 reply_text w line (done work) = line_done_text w line work
 
 -- The reply block of a line, by its reply and the world after it.
-unfoldable pub reply_block : WorldState → Option Line → Reply → List ℕ
+unfoldable pub reply_block : WorldState → Option BuiltLine → Reply → List ℕ
 reply_block w line reply = reply_text w line reply ++ 10 ∷ []

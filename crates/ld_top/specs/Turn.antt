@@ -1,15 +1,17 @@
 -- One line of a history that is answered.
 use Rattle.std.specs.Prelude.{ℕ, ℤ, List, [], ◌∷◌, ◌++◌, ◌≡◌, Option, Some, None}
-use Rattle.ld_lines.specs.declared.command.Line.{Line}
-use Rattle.ld_lines.specs.declared.command.RunCommand.{RunCommand}
 use Rattle.ld_model.specs.State.{RunState}
 use Rattle.ld_top.specs.Answers.{block_for}
-use Rattle.ld_top.specs.Reply.{refusal_text, done_text}
+use Rattle.ld_top.specs.Refusals.{refusal_text}
+use Rattle.ld_top.specs.Reply.{done_text}
 use Rattle.ld_top.specs.Step.{Work, done, refusal, step}
 use Rattle.ld_top.specs.World.{RunOf, WorldState, world_step}
+use Rattle.ld_top.specs.declared.built.BuiltCommand.{BuiltCommand}
+use Rattle.ld_top.specs.declared.built.BuiltLine.{BuiltLine}
+use Rattle.ld_top.specs.declared.refusal.Refusal.{Refusal}
 
 -- The text is the line's reply block, and the new world is what the line leaves.
-abbrev pub IsAnswered : WorldState → Option Line → List ℕ → WorldState → Type 0
+abbrev pub IsAnswered : WorldState → Option BuiltLine → List ℕ → WorldState → Type 0
 IsAnswered old line text new = (text ≡ block_for old line) × (new ≡ (world_step old line).world)
 
 abbrev pub at_state : RunOf → RunState → RunOf
@@ -30,11 +32,11 @@ left_by w (Some s) = with_first_state w s
 
 -- The text is the line's reply block, and the line gives the first run the new state, or leaves the
 -- world as it is.
-abbrev pub IsTold : WorldState → Line → List ℕ → Option RunState → Type 0
+abbrev pub IsTold : WorldState → BuiltLine → List ℕ → Option RunState → Type 0
 IsTold w line text new = IsAnswered w (Some line) text (left_by w new)
 
 -- The text tells what becomes of a command of the run: it is done, which gives the run the new state,
 -- or it is refused.
-abbrev pub IsToldOfRun : RunOf → ℤ → RunCommand → List ℕ → Option RunState → Type 0
+abbrev pub IsToldOfRun : RunOf → ℤ → BuiltCommand → List ℕ → Option RunState → Type 0
 IsToldOfRun run moment command text (Some s) = (work : Work) × (step run.unit run.state moment command ≡ record { reply = done work; state = s }) × (text ≡ done_text (Some (at_state run s)) command work ++ 10 ∷ [])
-IsToldOfRun run moment command text None = (number : ℕ) × (step run.unit run.state moment command ≡ refusal run.state number) × (text ≡ refusal_text number ++ 10 ∷ [])
+IsToldOfRun run moment command text None = (why : Refusal) × (step run.unit run.state moment command ≡ refusal run.state why) × (text ≡ refusal_text why ++ 10 ∷ [])

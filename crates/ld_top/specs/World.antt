@@ -2,12 +2,14 @@
 use Rattle.std.specs.Prelude.{ℕ, List, [], ◌∷◌, ◌++◌, Option, Some, None, Bool, true, false, if◌then◌else◌, ℤ}
 use Rattle.std.specs.List.{find}
 use Rattle.std.specs.Str.{bytes_eq}
-use Rattle.ld_lines.specs.declared.command.Line.{Line}
-use Rattle.ld_lines.specs.declared.command.Line.TheVariants.{Create, OfRun}
-use Rattle.ld_lines.specs.declared.command.RunCommand.{RunCommand}
 use Rattle.ld_model.specs.State.{RunState, state_at_first}
 use Rattle.ld_model.specs.declared.unit.Unit.{Unit as Course}
 use Rattle.ld_top.specs.Step.{Work, Reply, done, refused, Outcome, step}
+use Rattle.ld_top.specs.declared.built.BuiltCommand.{BuiltCommand}
+use Rattle.ld_top.specs.declared.built.BuiltLine.{BuiltLine}
+use Rattle.ld_top.specs.declared.built.BuiltLine.TheVariants.{Create, OfRun}
+use Rattle.ld_top.specs.declared.refusal.Refusal.{Refusal}
+use Rattle.ld_top.specs.declared.refusal.Refusal.TheVariants.{BadLine, UnknownUnit, RunExists, UnknownRun}
 
 -- A run: its name, its unit and its state.
 pub record RunOf : Type 0 where
@@ -43,32 +45,41 @@ pub record WorldOutcome : Type 0 where
 abbrev pub no_work : Work
 no_work = record { turns = 0; fired = 0; rejected = 0; sent = 0 }
 
-abbrev pub world_refusal : WorldState → ℕ → WorldOutcome
-world_refusal w number = record { reply = refused number; world = w }
+abbrev pub world_refusal : WorldState → Refusal → WorldOutcome
+world_refusal w why = record { reply = refused why; world = w }
 
--- The engine holds one run so far: a second one is refused.
-abbrev pub has_run : List RunOf → Bool
-has_run [] = false
-has_run (_ ∷ _) = true
+-- The engine holds one run so far. Where there is one, another of its name is refused because it exists, and one of
+-- another name as a bad line.
+abbrev pub second_run_refusal : List ℕ → List ℕ → Refusal
+second_run_refusal there name = if bytes_eq there name then RunExists else BadLine
 
+abbrev pub with_new_run : WorldState → RunOf → WorldState
+with_new_run w run = record { units = w.units; runs = w.runs ++ run ∷ [] }
+
+-- The run is the first one, or is refused.
+abbrev pub add_run : WorldState → RunOf → List RunOf → WorldOutcome
+add_run w run [] = record { reply = done no_work; world = with_new_run w run }
+add_run w run (there ∷ _) = world_refusal w (second_run_refusal there.name run.name)
+
+-- A run of the unit is made under the name.
 abbrev pub make_run : WorldState → ℤ → List ℕ → Option Course → WorldOutcome
-make_run w moment name None = world_refusal w 2
-make_run w moment name (Some unit) = if has_run w.runs then world_refusal w 3 else record { reply = done no_work; world = record { units = w.units; runs = w.runs ++ record { name = name; unit = unit; state = state_at_first moment } ∷ [] } }
+make_run w moment name None = world_refusal w UnknownUnit
+make_run w moment name (Some unit) = add_run w (record { name = name; unit = unit; state = state_at_first moment }) w.runs
 
 -- What became of a run becomes of the world.
 abbrev pub with_outcome : WorldState → List ℕ → Outcome → WorldOutcome
 with_outcome w name outcome = record { reply = outcome.reply; world = record { units = w.units; runs = with_state name outcome.state w.runs } }
 
-abbrev pub step_run : WorldState → ℤ → List ℕ → RunCommand → Option RunOf → WorldOutcome
-step_run w moment name command None = world_refusal w 4
+abbrev pub step_run : WorldState → ℤ → List ℕ → BuiltCommand → Option RunOf → WorldOutcome
+step_run w moment name command None = world_refusal w UnknownRun
 step_run w moment name command (Some run) = with_outcome w name (step run.unit run.state moment command)
 
 -- What a line does, where it is a command line.
-unfoldable pub line_outcome : WorldState → Line → WorldOutcome
+unfoldable pub line_outcome : WorldState → BuiltLine → WorldOutcome
 line_outcome w (Create moment run unit) = make_run w moment.0 run (unit_named unit w.units)
 line_outcome w (OfRun moment run command) = step_run w moment.0 run command (run_named run w.runs)
 
 -- What a line does: one that is no command line is refused.
-unfoldable pub world_step : WorldState → Option Line → WorldOutcome
-world_step w None = world_refusal w 1
+unfoldable pub world_step : WorldState → Option BuiltLine → WorldOutcome
+world_step w None = world_refusal w BadLine
 world_step w (Some line) = line_outcome w line

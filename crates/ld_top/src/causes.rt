@@ -1,16 +1,17 @@
 //! Why a command is refused before it is begun.
 ghost use Rattle.std.specs.Prelude.{◌≡◌, Some};
 ghost use Rattle.ld_top.specs.StateView.{state_of};
-ghost use Rattle.ld_top.specs.Step.{causes, first_cause, is_back, is_started, is_enrolled, holds_already, activity_by_choice, by_choice_at};
+ghost use Rattle.ld_top.specs.Step.{causes, first_cause, is_back, last_moment, is_started, is_enrolled, holds_already, activity_by_choice, by_choice_at};
 ghost use Rattle.ld_model.specs.declared.unit.Unit.{Unit as Course};
-ghost use Rattle.ld_lines.specs.declared.command.RunCommand.TheVariants as command;
+ghost use Rattle.ld_top.specs.declared.built.BuiltCommand.TheVariants as command;
 ghost use Rattle.ld_model.specs.Members.{activity_number};
 
+use crate::built::BuiltCommand;
 use crate::lookup::{activity_number, holds_by_name, person_number};
 use crate::prepared::PreparedUnit;
+use crate::refusal::Refusal;
 use crate::state::State;
 use ld_base::id::Id;
-use ld_lines::command::RunCommand;
 use ld_model::activity::Activity;
 use ld_model::cell::CellName;
 use ld_model::completion::Completion;
@@ -20,24 +21,24 @@ use ld_value::moment::Moment;
 /// The most persons of a run.
 pub const MOST_PERSONS: usize = 200;
 
-/// The number of the first cause for which the command is refused, if there is one
+/// The first cause for which the command is refused, if there is one
 /// (docs/COMMANDS.md, "Refusals").
 pub fn first_cause(
     prepared: &PreparedUnit,
     state: &State,
     moment: Moment,
-    command: &RunCommand,
-) -> Option<u8>
+    command: &BuiltCommand,
+) -> Option<Refusal>
     ensures { result ≡ first_cause (causes prepared.now.unit (state_of state.now) moment.0 command.now) }
 {
     match command {
-        RunCommand::Enrol { person } => enrol_cause(state, moment, person),
-        RunCommand::Assign { person, role } => assign_cause(prepared, state, moment, person, role),
-        RunCommand::Start => start_cause(state, moment),
-        RunCommand::Complete { person, activity } => {
+        BuiltCommand::Enrol { person } => enrol_cause(state, moment, person),
+        BuiltCommand::Assign { person, role } => assign_cause(prepared, state, moment, person, role),
+        BuiltCommand::Start => start_cause(state, moment),
+        BuiltCommand::Complete { person, activity } => {
             complete_cause(prepared, state, moment, person, activity)
         }
-        RunCommand::Tree { person } => tree_cause(state, moment, person),
+        BuiltCommand::Tree { person } => tree_cause(state, moment, person),
     }
 }
 
@@ -48,6 +49,16 @@ fn is_back(state: &State, moment: Moment) -> bool
     match state.moment_in(CellName::Now) {
         Some(last) => moment.0 < last.0,
         None => false,
+    }
+}
+
+/// The run's last moment.
+fn last_moment(state: &State) -> Moment
+    ensures { result ≡ last_moment (state_of state.now) }
+{
+    match state.moment_in(CellName::Now) {
+        Some(last) => last,
+        None => Moment(0),
     }
 }
 
@@ -92,17 +103,17 @@ fn by_choice_at(unit: &Unit, number: u32) -> bool
     }
 }
 
-fn enrol_cause(state: &State, moment: Moment, person: &Id) -> Option<u8>
+fn enrol_cause(state: &State, moment: Moment, person: &Id) -> Option<Refusal>
     ensures { (unit : Course) → result ≡ first_cause (causes unit (state_of state.now) moment.0 (command.Enrol person.now)) }
 {
     if is_back(state, moment) {
-        return Some(5);
+        return Some(Refusal::MomentBack(last_moment(state)));
     }
     if is_enrolled(state, person) {
-        return Some(9);
+        return Some(Refusal::PersonExists);
     }
     if state.persons.len() >= MOST_PERSONS {
-        return Some(10);
+        return Some(Refusal::RunFull);
     }
     None
 }
@@ -113,32 +124,32 @@ fn assign_cause(
     moment: Moment,
     person: &Id,
     role: &Id,
-) -> Option<u8>
+) -> Option<Refusal>
     ensures { result ≡ first_cause (causes prepared.now.unit (state_of state.now) moment.0 (command.Assign person.now role.now)) }
 {
     if is_back(state, moment) {
-        return Some(5);
+        return Some(Refusal::MomentBack(last_moment(state)));
     }
     if !is_enrolled(state, person) {
-        return Some(8);
+        return Some(Refusal::UnknownPerson);
     }
     if prepared.plan.role_number(role).is_none() {
-        return Some(11);
+        return Some(Refusal::UnknownRole);
     }
     if holds_already(prepared, state, person, role) {
-        return Some(12);
+        return Some(Refusal::HoldsAlready);
     }
     None
 }
 
-fn start_cause(state: &State, moment: Moment) -> Option<u8>
+fn start_cause(state: &State, moment: Moment) -> Option<Refusal>
     ensures { (unit : Course) → result ≡ first_cause (causes unit (state_of state.now) moment.0 command.Start) }
 {
     if is_back(state, moment) {
-        return Some(5);
+        return Some(Refusal::MomentBack(last_moment(state)));
     }
     if is_started(state) {
-        return Some(7);
+        return Some(Refusal::StartedAlready);
     }
     None
 }
@@ -149,38 +160,38 @@ fn complete_cause(
     moment: Moment,
     person: &Id,
     activity: &Id,
-) -> Option<u8>
+) -> Option<Refusal>
     ensures { result ≡ first_cause (causes prepared.now.unit (state_of state.now) moment.0 (command.Complete person.now activity.now)) }
 {
     if is_back(state, moment) {
-        return Some(5);
+        return Some(Refusal::MomentBack(last_moment(state)));
     }
     if !is_started(state) {
-        return Some(6);
+        return Some(Refusal::NotStarted);
     }
     if !is_enrolled(state, person) {
-        return Some(8);
+        return Some(Refusal::UnknownPerson);
     }
     let Some(number) = activity_number(&prepared.unit, activity) else {
-        return Some(17);
+        return Some(Refusal::UnknownActivity);
     };
     if !by_choice_at(&prepared.unit, number) {
-        return Some(18);
+        return Some(Refusal::NotByChoice);
     }
     None
 }
 
-fn tree_cause(state: &State, moment: Moment, person: &Id) -> Option<u8>
+fn tree_cause(state: &State, moment: Moment, person: &Id) -> Option<Refusal>
     ensures { (unit : Course) → result ≡ first_cause (causes unit (state_of state.now) moment.0 (command.Tree person.now)) }
 {
     if is_back(state, moment) {
-        return Some(5);
+        return Some(Refusal::MomentBack(last_moment(state)));
     }
     if !is_started(state) {
-        return Some(6);
+        return Some(Refusal::NotStarted);
     }
     if !is_enrolled(state, person) {
-        return Some(8);
+        return Some(Refusal::UnknownPerson);
     }
     None
 }

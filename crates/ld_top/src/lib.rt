@@ -5,6 +5,7 @@
 //! `laws.rt`.
 #![tactic(auto)]
 
+mod built;
 mod causes;
 mod copies;
 pub mod ending;
@@ -14,6 +15,7 @@ mod lookup;
 pub mod plan;
 pub mod prepared;
 pub mod reader;
+pub mod refusal;
 mod replay;
 mod reply;
 pub mod state;

@@ -1,54 +1,63 @@
 //! The texts of replies.
 ghost use Rattle.std.specs.Prelude.{◌≡◌, ◌++◌, ◌∷◌, [], List, ℕ, OnOk, Some, decimal, codes, length, map, unwrap_or};
 ghost use Rattle.ld_base.specs.Roomy.{KeepsRoom};
-ghost use Rattle.ld_lines.specs.Refusals.{HasRefusal, word_of_refusal};
 ghost use Rattle.ld_top.specs.Appending.{KeepsFront};
-ghost use Rattle.ld_top.specs.Reply.{work_text, refusal_text, ok_text, counted_lines, done_text, tree_text};
+ghost use Rattle.ld_top.specs.Refusals.{refusal_text, details_of, IsPrintable};
+ghost use Rattle.ld_top.specs.Reply.{work_text, ok_text, counted_lines, done_text, tree_text};
 ghost use Rattle.ld_top.specs.StateView.{state_of};
 ghost use Rattle.ld_top.specs.Stepping.{work_of};
 ghost use Rattle.ld_top.specs.TreeView.{line_view};
 
+use crate::built::BuiltCommand;
 use crate::lookup::person_number;
 use crate::prepared::PreparedUnit;
+use crate::refusal::Refusal;
 use crate::state::State;
 use crate::tree::{TreeLine, tree_lines};
 use crate::tree_text::push_lines;
 use crate::work::Work;
+use itoa::Buffer;
 use ld_base::id::Id;
 use ld_base::memory::NoMemory;
 use ld_base::numbers::number;
 use ld_base::text::Text;
-use ld_lines::command::RunCommand;
 use ld_lines::refusal::refusal_word;
+use ld_value::moment::print_moment;
 use std::alloc::Global;
 
-/// Appends what is told of a refusal: its number and its word (docs/COMMANDS.md, "Refusals"). So far
-/// every refusal but those by the turn budget and by openness is told as a bad line.
+/// Appends what is told of a refusal: its number, its word and what stands behind that
+/// (docs/COMMANDS.md, "Refusals").
 ///
 /// # Errors
 /// `NoMemory` leaves what stood in `out`, and behind it maybe a part of what is told.
-#[tactic(auto, using(crate::proofs::Refusals::decimal_1, crate::proofs::Refusals::decimal_30, crate::proofs::Refusals::decimal_31))]
-pub fn push_refusal(cause: u8, out: &mut Text) -> Result<(), NoMemory>
-    ensures ok { OnOk result (out.new.bytes ≡ out.old.bytes ++ refusal_text cause) }
+pub fn push_refusal(refusal: Refusal, out: &mut Text) -> Result<(), NoMemory>
+    requires { IsPrintable refusal }
+    ensures ok { OnOk result (out.new.bytes ≡ out.old.bytes ++ refusal_text refusal) }
     ensures front { KeepsFront out.old.bytes out.new.bytes }
     ensures room { KeepsRoom out.old out.new }
 {
-    match cause {
-        30 => push_word("no 30 ", 30, out),
-        31 => push_word("no 31 ", 31, out),
-        _ => push_word("no 1 ", 1, out),
-    }
+    let number = refusal.number();
+    out.push("no ")?;
+    out.push(Buffer::new().format(number))?;
+    out.push(" ")?;
+    out.push(refusal_word(number))?;
+    push_details(refusal, out)
 }
 
-/// Appends the text and behind it the word of the refusal of this number.
-fn push_word(text: &str, number: u8, out: &mut Text) -> Result<(), NoMemory>
-    requires { HasRefusal number }
-    ensures ok { OnOk result (out.new.bytes ≡ out.old.bytes ++ (text.now ++ unwrap_or (word_of_refusal number) [])) }
+/// Appends what is told behind the word of a refusal.
+fn push_details(refusal: Refusal, out: &mut Text) -> Result<(), NoMemory>
+    requires { IsPrintable refusal }
+    ensures ok { OnOk result (out.new.bytes ≡ out.old.bytes ++ details_of refusal) }
     ensures front { KeepsFront out.old.bytes out.new.bytes }
     ensures room { KeepsRoom out.old out.new }
 {
-    out.push(text)?;
-    out.push(refusal_word(number))
+    match refusal {
+        Refusal::MomentBack(last) => {
+            out.push(" ")?;
+            out.push_ascii(&print_moment(last))
+        }
+        _ => Ok(()),
+    }
 }
 
 /// Appends what is told of a command of a run that was done, by its unit and its state after it
@@ -60,7 +69,7 @@ pub fn push_done(
     alloc: Global,
     prepared: &PreparedUnit,
     state: &State,
-    command: &RunCommand,
+    command: &BuiltCommand,
     work: Work,
     out: &mut Text,
 ) -> Result<(), NoMemory>
@@ -69,15 +78,15 @@ pub fn push_done(
     ensures room { KeepsRoom out.old out.new }
 {
     match command {
-        RunCommand::Enrol { person: _ } => push_ok(alloc, "enrol", work, out),
-        RunCommand::Assign { person: _, role: _ } => push_ok(alloc, "assign", work, out),
-        RunCommand::Start => push_ok(alloc, "start", work, out),
-        RunCommand::Complete {
+        BuiltCommand::Enrol { person: _ } => push_ok("enrol", work, out),
+        BuiltCommand::Assign { person: _, role: _ } => push_ok("assign", work, out),
+        BuiltCommand::Start => push_ok("start", work, out),
+        BuiltCommand::Complete {
             person: _,
             activity: _,
-        } => push_ok(alloc, "complete", work, out),
-        RunCommand::Tree { person } => {
-            push_ok(alloc, "tree", work, out)?;
+        } => push_ok("complete", work, out),
+        BuiltCommand::Tree { person } => {
+            push_ok("tree", work, out)?;
             push_tree(alloc, prepared, state, person, out)?;
             Ok(())
         }
@@ -85,28 +94,27 @@ pub fn push_done(
 }
 
 /// Appends `ok VERB` and the work.
-fn push_ok(alloc: Global, verb: &str, work: Work, out: &mut Text) -> Result<(), NoMemory>
+fn push_ok(verb: &str, work: Work, out: &mut Text) -> Result<(), NoMemory>
     ensures ok { OnOk result (out.new.bytes ≡ out.old.bytes ++ ok_text verb.now (work_of work)) }
     ensures front { KeepsFront out.old.bytes out.new.bytes }
     ensures room { KeepsRoom out.old out.new }
 {
     out.push("ok ")?;
     out.push(verb)?;
-    push_named(alloc, " turns=", work.turns, out)?;
-    push_named(alloc, " fired=", work.fired, out)?;
-    push_named(alloc, " rejected=", work.rejected, out)?;
-    push_named(alloc, " sent=", work.sent, out)
+    push_named(" turns=", work.turns, out)?;
+    push_named(" fired=", work.fired, out)?;
+    push_named(" rejected=", work.rejected, out)?;
+    push_named(" sent=", work.sent, out)
 }
 
 /// Appends a name and a number behind it.
-fn push_named(alloc: Global, name: &str, number: u64, out: &mut Text) -> Result<(), NoMemory>
+fn push_named(name: &str, number: u64, out: &mut Text) -> Result<(), NoMemory>
     ensures ok { OnOk result (out.new.bytes ≡ out.old.bytes ++ (name.now ++ decimal number)) }
     ensures front { KeepsFront out.old.bytes out.new.bytes }
     ensures room { KeepsRoom out.old out.new }
 {
-    let digits = number.to_string(alloc)?;
     out.push(name)?;
-    out.push(digits.as_str())
+    out.push(Buffer::new().format(number))
 }
 
 /// Appends the number of the lines of the person's tree, and the lines.
@@ -135,6 +143,6 @@ fn push_counted(alloc: Global, lines: &[TreeLine], out: &mut Text) -> Result<(),
     ensures front { KeepsFront out.old.bytes out.new.bytes }
     ensures room { KeepsRoom out.old out.new }
 {
-    push_named(alloc, " lines=", lines.len() as u64, out)?;
+    push_named(" lines=", lines.len() as u64, out)?;
     push_lines(alloc, lines, out)
 }

@@ -12,35 +12,29 @@ ghost use Rattle.ld_model.specs.Members.{person_number};
 ghost use Rattle.ld_model.specs.Names.{role_number, thing_number};
 ghost use Rattle.ld_top.specs.Stepping.{OutcomeIs};
 
+use crate::built::BuiltCommand;
 use crate::causes::{first_cause, is_started};
 use crate::firing::{Sums, settle};
 use crate::lookup::person_number;
 use crate::prepared::PreparedUnit;
+use crate::refusal::Refusal;
 use crate::state::State;
 use crate::tree::is_open;
 use crate::work::{Work, work_of_both};
 use ld_base::id::Id;
 use ld_base::memory::NoMemory;
 use ld_base::numbers::{PersonNo, RoleNo, ThingNo, number};
-use ld_lines::command::RunCommand;
 use ld_model::cell::{CellName, Owner};
 use ld_value::moment::Moment;
 use ld_value::value::Value;
 use std::alloc::Global;
 
-/// What a command of a run is answered: that it is refused, with the number of the cause, or that
-/// it is done, with the run's state after it and what its settlings did.
+/// What a command of a run is answered: that it is refused, or that it is done, with the run's state after it and what its settlings did.
 #[derive(Drop)]
 pub enum Stepped {
-    Refused(u8),
+    Refused(Refusal),
     Done(State, Work),
 }
-
-/// What a settling passes its budget with.
-const TURN_BUDGET_PASSED: u8 = 30;
-
-/// What a command about an activity that is not open is refused with.
-const NOT_OPEN: u8 = 31;
 
 /// What the command does to a run in this state. The state itself stays as it is.
 #[tactic(auto, unfolding(crate::specs::Step::step))]
@@ -49,7 +43,7 @@ pub fn step_run(
     prepared: &PreparedUnit,
     state: &State,
     moment: Moment,
-    command: &RunCommand,
+    command: &BuiltCommand,
 ) -> Result<Stepped, NoMemory>
     ensures { IfOk result (OutcomeIs (step prepared.now.unit (state_of state.now) moment.0 command.now) (state_of state.now)) }
 {
@@ -59,7 +53,7 @@ pub fn step_run(
     let mut copy = state.copy(alloc)?;
     copy.put(CellName::Now, Some(Value::Moment(moment)))?;
     let Some(first) = settle_if(is_started(state), prepared, &mut copy)? else {
-        return Ok(Stepped::Refused(TURN_BUDGET_PASSED));
+        return Ok(Stepped::Refused(Refusal::TurnBudget));
     };
     after_first(alloc, prepared, copy, moment, command, first)
 }
@@ -70,18 +64,18 @@ fn after_first(
     prepared: &PreparedUnit,
     mut state: State,
     moment: Moment,
-    command: &RunCommand,
+    command: &BuiltCommand,
     first: Sums,
 ) -> Result<Stepped, NoMemory>
     ensures { IfOk result (λ stepped. (s : RunState) → OutcomeIs (after_first prepared.now.unit s moment.0 command.now (Some (settling_of state first))) s stepped) }
 {
     if is_not_open(alloc, prepared, &state, command)? {
-        return Ok(Stepped::Refused(NOT_OPEN));
+        return Ok(Stepped::Refused(Refusal::NotOpen));
     }
     change(alloc, prepared, &mut state, moment, command)?;
     let again = has_change(command) && is_started(&state);
     let Some(second) = settle_if(again, prepared, &mut state)? else {
-        return Ok(Stepped::Refused(TURN_BUDGET_PASSED));
+        return Ok(Stepped::Refused(Refusal::TurnBudget));
     };
     let work = work_of_both(first, second)?;
     Ok(Stepped::Done(state, work))
@@ -111,11 +105,11 @@ fn is_not_open(
     alloc: Global,
     prepared: &PreparedUnit,
     state: &State,
-    command: &RunCommand,
+    command: &BuiltCommand,
 ) -> Result<bool, NoMemory>
     ensures { IfOk result (λ answer. answer ≡ is_not_open prepared.now.unit (state_of state.now) command.now) }
 {
-    let RunCommand::Complete { person, activity } = command else {
+    let BuiltCommand::Complete { person, activity } = command else {
         return Ok(false);
     };
     let Some(person) = person_number(state, person) else {
@@ -134,18 +128,18 @@ fn is_not_open(
 }
 
 /// Whether a command of this verb changes its run by itself.
-fn has_change(command: &RunCommand) -> bool
+fn has_change(command: &BuiltCommand) -> bool
     ensures { result ≡ has_change command.now }
 {
     match command {
-        RunCommand::Enrol { person: _ } => true,
-        RunCommand::Assign { person: _, role: _ } => true,
-        RunCommand::Start => true,
-        RunCommand::Complete {
+        BuiltCommand::Enrol { person: _ } => true,
+        BuiltCommand::Assign { person: _, role: _ } => true,
+        BuiltCommand::Start => true,
+        BuiltCommand::Complete {
             person: _,
             activity: _,
         } => true,
-        RunCommand::Tree { person: _ } => false,
+        BuiltCommand::Tree { person: _ } => false,
     }
 }
 
@@ -155,16 +149,16 @@ fn change(
     prepared: &PreparedUnit,
     state: &mut State,
     moment: Moment,
-    command: &RunCommand,
+    command: &BuiltCommand,
 ) -> Result<(), NoMemory>
     ensures { OnOk result (state_of state.new ≡ changed prepared.now.unit (state_of state.old) moment.0 command.now) }
 {
     match command {
-        RunCommand::Enrol { person } => state.enrol(alloc, person),
-        RunCommand::Assign { person, role } => assign(prepared, state, person, role),
-        RunCommand::Start => state.put(CellName::Started, Some(Value::Moment(moment))),
-        RunCommand::Complete { person, activity } => choose(prepared, state, person, activity),
-        RunCommand::Tree { person: _ } => Ok(()),
+        BuiltCommand::Enrol { person } => state.enrol(alloc, person),
+        BuiltCommand::Assign { person, role } => assign(prepared, state, person, role),
+        BuiltCommand::Start => state.put(CellName::Started, Some(Value::Moment(moment))),
+        BuiltCommand::Complete { person, activity } => choose(prepared, state, person, activity),
+        BuiltCommand::Tree { person: _ } => Ok(()),
     }
 }
 

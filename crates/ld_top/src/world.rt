@@ -1,23 +1,28 @@
 //! The world of the plain engine: one published unit, and the one run that was made of it.
-ghost use Rattle.std.specs.Prelude.{◌≡◌, ◌≤◌, ◌++◌, [], ◌∷◌, None, Some, IfOk, OnOk, OnErr, length};
+ghost use Rattle.std.specs.Prelude.{◌≡◌, ◌≤◌, ◌++◌, [], ◌∷◌, None, Some, IfOk, IfSome, OnOk, OnErr, length};
 ghost use Rattle.ld_base.specs.Roomy.{room_of, KeepsRoom};
-ghost use Rattle.ld_lines.specs.declared.command.Line.TheVariants as line;
+ghost use Rattle.ld_top.specs.declared.built.BuiltLine.TheVariants as line;
 ghost use Rattle.ld_top.specs.Answers.{AnswersLine, line_of, block_for, no_memory_block};
-ghost use Rattle.ld_top.specs.Reply.{refusal_text};
+ghost use Rattle.ld_top.specs.Refusals.{refusal_text, IsPrintable};
+ghost use Rattle.ld_top.specs.Step.{IsDated};
+ghost use Rattle.ld_value.specs.Calendar.{IsMoment};
 ghost use Rattle.ld_top.specs.Turn.{IsAnswered, IsTold, IsToldOfRun, with_first_state};
-ghost use Rattle.ld_top.specs.World.{first_world, has_run};
+ghost use Rattle.ld_top.specs.World.{first_world, second_run_refusal};
 ghost use Rattle.ld_top.specs.WorldView.{world_of, run_of};
 ghost use Rattle.std.specs.Option.{option_map};
 ghost use Rattle.ld_top.specs.StateView.{state_of};
+ghost use Rattle.ld_top.specs.Built.{line_moment};
 
+use crate::built::{BuiltCommand, BuiltLine, built_line};
 use crate::prepared::PreparedUnit;
+use crate::refusal::Refusal;
 use crate::reply::{push_done, push_refusal};
 use crate::state::State;
 use crate::step::{Stepped, step_run};
 use ld_base::id::Id;
 use ld_base::memory::NoMemory;
 use ld_base::text::Text;
-use ld_lines::command::{Line, LineFault, RunCommand};
+use ld_lines::fault::LineFault;
 use ld_lines::lines::LINE_LIMIT;
 use ld_lines::read::read_command;
 use ld_lines::refusal::refusal_word;
@@ -25,11 +30,12 @@ use ld_refs::check::Checked;
 use ld_value::moment::Moment;
 use std::alloc::Global;
 
-/// A run, by its name.
+/// A run, by its name. Its last moment is one that has a text.
 #[derive(Drop)]
 pub struct Run {
     pub name: Id,
     pub state: State,
+    ghost dated: { IsDated (state_of state) },
 }
 
 /// One unit, and the run that was made of it.
@@ -68,7 +74,7 @@ impl World {
         ensures answers { AnswersLine (world_of self.old) None out.new.bytes (world_of self.new) }
         ensures room { 128 ≤ room_of out.new }
     {
-        if let Err(_) = refuse(1, out) {
+        if let Err(_) = refuse(Refusal::BadLine, out) {
             say_no_memory(out)
         }
     }
@@ -80,19 +86,33 @@ impl World {
         ensures room { KeepsRoom out.old out.new }
     {
         if line.len() > LINE_LIMIT {
-            return refuse(1, out);
+            return refuse(Refusal::BadLine, out);
         }
-        match read_command(alloc, line) {
-            Ok(Line::Create { moment, run, unit }) => self.create(alloc, moment, run, &unit, out),
-            Ok(
-                Line::OfRun {
-                    moment,
-                    run,
-                    command,
-                },
-            ) => self.of_run(alloc, moment, &run, &command, out),
-            Err(LineFault::BadLine) => refuse(1, out),
-            Err(LineFault::NoMemory) => Err(NoMemory),
+        let line = match read_command(alloc, line) {
+            Ok(line) => line,
+            Err(LineFault::BadLine) => return refuse(Refusal::BadLine, out),
+            Err(LineFault::NoMemory) => return Err(NoMemory),
+        };
+        match built_line(line) {
+            Some(line) => self.do_line(alloc, line, out),
+            None => refuse(Refusal::BadLine, out),
+        }
+    }
+
+    /// Does what the line asks for. Where memory is wanting the world stays as it was.
+    fn do_line(&mut self, alloc: Global, line: BuiltLine, out: &mut Text) -> Result<(), NoMemory>
+        requires { IsMoment (line_moment line).0 }
+        ensures ok { OnOk result (IsAnswered (world_of self.old) (Some line) out.new.bytes (world_of self.new)) }
+        ensures err { OnErr result (world_of self.new ≡ world_of self.old) }
+        ensures room { KeepsRoom out.old out.new }
+    {
+        match line {
+            BuiltLine::Create { moment, run, unit } => self.create(alloc, moment, run, &unit, out),
+            BuiltLine::OfRun {
+                moment,
+                run,
+                command,
+            } => self.of_run(alloc, moment, &run, &command, out),
         }
     }
 
@@ -105,15 +125,16 @@ impl World {
         unit: &Id,
         out: &mut Text,
     ) -> Result<(), NoMemory>
+        requires { IsMoment moment.0 }
         ensures ok { OnOk result (IsAnswered (world_of self.old) (Some (line.Create moment name unit.now)) out.new.bytes (world_of self.new)) }
         ensures err { OnErr result (world_of self.new ≡ world_of self.old) }
         ensures room { KeepsRoom out.old out.new }
     {
         if self.prepared.unit.identifier != *unit {
-            return refuse(2, out);
+            return refuse(Refusal::UnknownUnit, out);
         }
-        if self.has_run() {
-            return refuse(3, out);
+        if let Some(run) = &self.run {
+            return refuse_other_run(run, &name, out);
         }
         out.clear();
         out.push("ok create\n")?;
@@ -122,22 +143,16 @@ impl World {
         Ok(())
     }
 
-    /// Whether a run was made.
-    fn has_run(&self) -> bool
-        ensures { result ≡ has_run (world_of self.now).runs }
-    {
-        self.run.is_some()
-    }
-
     /// Does what is asked of the run of the name.
     fn of_run(
         &mut self,
         alloc: Global,
         moment: Moment,
         name: &Id,
-        command: &RunCommand,
+        command: &BuiltCommand,
         out: &mut Text,
     ) -> Result<(), NoMemory>
+        requires { IsMoment moment.0 }
         ensures ok { OnOk result (IsAnswered (world_of self.old) (Some (line.OfRun moment name.now command.now)) out.new.bytes (world_of self.new)) }
         ensures err { OnErr result (world_of self.new ≡ world_of self.old) }
         ensures room { KeepsRoom out.old out.new }
@@ -158,18 +173,20 @@ impl World {
         alloc: Global,
         moment: Moment,
         name: &Id,
-        command: &RunCommand,
+        command: &BuiltCommand,
         out: &mut Text,
     ) -> Result<Option<State>, NoMemory>
+        requires { IsMoment moment.0 }
         ensures told { IfOk result (λ new. IsTold (world_of self.now) (line.OfRun moment name.now command.now) out.new.bytes (option_map state_of new)) }
+        ensures dated { IfOk result (λ new. IfSome new (λ s. IsDated (state_of s))) }
         ensures room { KeepsRoom out.old out.new }
     {
         let Some(run) = &self.run else {
-            refuse(4, out)?;
+            refuse(Refusal::UnknownRun, out)?;
             return Ok(None);
         };
         if run.name != *name {
-            refuse(4, out)?;
+            refuse(Refusal::UnknownRun, out)?;
             return Ok(None);
         }
         let new = reply_of_run(alloc, &self.prepared, run, moment, command, out)?;
@@ -178,6 +195,7 @@ impl World {
 
     /// Gives the run the state.
     fn put_state(&mut self, state: State)
+        requires { IsDated (state_of state) }
         ensures { world_of self.new ≡ with_first_state (world_of self.old) (state_of state) }
     {
         let Some(run) = self.run.take() else {
@@ -194,10 +212,12 @@ fn reply_of_run(
     prepared: &PreparedUnit,
     run: &Run,
     moment: Moment,
-    command: &RunCommand,
+    command: &BuiltCommand,
     out: &mut Text,
 ) -> Result<Option<State>, NoMemory>
+    requires { IsMoment moment.0 }
     ensures told { IfOk result (λ new. IsToldOfRun (run_of prepared.now.unit run.now) moment.0 command.now out.new.bytes (option_map state_of new)) }
+    ensures dated { IfOk result (λ new. IfSome new (λ s. IsDated (state_of s))) }
     ensures room { KeepsRoom out.old out.new }
 {
     match step_run(alloc, prepared, &run.state, moment, command)? {
@@ -214,13 +234,25 @@ fn reply_of_run(
     }
 }
 
+/// Refuses to make a run, where there is one. The engine holds one run so far.
+fn refuse_other_run(run: &Run, name: &Id, out: &mut Text) -> Result<(), NoMemory>
+    ensures text { OnOk result (out.new.bytes ≡ refusal_text (second_run_refusal run.now.name name.now) ++ 10 ∷ []) }
+    ensures room { KeepsRoom out.old out.new }
+{
+    if run.name == *name {
+        return refuse(Refusal::RunExists, out);
+    }
+    refuse(Refusal::BadLine, out)
+}
+
 /// Says that the line was refused.
-fn refuse(cause: u8, out: &mut Text) -> Result<(), NoMemory>
-    ensures ok { OnOk result (out.new.bytes ≡ refusal_text cause ++ 10 ∷ []) }
+fn refuse(refusal: Refusal, out: &mut Text) -> Result<(), NoMemory>
+    requires { IsPrintable refusal }
+    ensures ok { OnOk result (out.new.bytes ≡ refusal_text refusal ++ 10 ∷ []) }
     ensures room { KeepsRoom out.old out.new }
 {
     out.clear();
-    push_refusal(cause, out)?;
+    push_refusal(refusal, out)?;
     out.push("\n")
 }
 
