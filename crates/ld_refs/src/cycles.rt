@@ -21,7 +21,7 @@ use way_back::leads_back;
 
 /// The first node that leads to itself, where `edges` has for each node the nodes to which it leads.
 /// It takes time as the number of nodes and edges.
-pub(crate) fn first_on_cycle(alloc: Global, edges: &[Vec<usize>]) -> Result<Option<usize>, NoMemory>
+pub fn first_on_cycle(alloc: Global, edges: &[Vec<usize>]) -> Result<Option<usize>, NoMemory>
     ensures { IfOk result (λ found. found ≡ first_on_cycle (map (λ next. next.items) edges.now)) }
 {
     let labels = labels_of(alloc, edges)?;

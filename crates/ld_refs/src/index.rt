@@ -13,7 +13,7 @@ use std::collections::BTreeMap;
 use std::marker::Model;
 
 /// Texts in an order, each of which is quickly found by what it says. Contracts see their bytes.
-pub(crate) struct Index<'a> {
+pub struct Index<'a> {
     texts: Vec<&'a str>,
     numbers: BTreeMap<&'a str, usize>,
 }
@@ -44,7 +44,7 @@ impl<'a> Model for Index<'a> {
 
 impl<'a> Index<'a> {
     /// The index of these texts. It takes time for n of them as n times the logarithm of n.
-    pub(crate) fn of(alloc: Global, texts: Vec<&'a str>) -> Result<Index<'a>, NoMemory>
+    pub fn of(alloc: Global, texts: Vec<&'a str>) -> Result<Index<'a>, NoMemory>
         ensures { IfOk result (λ index. index ≡ map (λ text. text.now) texts.entry.items) }
     {
         let numbers = numbers_of(alloc, &texts)?;
@@ -52,7 +52,7 @@ impl<'a> Index<'a> {
     }
 
     /// The number of the first text that is this one. It takes time for n texts as the logarithm of n.
-    pub(crate) fn number(&self, text: &str) -> Option<usize>
+    pub fn number(&self, text: &str) -> Option<usize>
         ensures { result ≡ position (bytes_eq text.now) self.now }
     {
         match self.numbers.get(text) {

@@ -21,12 +21,23 @@ pub(crate) enum Element<'a> {
 }
 
 /// What stands at a place, the lowest level that has it, and whether runs of it are built.
-#[derive(Drop)]
 pub(crate) struct Spot<'a> {
     pub(crate) at: Position,
     pub(crate) level: Level,
     pub(crate) runs: bool,
     pub(crate) element: Element<'a>,
+}
+
+// By hand, so that a function which lets one go calls this and is not proved over each field anew.
+impl<'a> Drop for Spot<'a> {
+    fn drop(self) {
+        let Self {
+            at: _,
+            level: _,
+            runs: _,
+            element: _,
+        } = self;
+    }
 }
 
 /// Appends a spot.

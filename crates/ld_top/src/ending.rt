@@ -4,7 +4,7 @@ ghost use Rattle.ld_top.specs.Endings.{IsStatus, number_of, word_of};
 
 /// How a call ends. Each ending has a number, which is the exit status of the program, and a word,
 /// which the program prints where the number is not 0 (docs/COMMANDS.md, "Statuses").
-#[derive(Clone, Copy, Debug, PartialEq, Eq)]
+#[derive(Clone, Copy)]
 pub enum Ending {
     /// The form was done.
     Done,

@@ -24,7 +24,7 @@ use ld_model::unit::Unit;
 use ld_value::value::Value;
 
 /// What has fired in a sweep: firings, rejected writes and notices sent.
-#[derive(Clone, Copy, Debug, PartialEq, Eq)]
+#[derive(Clone, Copy)]
 pub struct Counts {
     pub fired: u64,
     pub rejected: u64,
@@ -32,7 +32,7 @@ pub struct Counts {
 }
 
 /// What the sweeps of a settling did: how many of them fired, and what has fired in them.
-#[derive(Clone, Copy, Debug, PartialEq, Eq)]
+#[derive(Clone, Copy)]
 pub struct Sums {
     pub turns: u32,
     pub fired: u64,

@@ -12,10 +12,16 @@ use ld_model::unit::Unit;
 use std::alloc::Global;
 
 /// The names and the rules of a unit. The number of a rule is its place in the list.
-#[derive(Drop)]
 pub struct Plan {
     pub names: Names,
     pub rules: Vec<Rule>,
+}
+
+// By hand, so that a function which lets one go calls this and is not proved over each field anew.
+impl Drop for Plan {
+    fn drop(self) {
+        let Self { names: _, rules: _ } = self;
+    }
 }
 
 impl Plan {

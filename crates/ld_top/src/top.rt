@@ -26,7 +26,7 @@ use std::alloc::Global;
 use std::sync::ledger::Ledger;
 
 /// The number of a call's ending (docs/COMMANDS.md, "Statuses"): 0, or one of 2 to 8.
-#[derive(Clone, Copy, Debug, PartialEq, Eq)]
+#[derive(Clone, Copy)]
 pub struct Status(pub u8);
 
 /// Does all that the program does. `words` are the words behind the program's name.

@@ -6,7 +6,7 @@ use ld_base::memory::NoMemory;
 
 /// The sums over the settlings of a command: sweeps that fired, firings, rejected writes and notices
 /// sent.
-#[derive(Clone, Copy, Debug, PartialEq, Eq)]
+#[derive(Clone, Copy)]
 pub struct Work {
     pub turns: u64,
     pub fired: u64,

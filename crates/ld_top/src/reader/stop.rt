@@ -10,7 +10,7 @@ use ld_json::file::FileNo;
 use std::alloc::Global;
 
 /// Why a folder has given no unit.
-#[derive(Debug, Drop)]
+#[derive(Drop)]
 pub enum FolderStop {
     /// The shelf failed.
     ShelfFault,

@@ -17,10 +17,10 @@ returns-then-not-branch-clause-first c =
     let ids = c.args.targets.now in
     let i = c.loop-i.i in
     let id = c.index-targets-i.result in
-    let fault = c.fault-then-not-branch.result in
+    let fault = c.fault.result in
     let seen = c.loop-i.invariant.seen id in
     let listed : list_any (bytes_eq id) (take i ids) ≡ true = grind (arith, common_steps, seen, c.as_str.ensures.bytes, c.in_ok-insert.ensures.added, c.if-not-branch.true) in
-    let says : SaysFirst (repeated_target at ids i id) fault = rw listed (says_one (fault_at RepeatedId (item_at at i)) fault (rw c.in_ok-item.ensures at c.fault-then-not-branch.ensures)) in
+    let says : SaysFirst (repeated_target at ids i id) fault = rw listed (says_one (fault_at RepeatedId (item_at at i)) fault (rw c.in_ok-item.ensures at c.fault.ensures)) in
     stop_numbered (repeated_target at ids) ids i id (each_numbered (repeated_target at ids) ids) fault c.loop-i-test.true c.loop-i.invariant.faults (rw c.index-targets-i.is at says)
 
 pub loop-i-preserved : goal.loop-i-preserved

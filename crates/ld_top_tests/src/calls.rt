@@ -1,0 +1,152 @@
+//! Calls of the program over memory, and what they leave.
+ghost use Rattle.std.specs.Prelude.{◌≡◌, ◌<◌};
+
+use ld_base::bytes::{Bytes, CallList};
+use ld_base::file::{File, FileList};
+use ld_base::items::Items;
+use ld_base::memory::NoMemory;
+use ld_base::memory_shelf::MemoryShelf;
+use ld_base::memory_sink::MemorySink;
+use ld_base::memory_source::MemorySource;
+use ld_base::steps::Steps;
+use ld_base::text::Text;
+use ld_refs::check::Checked;
+use ld_top::reader::folder::read_folder;
+use ld_top::top::{Status, ld_main};
+use std::alloc::Global;
+use std::marker::Brand;
+use std::sync::ledger::{Blank, Ledger};
+use std::test::Fail;
+
+/// A file: its name and its bytes.
+pub type Named<'a> = (&'a str, &'a [u8]);
+
+/// The documents of the first unit.
+pub const FIRST_FILES: [Named; 3] = [
+    (
+        "roles.json",
+        br#"{"roles":[{"identifier":"learner","kind":"learner"}]}"#,
+    ),
+    (
+        "activities.json",
+        br#"{"activities":[{"identifier":"read","title":"Read","complete":{"user-choice":true},"items":[{"identifier":"i1","title":"Text","href":"text.html"}]}]}"#,
+    ),
+    (
+        "unit.json",
+        br#"{"format":1,"identifier":"u1","level":"A","title":"First","method":{"plays":[{"identifier":"p","acts":[{"identifier":"a","role-parts":[{"identifier":"rp","role":"learner","ref":"read"}]}]}]}}"#,
+    ),
+];
+
+/// What a call for the first unit finds: its lines, in pieces of so many bytes; how much fits into the sink;
+/// and the numbers of the calls that fail, 0 for none.
+#[derive(Drop)]
+pub struct Case<'a> {
+    pub lines: &'a [u8],
+    pub piece: usize,
+    pub room: usize,
+    pub shelf_fails: u64,
+    pub source_fails: u64,
+    pub sink_fails: u64,
+}
+
+/// These lines, and nothing that fails.
+pub fn first<'a>(lines: &'a [u8]) -> Case<'a> {
+    Case {
+        lines,
+        piece: 4096,
+        room: 100_000,
+        shelf_fails: 0,
+        source_fails: 0,
+        sink_fails: 0,
+    }
+}
+
+pub fn bytes(alloc: Global, from: &[u8]) -> Result<Bytes, NoMemory> {
+    Ok(Items::from_vec(Vec::from_slice(alloc, from)?))
+}
+
+/// The list of this one call; of none where the number is 0.
+fn call(alloc: Global, number: u64) -> Result<CallList, NoMemory> {
+    let mut calls = Items::new(alloc);
+    if number != 0 {
+        calls.push(number)?;
+    }
+    Ok(calls)
+}
+
+pub fn file(alloc: Global, name: &str, content: &[u8]) -> Result<File, NoMemory> {
+    Ok(File {
+        folder: Text::of(alloc, "u1")?,
+        file: Text::of(alloc, name)?,
+        bytes: bytes(alloc, content)?,
+    })
+}
+
+pub fn first_files(alloc: Global) -> Result<FileList, NoMemory> {
+    let mut files = Items::new(alloc);
+    for (name, content) in FIRST_FILES {
+        files.push(file(alloc, name, content)?)?;
+    }
+    Ok(files)
+}
+
+fn strings(alloc: Global, words: &[&str]) -> Result<Vec<String>, NoMemory> {
+    let mut all = Vec::new(alloc);
+    for word in words {
+        all.push(String::from_str(alloc, *word)?)?;
+    }
+    Ok(all)
+}
+
+/// The status of the call over these files, and what it wrote.
+fn run<L: Ledger>(
+    alloc: Global,
+    files: FileList,
+    case: &Case<'_>,
+    blank: Blank,
+) -> Result<(u8, Vec<u8>), NoMemory>
+    requires name { blank.name ≡ L.name }
+    requires parts { blank.parts ≡ L.parts }
+    requires some { 0 < L.parts }
+{
+    let words = strings(alloc, &["replay", "u1"])?;
+    let mut shelf = MemoryShelf::new(files, call(alloc, case.shelf_fails)?);
+    let mut source = MemorySource::new(
+        bytes(alloc, case.lines)?,
+        case.piece.max(1),
+        call(alloc, case.source_fails)?,
+    );
+    let mut sink = MemorySink::new(alloc, case.room, call(alloc, case.sink_fails)?)?;
+    let mut steps = Steps::<L>::new(blank);
+    let Status(status) = ld_main(
+        alloc,
+        &words,
+        &mut shelf,
+        &mut source,
+        &mut sink,
+        &mut steps,
+    );
+    Ok((status, Vec::from_slice(alloc, sink.bytes())?))
+}
+
+pub fn ran_over(
+    alloc: Global,
+    files: FileList,
+    case: &Case<'_>,
+) -> Result<(u8, Vec<u8>), NoMemory> {
+    run::<Brand>(alloc, files, case, Blank::new(1))
+}
+
+/// The same over the documents of the first unit.
+pub fn ran(alloc: Global, case: &Case<'_>) -> Result<(u8, Vec<u8>), NoMemory> {
+    ran_over(alloc, first_files(alloc)?, case)
+}
+
+/// The checked unit of these files.
+pub fn checked(alloc: Global, files: FileList) -> Result<Checked, Fail> {
+    let mut shelf = MemoryShelf::new(files, Items::new(alloc));
+    match read_folder(alloc, &mut shelf, "u1") {
+        Ok(checked) => Ok(checked),
+        Err(_) => Err("the folder is refused".into()),
+    }
+}

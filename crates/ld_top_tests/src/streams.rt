@@ -1,0 +1,91 @@
+//! Lines in pieces, and sources and sinks that fail.
+use crate::calls::{first, ran};
+use std::test::Fail;
+
+/// A run of one person from its making to the completion of its activity.
+const FIRST_RUN: &str = r#"["2024-01-01T08:00:00Z","create","r","u1"]
+["2024-01-01T08:00:00Z","enrol","r","ann"]
+["2024-01-01T08:00:00Z","assign","r","ann","learner"]
+["2024-01-01T09:00:00Z","start","r"]
+["2024-01-01T09:10:00Z","complete","r","ann","read"]
+["2024-01-01T09:11:00Z","tree","r","ann"]
+["2024-01-01T09:12:00Z","complete","r","ann","read"]
+"#;
+
+const FIRST_REPLIES: &str = r#"ok create
+ok enrol turns=0 fired=0 rejected=0 sent=0
+ok assign turns=0 fired=0 rejected=0 sent=0
+ok start turns=1 fired=1 rejected=0 sent=0
+ok complete turns=1 fired=2 rejected=0 sent=0
+ok tree turns=0 fired=0 rejected=0 sent=0 lines=6
+unit u1 open "First"
+  play p open
+    act a open
+      part rp done
+        activity read done "Read"
+          item i1 text.html "Text"
+no 31 not-open
+"#;
+
+#[test]
+fn lines_are_answered_however_they_are_cut(rt: HostRuntime) -> Result<(), Fail> {
+    for piece in [1, 2, 7, 65_536] {
+        let mut case = first(FIRST_RUN.as_bytes());
+        case.piece = piece;
+        let (status, written) = ran(rt.alloc(), &case)?;
+        assert_eq!(rt; status, 0, "in pieces of {piece}");
+        assert_eq!(rt;
+            written.as_slice(),
+            FIRST_REPLIES.as_bytes(),
+            "in pieces of {piece}"
+        );
+    }
+    Ok(())
+}
+
+#[test]
+fn a_source_that_fails_ends_the_call(rt: HostRuntime) -> Result<(), Fail> {
+    // The take that fails, and how much of the replies stands: the lines that were ended before it.
+    let table = [
+        (1, 0),
+        (2, 10),
+        (3, 53),
+        (4, 53),
+        (5, 97),
+        (6, 140),
+        (7, 186),
+        (8, 374),
+        (9, 389),
+    ];
+    for (number, length) in table {
+        let mut case = first(FIRST_RUN.as_bytes());
+        case.piece = 44;
+        case.source_fails = number;
+        let (status, written) = ran(rt.alloc(), &case)?;
+        assert_eq!(rt; (status, written.len()), (5, length), "at take {number}");
+        assert!(rt;
+            FIRST_REPLIES.as_bytes().starts_with(&written),
+            "at take {number}"
+        );
+    }
+    Ok(())
+}
+
+#[test]
+fn a_sink_that_fails_ends_the_call(rt: HostRuntime) -> Result<(), Fail> {
+    for number in 1..8 {
+        let mut case = first(FIRST_RUN.as_bytes());
+        case.sink_fails = number;
+        let (status, written) = ran(rt.alloc(), &case)?;
+        assert_eq!(rt; status, 6, "at call {number}");
+        assert!(rt;
+            FIRST_REPLIES.as_bytes().starts_with(&written),
+            "at call {number}"
+        );
+    }
+    let mut case = first(FIRST_RUN.as_bytes());
+    case.room = 9;
+    let (status, written) = ran(rt.alloc(), &case)?;
+    assert_eq!(rt; (status, written.len()), (6, 0));
+    Ok(())
+}
