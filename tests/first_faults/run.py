@@ -23,11 +23,12 @@ import limits
 import names
 import order
 import references
+import shapes
 import sizes
 
 SECONDS = 5
 LONGEST = 120
-TABLES = [good, order, names, references, cycles, bounds, limits, sizes, built]
+TABLES = [good, order, names, references, cycles, bounds, limits, sizes, built, shapes]
 
 
 def write_folder(path, documents):

@@ -21,6 +21,7 @@ use ld_model::unit::{Level, Parts, Unit};
 use ld_reader::lists::list_at;
 use ld_reader::members::{member_at, number_or, text_at, title_at};
 use std::alloc::Global;
+use std::mem::replace;
 
 /// The number of sweeps of a settling that may fire, where the document says none.
 const USUAL_TURNS: u32 = 64;
@@ -56,6 +57,7 @@ pub fn read_unit(alloc: Global, node: &Node<'_>, parts: Parts) -> Result<Unit, R
     let learning_objectives = list_at::<Item>(alloc, node, "learning-objectives")?;
     let prerequisites = list_at::<Item>(alloc, node, "prerequisites")?;
     let method = method_at(alloc, node)?;
+    let mut parts = parts;
     Ok(Unit {
         format,
         identifier,
@@ -65,11 +67,11 @@ pub fn read_unit(alloc: Global, node: &Node<'_>, parts: Parts) -> Result<Unit, R
         metadata,
         learning_objectives,
         prerequisites,
-        roles: parts.roles,
-        properties: parts.properties,
-        environments: parts.environments,
-        activities: parts.activities,
-        structures: parts.structures,
+        roles: replace(&mut parts.roles, Items::new(alloc)),
+        properties: replace(&mut parts.properties, Items::new(alloc)),
+        environments: replace(&mut parts.environments, Items::new(alloc)),
+        activities: replace(&mut parts.activities, Items::new(alloc)),
+        structures: replace(&mut parts.structures, Items::new(alloc)),
         method,
         conditions: Items::new(alloc),
     })

@@ -1,0 +1,12 @@
+use Rattle.std.proofs.Common.{refl, ◌∙◌}
+use Rattle.ld_reader.proofs.Objects.{only_listed, then_same}
+use Rattle.ld_reader.specs.Walks.{only}
+use Rattle.ld_method.specs.Units.{unit_of, unit_names}
+use Rattle.ld_method.proofs.unit.read_unit.Goals as goal
+
+pub returns-clause-value : goal.returns-clause-value
+unfolding unit_of
+returns-clause-value c conditions =
+    let tree = c.args.node.now.tree in
+    then_same (only unit_names tree) _ (only_listed unit_names c.args.node.now c.in_ok-only.ensures.faultless)
+    ∙ rw (c.in_ok-format.ensures.value, c.in_ok-identifier.ensures.value, c.in_ok-level.ensures.value, c.in_ok-title.ensures.value, c.in_ok-turns.ensures.value, c.in_ok-metadata.ensures.value, c.in_ok-learning_objectives.ensures.value, c.in_ok-prerequisites.ensures.value, c.in_ok-method.ensures.value, c.replace.ensures.value, c.replace-2.ensures.value, c.replace-3.ensures.value, c.replace-4.ensures.value, c.replace-5.ensures.value) refl
