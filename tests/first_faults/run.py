@@ -24,10 +24,11 @@ import names
 import order
 import references
 import sizes
+import texts
 
 SECONDS = 5
 LONGEST = 120
-TABLES = [good, order, names, references, cycles, bounds, limits, sizes, built]
+TABLES = [good, order, names, references, cycles, bounds, limits, sizes, built, texts]
 
 
 def write_folder(path, documents):
