@@ -9,13 +9,14 @@ several the one with the longest way still to go gets those that are left. `rt` 
 and of all that it stands on, so each is built in a folder of its own: with links to what it stands on, and its
 own work, which is moved there and back.
 """
+import contextlib
+import fcntl
 import os
 import pathlib
 import re
 import shutil
 import subprocess
 import sys
-import tempfile
 import threading
 import time
 
@@ -25,14 +26,16 @@ SOURCES = ["src", "specs", "proofs"]
 KEPT = ["incremental", "rlib"]
 
 
+def name_in(line):
+    """The crate that a line of crates.txt names, or None."""
+    head, colon, _ = line.partition("#")[0].partition(":")
+    return head.split()[0] if colon else None
+
+
 def read_crates():
     """The crates of crates.txt, each with the crates of the repository that it names."""
     lines = [line.partition("#")[0] for line in (ROOT / "crates.txt").read_text().splitlines()]
-    named = {}
-    for line in lines:
-        head, colon, libraries = line.partition(":")
-        if colon:
-            named[head.split()[0]] = libraries.split()
+    named = {name_in(line): line.partition(":")[2].split() for line in lines if name_in(line)}
     return {name: [each for each in libraries if each in named] for name, libraries in named.items()}
 
 
@@ -79,17 +82,14 @@ def move_kept(source, target):
 
 def build_library(crates, name, jobs, stage):
     """Builds a crate over those below it, which are built; returns its status."""
-    room, crate = stage / name, ROOT / "crates" / name
+    room, crate, lower = stage / name, ROOT / "crates" / name, below(crates, name)
     room.mkdir()
-    shutil.copy(ROOT / "crates.txt", room)
-    for each in crates:
-        for part in SOURCES if each in [*below(crates, name), name] else []:
+    lines = (ROOT / "crates.txt").read_text().splitlines(keepends=True)
+    (room / "crates.txt").write_text("".join(it for it in lines if name_in(it) in [*lower, name]))
+    for each in [*lower, name]:
+        for part in [*SOURCES, *(["out/rlib"] if each != name else [])]:
             if (ROOT / "crates" / each / part).is_dir():
                 link_tree(ROOT / "crates" / each / part, room / "crates" / each / part)
-    for each in below(crates, name):
-        link_tree(ROOT / "crates" / each / "out/rlib", room / "crates" / each / "out/rlib")
-    for each in crates:
-        (room / "crates" / each).mkdir(parents=True, exist_ok=True)
     move_kept(crate, room / "crates" / name)
     try:
         return run_rt(["lib", "--jobs", str(jobs)], room / "crates" / name, crate)
@@ -136,27 +136,56 @@ def build_libraries(crates, needed, stage, done):
             built[name] = status
             turn.notify()
 
-    while left or running:
-        ready = [name for name in left if all(it in built for it in crates[name])]
-        for number, name in enumerate(ready):
-            free = processors - sum(jobs for _, jobs in running.values())
-            # (the first has the longest way; each of the others gets one processor)
-            jobs = max(free - (len(ready) - 1), 1) if number == 0 else 1
-            if free > 0:
+    try:
+        while left or running:
+            for name, jobs in chosen(crates, left, running, built, processors):
                 left.remove(name)
-                running[name] = threading.Thread(target=work, args=(name, jobs), daemon=True), jobs
+                running[name] = threading.Thread(target=work, args=(name, jobs)), jobs
                 running[name][0].start()
-        with turn:
-            turn.wait_for(lambda: any(name in built for name in running))
-            ended = [name for name in running if name in built]
-        for name in ended:
-            running.pop(name)[0].join()
-            if built[name]:
-                show_log(name)
-                left.clear()
-            else:
-                done(name)
+            with turn:
+                turn.wait_for(lambda: any(name in built for name in running))
+            for name in [it for it in running if it in built]:
+                running.pop(name)[0].join()
+                if built[name]:
+                    show_log(name)
+                    left.clear()
+                else:
+                    done(name)
+    finally:
+        # (an interrupt ends rt too; each thread then moves back what rt keeps)
+        for thread, _ in running.values():
+            thread.join()
     return not any(built.values())
+
+
+def chosen(crates, left, running, built, processors):
+    """The crates to begin now, each with its number of processors; the first that is left has the longest way."""
+    free = processors - sum(jobs for _, jobs in running.values())
+    ready = [name for name in left if all(it in built for it in crates[name])][:free]
+    return [(name, free - len(ready) + 1 if number == 0 else 1) for number, name in enumerate(ready)]
+
+
+@contextlib.contextmanager
+def alone(names):
+    """Keeps other runs of rt out of these crates, and others of this script out of the place for their folders."""
+    # (rt ci looks into every folder but .git)
+    place = ROOT / ".git" if (ROOT / ".git").is_dir() else ROOT / "crates" / PROGRAM
+    stage, held = place / "ld-build", []
+    try:
+        for name in sorted(names):
+            held.append(os.open(ROOT / "crates" / name, os.O_RDONLY))
+            try:
+                fcntl.flock(held[-1], fcntl.LOCK_EX | fcntl.LOCK_NB)
+            except BlockingIOError:
+                say(f"waiting for another run in crates/{name}")
+                fcntl.flock(held[-1], fcntl.LOCK_EX)
+        shutil.rmtree(stage, ignore_errors=True)
+        stage.mkdir()
+        yield stage
+    finally:
+        shutil.rmtree(stage, ignore_errors=True)
+        for it in held:
+            os.close(it)
 
 
 def build_program(done):
@@ -185,10 +214,8 @@ def main():
         minutes = (time.monotonic() - began) / 60
         say(f"crate {count} of {len(needed) + 1}, {minutes:.1f} minutes: {name}")
 
-    # (rt ci looks into every folder but .git)
-    git = ROOT / ".git"
-    with tempfile.TemporaryDirectory(prefix="ld-build-", dir=git if git.is_dir() else None) as stage:
-        if not build_libraries(crates, needed, pathlib.Path(stage), done):
+    with alone(needed) as stage:
+        if not build_libraries(crates, needed, stage, done):
             return 1
     return 0 if build_program(done) else 1
 

@@ -3,6 +3,7 @@ mod machine;
 mod memory;
 
 use ld_base::id::Id;
+use ld_base::memory::NoMemory;
 use ld_base::numbers::{PersonList, PersonNo, number};
 use ld_base::plain_text::PlainText;
 use ld_base::shelf::{Shelf, ShelfRefusal};
@@ -10,36 +11,33 @@ use ld_base::text::Text;
 use std::alloc::Global;
 use std::test::Fail;
 
-/// Identifiers, a line each.
+/// Whether a text is an identifier, and the text: the empty one and one of 65 letters are none.
 const IDENTIFIERS: &str = "\
-A
-z
-_
-aZ09_-.
-xxxxxxxxxxxxxxxxxxxxxxxxxxxxxxxxxxxxxxxxxxxxxxxxxxxxxxxxxxxxxxxx";
-
-/// Texts that are no identifiers, the empty one and one of 65 letters among them.
-const NO_IDENTIFIERS: &str = "\
-xxxxxxxxxxxxxxxxxxxxxxxxxxxxxxxxxxxxxxxxxxxxxxxxxxxxxxxxxxxxxxxxx
-
-9a
--a
-.a
-a/b
-a:b
-a@b
-a[b
-a`b
-a{b
-a b
-aé";
+yes|A
+yes|z
+yes|_
+yes|aZ09_-.
+yes|xxxxxxxxxxxxxxxxxxxxxxxxxxxxxxxxxxxxxxxxxxxxxxxxxxxxxxxxxxxxxxxx
+no|xxxxxxxxxxxxxxxxxxxxxxxxxxxxxxxxxxxxxxxxxxxxxxxxxxxxxxxxxxxxxxxxx
+no|
+no|9a
+no|-a
+no|.a
+no|a/b
+no|a:b
+no|a@b
+no|a[b
+no|a`b
+no|a{b
+no|a b
+no|aé";
 
 /// Whether the text is read as an identifier, which has that text and equals its copy.
-fn is_identifier(alloc: Global, text: &str) -> Result<bool, Fail> {
-    let Some(id) = Id::read(alloc, text.as_bytes())? else {
-        return Ok(false);
-    };
-    Ok(id.as_str() == text && id.copy()? == id)
+fn is_identifier(alloc: Global, text: &str) -> Result<bool, NoMemory> {
+    match Id::read(alloc, text.as_bytes())? {
+        Some(id) => Ok(id.as_str() == text && id.copy()? == id),
+        None => Ok(false),
+    }
 }
 
 /// The two parts of a line, around its first bar.
@@ -62,48 +60,66 @@ fn answers<S: Shelf>(shelf: &mut S, alloc: Global, folder: &str, line: &str) -> 
     }
 }
 
-#[test]
-fn texts_have_room(rt: HostRuntime) -> Result<(), Fail> {
-    let mut text = Text::with_room(rt.alloc(), 5)?;
+/// Whether a text with room for five bytes has what was pushed last, three times over.
+fn has_room(alloc: Global) -> Result<bool, NoMemory> {
+    let mut text = Text::with_room(alloc, 5)?;
     for _ in 0..3 {
         text.clear();
         text.push("é")?;
         text.push_ascii(b"abc")?;
     }
-    assert!(rt; text.as_str() == "éabc");
-    let mut small = Text::new(rt.alloc());
-    small.push("grows beyond its room")?;
-    assert!(rt; small.as_str() == "grows beyond its room");
+    Ok(text.as_str() == "éabc")
+}
+
+/// Whether a text with no room grows.
+fn grows(alloc: Global) -> Result<bool, NoMemory> {
+    let mut text = Text::new(alloc);
+    text.push("grows beyond its room")?;
+    Ok(text.as_str() == "grows beyond its room")
+}
+
+/// Whether a text that changes and one that does not are what they were made of.
+fn is_copied(alloc: Global, title: &str) -> Result<bool, NoMemory> {
+    let text = Text::of(alloc, title)?;
+    let plain = PlainText::of(alloc, title)?;
+    Ok(text.as_str() == title && plain.as_str() == title)
+}
+
+#[test]
+fn texts_have_room(rt: HostRuntime) -> Result<(), Fail> {
+    assert!(rt; has_room(rt.alloc())? && grows(rt.alloc())?);
     for title in ["", "A title", "é \"1\"\n"] {
-        let (text, plain) = (
-            Text::of(rt.alloc(), title)?,
-            PlainText::of(rt.alloc(), title)?,
-        );
-        assert!(rt; text.as_str() == title && plain.as_str() == title);
+        assert!(rt; is_copied(rt.alloc(), title)?, "{title}");
     }
     Ok(())
 }
 
 #[test]
 fn identifiers_have_a_form(rt: HostRuntime) -> Result<(), Fail> {
-    for text in IDENTIFIERS.lines() {
-        assert!(rt; is_identifier(rt.alloc(), text)?, "{text}");
-    }
-    for text in NO_IDENTIFIERS.lines() {
-        assert!(rt; !is_identifier(rt.alloc(), text)?, "{text}");
+    for line in IDENTIFIERS.lines() {
+        let (wanted, text) = cut(line)?;
+        assert!(rt;
+            is_identifier(rt.alloc(), text)? == (wanted == "yes"),
+            "{text}"
+        );
     }
     Ok(())
 }
 
+/// The persons 7, 3 and 7.
+fn three_persons(alloc: Global) -> Result<PersonList, NoMemory> {
+    let mut persons = PersonList::new(alloc);
+    persons.push(PersonNo(number(7)?))?;
+    persons.push(PersonNo(3))?;
+    persons.push(PersonNo(7))?;
+    Ok(persons)
+}
+
 #[test]
 fn lists_grow_at_their_end(rt: HostRuntime) -> Result<(), Fail> {
-    let mut persons = PersonList::new(rt.alloc());
-    assert!(rt; persons.is_empty());
-    for index in [7, 3, 7] {
-        persons.push(PersonNo(number(index)?))?;
-    }
+    let persons = three_persons(rt.alloc())?;
     assert!(rt; persons.get(1).copied() == Some(PersonNo(3)) && persons.get(3).is_none());
     assert!(rt; persons.len() == 3 && persons.as_slice()[2] == PersonNo(7));
-    assert!(rt; persons.into_vec().len() == 3);
+    assert!(rt; !persons.is_empty() && persons.into_vec().len() == 3);
     Ok(())
 }
