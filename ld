@@ -5,10 +5,10 @@ root=$(cd "$(dirname "${BASH_SOURCE[0]}")" && pwd) || exit 1
 crate=$root/crates/ld_program
 program=$crate/out/ld_program
 
-# Whether there is no program, or a source that is newer.
+# Whether there is no program, or a source that is newer. The crates of tests are no part of it.
 is_stale() {
   [ ! -x "$program" ] || [ -n "$(find "$root/crates" "$root/crates.txt" \
-    \( -name '*.rt' -o -name '*.antt' -o -name crates.txt \) -not -path '*/out/*' \
+    \( -name '*.rt' -o -name '*.antt' -o -name crates.txt \) -not -path '*/out/*' -not -path '*_tests/*' \
     -newer "$program" -print -quit)" ]
 }
 
@@ -18,17 +18,7 @@ build() {
     return 1
   fi
   echo "ld: proving and building the program; the first time takes 10 to 30 minutes" >&2
-  (cd "$root" && rt all check --jobs 2 2>&1 |
-    sed -nuE 's/^crate (ld_[a-z]+):.*/ld: checked \1/p; /: (no proof|error)/p' >&2)
-  # The program itself is run once with no words, which is the way to have it built. It then says that
-  # it has no words.
-  (cd "$crate" && rt run </dev/null >"$crate/out/build.log" 2>&1)
-  if ! [ -x "$program" ] || ! grep -q '^ld: bad-words$' "$crate/out/build.log"; then
-    tail -20 "$crate/out/build.log" >&2
-    echo "ld: the program could not be built; see $crate/out/build.log" >&2
-    return 1
-  fi
-  touch "$program"
+  python3 -B "$root/build.py"
 }
 
 if is_stale; then

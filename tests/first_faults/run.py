@@ -25,10 +25,11 @@ import order
 import references
 import shapes
 import sizes
+import texts
 
 SECONDS = 5
 LONGEST = 120
-TABLES = [good, order, names, references, cycles, bounds, limits, sizes, built, shapes]
+TABLES = [good, order, names, references, cycles, bounds, limits, sizes, built, shapes, texts]
 
 
 def write_folder(path, documents):

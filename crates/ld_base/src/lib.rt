@@ -21,7 +21,5 @@ pub mod source;
 pub mod stdin_source;
 pub mod stdout_sink;
 pub mod steps;
-#[cfg(test)]
-mod tests;
 pub mod text;
 pub mod write;

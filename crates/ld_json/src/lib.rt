@@ -26,5 +26,3 @@ pub mod file;
 pub mod node;
 pub mod place;
 pub mod print;
-#[cfg(test)]
-mod tests;

@@ -14,6 +14,4 @@ pub mod limits;
 pub mod moment;
 pub mod print;
 pub mod read;
-#[cfg(test)]
-mod tests;
 pub mod value;

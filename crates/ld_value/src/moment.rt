@@ -9,7 +9,7 @@ use jiff::civil::Date;
 use jiff_core::civil;
 
 /// A moment: seconds since 1970-01-01T00:00:00Z, negative before it.
-#[derive(Clone, Copy, Debug, PartialEq, Eq, PartialOrd, Ord)]
+#[derive(Clone, Copy, Debug, PartialEq, Eq)]
 pub struct Moment(pub i64);
 
 /// 0001-01-01T00:00:00Z, the first moment that has a text.

@@ -1,20 +1,20 @@
-//! What no clause says: that calls succeed where there is memory, and vectors made outside this
-//! program, by Python's `datetime`, `re` and whole numbers.
+//! Values that were worked out outside this program, by Python's `datetime`, `re` and whole numbers.
+//! More of them are in tests/moments.py and tests/first_faults/texts.py, which the program reads.
 mod tables;
 
-use crate::duration::read_duration;
-use crate::fault::ValueFault;
-use crate::fits::fits;
-use crate::kind::Kind;
-use crate::limits::{Limits, ValueList};
-use crate::moment::{Moment, print_moment, read_moment};
-use crate::print::print_value;
-use crate::read::{read_scalar, read_value};
-use crate::value::{Value, same_value};
 use ld_base::text::Text;
+use ld_value::duration::read_duration;
+use ld_value::fault::ValueFault;
+use ld_value::fits::fits;
+use ld_value::kind::Kind;
+use ld_value::limits::{Limits, ValueList};
+use ld_value::moment::{FIRST_MOMENT, LAST_MOMENT, Moment, print_moment, read_moment};
+use ld_value::print::print_value;
+use ld_value::read::{read_scalar, read_value};
+use ld_value::value::{Value, same_value};
 use std::alloc::Global;
 use std::test::Fail;
-use tables::{DURATIONS, MOMENTS, NO_DURATIONS, NO_MOMENTS, NO_VALUES, OTHERS, RESTRICTED, VALUES};
+use tables::{DURATIONS, MOMENTS, NO_VALUES, OTHERS, RESTRICTED, VALUES};
 
 /// The two parts of a line, around its first bar.
 fn cut(line: &str) -> Result<(&str, &str), &'static str> {
@@ -39,12 +39,25 @@ fn kind_of(word: &str) -> Result<Kind, &'static str> {
     }
 }
 
-/// How the value of the text is printed.
-fn print_of(alloc: Global, kind: Kind, text: &str) -> Result<Text, ValueFault> {
+/// Whether the text has a value of the datatype, and that is printed so.
+fn is_printed(alloc: Global, kind: Kind, text: &str, printed: &str) -> Result<bool, ValueFault> {
     let value = read_value(alloc, kind, text)?;
     let mut out = Text::new(alloc);
     print_value(&value, &mut out)?;
-    Ok(out)
+    Ok(out.as_str() == printed && same_value(&value, &value.copy(alloc)?))
+}
+
+/// Whether the text has no value of the datatype.
+fn has_no_value(alloc: Global, kind: Kind, text: &str) -> bool {
+    matches!(&read_value(alloc, kind, text), Err(ValueFault::BadValue))
+}
+
+/// Whether the text names the moment of these seconds, which is printed as the text.
+fn is_moment(text: &str, seconds: i64) -> bool {
+    match read_moment(text) {
+        Some(moment) => moment.0 == seconds && print_moment(moment).as_slice() == text.as_bytes(),
+        None => false,
+    }
 }
 
 /// The value of the text, unless that is a dot.
@@ -66,7 +79,7 @@ fn unlimited(alloc: Global) -> Limits {
     }
 }
 
-/// The restrictions of the words of a line, and what follows them.
+/// The restrictions of the words of a line.
 fn limits_of(alloc: Global, kind: Kind, words: &str) -> Result<Limits, Fail> {
     let (bounds, words) = cut(words)?;
     let (lengths, list) = cut(words)?;
@@ -87,33 +100,14 @@ fn limits_of(alloc: Global, kind: Kind, words: &str) -> Result<Limits, Fail> {
 }
 
 #[test]
-fn moments(rt: HostRuntime) -> Result<(), Fail> {
+fn moments_and_durations(rt: HostRuntime) -> Result<(), Fail> {
     for line in MOMENTS.lines() {
         let (text, seconds) = cut(line)?;
-        let seconds: i64 = seconds.parse()?;
-        let moment = read_moment(text).ok_or("no moment")?;
-        assert_eq!(rt; moment, Moment(seconds), "{text}");
-        let printed = print_moment(moment);
-        assert_eq!(rt; printed.as_slice(), text.as_bytes());
+        assert!(rt; is_moment(text, seconds.parse()?), "{line}");
     }
-    for text in NO_MOMENTS.lines() {
-        assert_eq!(rt; read_moment(text), None, "{text}");
-    }
-    Ok(())
-}
-
-#[test]
-fn durations(rt: HostRuntime) -> Result<(), Fail> {
     for line in DURATIONS.lines() {
-        let (text, rest) = cut(line)?;
-        let (seconds, printed) = cut(rest)?;
-        let seconds: u64 = seconds.parse()?;
-        assert_eq!(rt; read_duration(text), Some(seconds), "{text}");
-        let again = print_of(rt.alloc(), Kind::Duration, text)?;
-        assert_eq!(rt; again.as_str().as_bytes(), printed.as_bytes(), "{text}");
-    }
-    for text in NO_DURATIONS.lines() {
-        assert_eq!(rt; read_duration(text), None, "{text}");
+        let (text, seconds) = cut(line)?;
+        assert!(rt; read_duration(text) == Some(seconds.parse()?), "{line}");
     }
     Ok(())
 }
@@ -123,27 +117,22 @@ fn values(rt: HostRuntime) -> Result<(), Fail> {
     for line in VALUES.lines() {
         let (kind, rest) = cut(line)?;
         let (text, printed) = cut(rest)?;
-        let out = print_of(rt.alloc(), kind_of(kind)?, text)?;
-        assert_eq!(rt; out.as_str().as_bytes(), printed.as_bytes(), "{line}");
+        assert!(rt;
+            is_printed(rt.alloc(), kind_of(kind)?, text, printed)?,
+            "{line}"
+        );
     }
     for line in NO_VALUES.lines() {
         let (kind, text) = cut(line)?;
-        let read = read_value(rt.alloc(), kind_of(kind)?, text);
-        assert!(rt; matches!(&read, Err(ValueFault::BadValue)), "{line}");
+        assert!(rt; has_no_value(rt.alloc(), kind_of(kind)?, text), "{line}");
     }
     assert!(rt; matches!(read_scalar(Kind::Boolean, "true"), Some(Value::Bool(true))));
-    assert!(rt; matches!(read_scalar(Kind::Integer, "x"), None));
-    Ok(())
-}
-
-#[test]
-fn long_texts(rt: HostRuntime) -> Result<(), Fail> {
     let bytes = [b'x'; 4_097];
     let (long, longer) = (str::from_utf8(&bytes[..4_096])?, str::from_utf8(&bytes)?);
     for kind in [Kind::String, Kind::Text, Kind::Uri] {
-        assert_eq!(rt; print_of(rt.alloc(), kind, long)?.as_str(), long);
-        let read = read_value(rt.alloc(), kind, longer);
-        assert!(rt; matches!(&read, Err(ValueFault::BadValue)));
+        assert!(rt;
+            is_printed(rt.alloc(), kind, long, long)? && has_no_value(rt.alloc(), kind, longer)
+        );
     }
     Ok(())
 }
@@ -157,38 +146,23 @@ fn restrictions(rt: HostRuntime) -> Result<(), Fail> {
         let (words, text) = words.rsplit_once('|').ok_or("no text")?;
         let limits = limits_of(rt.alloc(), kind, words)?;
         let value = read_value(rt.alloc(), kind, text)?;
-        assert_eq!(rt; fits(kind, &limits, &value), wanted == "yes", "{line}");
+        assert!(rt; fits(kind, &limits, &value) == (wanted == "yes"), "{line}");
     }
-    Ok(())
-}
-
-#[test]
-fn kinds_and_copies(rt: HostRuntime) -> Result<(), Fail> {
+    let limits = unlimited(rt.alloc());
     for line in OTHERS.lines() {
         let (kind, rest) = cut(line)?;
         let (text, rest) = cut(rest)?;
         let (other, wanted) = cut(rest)?;
         let value = read_value(rt.alloc(), kind_of(kind)?, text)?;
-        let fit = fits(kind_of(other)?, &unlimited(rt.alloc()), &value);
-        assert_eq!(rt; fit, wanted == "yes", "{line}");
-        assert!(rt; same_value(&value, &value.copy(rt.alloc())?), "{line}");
+        assert!(rt;
+            fits(kind_of(other)?, &limits, &value) == (wanted == "yes"),
+            "{line}"
+        );
         assert!(rt; !same_value(&value, &Value::Int(2)), "{line}");
     }
-    let limits = unlimited(rt.alloc());
-    assert!(rt;
-        !fits(
-            Kind::Datetime,
-            &limits,
-            &Value::Moment(Moment(253_402_300_800))
-        )
-    );
-    assert!(rt;
-        !fits(
-            Kind::Datetime,
-            &limits,
-            &Value::Moment(Moment(-62_135_596_801))
-        )
-    );
+    for seconds in [FIRST_MOMENT.0 - 1, LAST_MOMENT.0 + 1] {
+        assert!(rt; !fits(Kind::Datetime, &limits, &Value::Moment(Moment(seconds))));
+    }
     assert!(rt; !fits(Kind::Duration, &limits, &Value::Span(1_000_000_000_000)));
     Ok(())
 }

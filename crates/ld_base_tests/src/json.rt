@@ -1,0 +1,127 @@
+//! What serde_json reads and prints, byte by byte, and where the faults of a node stand. Which bytes
+//! are no JSON is shown by tests/first_faults/texts.py, where the program reads them.
+use ld_base::memory::NoMemory;
+use ld_base::text::Text;
+use ld_json::code::Code;
+use ld_json::doc::{Doc, document};
+use ld_json::fault::ReadFault;
+use ld_json::file::FileNo;
+use ld_json::node::Node;
+use ld_json::print::print_text;
+use serde_json::json;
+use std::alloc::Global;
+use std::test::Fail;
+
+/// A tree, and a letter for each access that it allows: text, whole, flag, count, sole, only `a`; and
+/// `u` where it has an unknown member.
+const SHAPES: &str = "\
+null|
+true|f
+7|w
+18446744073709551615|w
+18446744073709551616|
+1.0|
+1e2|
+-0|
+-7|
+\"7\"|t
+[7]|c
+{\"a\":7}|so
+{\"b\":7}|su
+{\"a\":7,\"b\":7}|u
+{\"a\":7,\"a\":8}|so
+{}|o";
+
+/// Whether the tree of the text allows just these accesses.
+fn allows(alloc: Global, doc: &Doc, letters: &str) -> bool {
+    let node = doc.root(FileNo::Roles);
+    let only = node.only(alloc, &["a"]);
+    node.text(alloc).is_ok() == letters.contains('t')
+        && node.whole(alloc).is_ok() == letters.contains('w')
+        && node.flag(alloc).is_ok() == letters.contains('f')
+        && node.count(alloc).is_ok() == letters.contains('c')
+        && node.sole(alloc).is_ok() == letters.contains('s')
+        && only.is_ok() == letters.contains('o')
+        && is_refused(only, Code::UnknownMember, ".") == letters.contains('u')
+}
+
+/// Whether the outcome is the refusal of this code at this place.
+fn is_refused<T: Drop>(outcome: Result<T, ReadFault>, code: Code, place: &str) -> bool {
+    match outcome {
+        Err(ReadFault::Refused(fault)) => fault.code == code && fault.place_text() == place,
+        _ => false,
+    }
+}
+
+#[test]
+fn each_access_on_each_shape(rt: HostRuntime) -> Result<(), Fail> {
+    for line in SHAPES.lines() {
+        let (text, letters) = line.split_once('|').ok_or("a line without a bar")?;
+        let doc = document(rt.alloc(), text.as_bytes())?;
+        assert!(rt; allows(rt.alloc(), &doc, letters), "{line}");
+    }
+    Ok(())
+}
+
+/// Whether faults in this object stand at escaped places, and its text comes out as it went in.
+fn has_places(alloc: Global, last: &Node<'_>) -> Result<bool, ReadFault> {
+    let name = last.sole(alloc)?;
+    let below = last.member(alloc, name)?;
+    below.only(alloc, &["é"])?;
+    let leaf = below.member(alloc, "é")?;
+    Ok(
+        below.optional("a").is_none()
+            && leaf.text(alloc)? == "text"
+            && is_refused(leaf.flag(alloc), Code::WrongShape, "/a~0b~1c/10//é")
+            && is_refused(
+                below.member(alloc, "~/"),
+                Code::Missing,
+                "/a~0b~1c/10//~0~1",
+            ),
+    )
+}
+
+/// Whether the list has eleven elements, the number 3 and, as its last, that object.
+fn has_elements(alloc: Global, list: &Node<'_>) -> Result<bool, ReadFault> {
+    if list.count(alloc)? != 11 {
+        return Ok(false);
+    }
+    Ok(list.item(3).whole(alloc)? == 3 && has_places(alloc, &list.item(10))?)
+}
+
+/// Whether the only member of the document, whose name is escaped in places, is that list.
+fn has_list(alloc: Global, doc: &Doc) -> Result<bool, ReadFault> {
+    let root = doc.root(FileNo::Unit);
+    root.only(alloc, &["x", "a~b/c"])?;
+    let list = root.member(alloc, "a~b/c")?;
+    has_elements(alloc, &list)
+}
+
+#[test]
+fn places(rt: HostRuntime) -> Result<(), Fail> {
+    let text = "{\"a~b/c\":[0,1,2,3,4,5,6,7,8,9,{\"\":{\"é\":\"text\"}}]}";
+    let doc = document(rt.alloc(), text.as_bytes())?;
+    assert!(rt; has_list(rt.alloc(), &doc)?);
+    Ok(())
+}
+
+/// Whether each escape of a text is printed.
+fn prints_escapes(alloc: Global) -> Result<bool, NoMemory> {
+    let mut out = Text::new(alloc);
+    let text = "\"\\/\u{8}\u{c}\n\r\t\u{0}\u{1f}\u{7f}\u{e9}\u{1f600}";
+    let wanted = "\"\\\"\\\\/\\b\\f\\n\\r\\t\\u0000\\u001f\u{7f}\u{e9}\u{1f600}\"";
+    print_text(alloc, text, &mut out)?;
+    Ok(out.as_str() == wanted)
+}
+
+/// Printing: each escape, byte order of members, whole numbers.
+#[test]
+fn prints(rt: HostRuntime) -> Result<(), Fail> {
+    let alloc = rt.alloc();
+    assert!(rt; prints_escapes(alloc)?);
+    let mut out = Text::new(alloc);
+    let tree = json!(in alloc; {"b": [true, 7, -7], "a": {}, "B": null, "aa": "\n"})?;
+    Doc::of(tree).print(alloc, &mut out)?;
+    assert!(rt; out.as_str() == "{\"B\":null,\"a\":{},\"aa\":\"\\n\",\"b\":[true,7,-7]}");
+    Ok(())
+}
