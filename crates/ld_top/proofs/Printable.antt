@@ -1,6 +1,6 @@
 -- What is told of a step has a text.
-use Rattle.std.proofs.Common.{◌≡◌, ℤ, List, [], ◌∷◌, Bool, true, false, ◌&&◌, Option, Some, None, refl, sym, ap, ◌∙◌, subst, if◌then◌else◌, tt, IfSome}
-use Rattle.ld_model.specs.State.{RunState, moment_in}
+use Rattle.std.proofs.Common.{◌≡◌, ℤ, List, [], ◌∷◌, Bool, true, false, ◌&&◌, Option, Some, None, refl, sym, ap, ◌∙◌, subst, if◌then◌else◌, IfSome}
+use Rattle.ld_model.specs.State.{RunState, moment_in, state_at_first}
 use Rattle.ld_model.specs.declared.cell.CellName.TheVariants.{Now}
 use Rattle.ld_model.specs.declared.unit.Unit.{Unit as Course}
 use Rattle.ld_value.specs.Calendar.{IsMoment}
@@ -57,11 +57,11 @@ causes_printable (cause ∷ more) all = cause_printable cause.1 cause.0 (first_c
 
 of_command : (unit : Course) (s : RunState) (moment : ℤ) (command : BuiltCommand) → IsDated s → AllPrintable (causes unit s moment command)
 unfolding AllPrintable
-of_command unit s moment (Enrol person) dated = (dated, tt, tt, tt)
-of_command unit s moment (Assign person role) dated = (dated, tt, tt, tt, tt)
-of_command unit s moment Start dated = (dated, tt, tt)
-of_command unit s moment (Complete person activity) dated = (dated, tt, tt, tt, tt, tt)
-of_command unit s moment (Tree person) dated = (dated, tt, tt, tt)
+of_command unit s moment (Enrol person) dated = (dated, (tt, (tt, tt)))
+of_command unit s moment (Assign person role) dated = (dated, (tt, (tt, (tt, tt))))
+of_command unit s moment Start dated = (dated, (tt, tt))
+of_command unit s moment (Complete person activity) dated = (dated, (tt, (tt, (tt, (tt, tt)))))
+of_command unit s moment (Tree person) dated = (dated, (tt, (tt, tt)))
 
 checks_printable : (unit : Course) (s : RunState) (moment : ℤ) (command : BuiltCommand) (cause : Option Refusal) → IfSome cause IsPrintable → RefusesPrintably (after_checks unit s moment command cause)
 checks_printable unit s moment command (Some why) printable = refusal_printable s why printable
@@ -81,3 +81,7 @@ tells unit s moment command (Refused why) dated is outcome = step_printable unit
 tells unit s moment command (Done new work) dated is outcome =
     let at : (step unit s moment command).state.cells Now ≡ Some (moment_datum moment) = done_at unit s moment command (work_of work) (ap (λ (o : Outcome). o.reply) outcome) in
     now_dated (state_of new) moment (sym (ap (λ (o : Outcome). o.state.cells Now) outcome) ∙ at) is
+
+-- A run that is made at a moment that has a text.
+pub first_dated : (s : RunState) (moment : ℤ) → s ≡ state_at_first moment → IsMoment moment → IsDated s
+first_dated s moment first is = rw first is

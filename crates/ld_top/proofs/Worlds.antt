@@ -1,5 +1,6 @@
 -- What a line does to a world of one unit.
-use Rattle.std.proofs.Common.{ℕ, List, [], ◌∷◌, ◌++◌, ◌≡◌, Option, Some, None, true, false, refl, sym, ◌∙◌, ap, append_assoc, Result, Ok, Err, OnOk, IfOk, codes}
+use Rattle.std.proofs.Common.{Bool, ℕ, List, [], ◌∷◌, ◌++◌, ◌≡◌, Option, Some, None, true, false, refl, sym, ◌∙◌, ap, append_assoc, Result, Ok, Err, OnOk, IfOk, codes, nat_lt, length, if◌then◌else◌}
+use Rattle.std.specs.Option.{option_and_then}
 use Rattle.std.specs.Str.{bytes_eq}
 use Rattle.ld_top.specs.declared.built.BuiltLine.{BuiltLine}
 use Rattle.ld_top.specs.declared.built.BuiltLine.TheVariants.{Create, OfRun}
@@ -7,6 +8,10 @@ use Rattle.ld_top.specs.declared.built.BuiltCommand.{BuiltCommand}
 use Rattle.ld_model.specs.State.{RunState, state_at_first}
 use Rattle.ld_model.specs.declared.unit.Unit.{Unit as Course}
 use Rattle.ld_value.specs.declared.moment.Moment.{Moment}
+use Rattle.ld_lines.specs.Commands.{command_of}
+use Rattle.ld_lines.specs.declared.line.Line.{Line}
+use Rattle.ld_top.specs.Answers.{line_of}
+use Rattle.ld_top.specs.Built.{built_line}
 use Rattle.ld_top.specs.Refusals.{refusal_text}
 use Rattle.ld_top.specs.Reply.{reply_block}
 use Rattle.ld_top.specs.Step.{done, refused, step}
@@ -45,6 +50,14 @@ refused_line w line why e text t = by_outcome w line (world_refusal w why) e tex
 pub no_line : (w : WorldState) → world_step w None ≡ world_refusal w BadLine
 unfolding world_step
 no_line w = refl
+
+either_none : (b : Bool) (o : Option BuiltLine) → o ≡ None → (if b then None else o) ≡ None
+either_none true o none = refl
+either_none false o none = none
+
+-- A line that is read and is not built.
+pub not_built : (bytes : List ℕ) (line : Line) → command_of bytes ≡ Some line → None ≡ built_line line → line_of bytes ≡ None
+not_built bytes line read none = either_none (nat_lt 65536 (length bytes)) (option_and_then built_line (command_of bytes)) (rw read (sym none))
 
 -- A run of a unit that is not there, a second run, and the first run.
 pub creates_nothing : (unit : Course) (runs : List RunOf) (moment : Moment) (name id : List ℕ) → bytes_eq unit.identifier id ≡ false → world_step (record { units = unit ∷ []; runs = runs }) (Some (Create moment name id)) ≡ world_refusal (record { units = unit ∷ []; runs = runs }) UnknownUnit

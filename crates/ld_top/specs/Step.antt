@@ -1,5 +1,5 @@
 -- What a command does to its run, in stages.
-use Rattle.std.specs.Prelude.{ℕ, zero, suc, ◌+◌, ℤ, List, [], ◌∷◌, ◌++◌, Option, Some, None, Bool, true, false, ◌&&◌, not, length, is_some, is_none, nat_le, int_lt, if◌then◌else◌, slice_get, unwrap_or}
+use Rattle.std.specs.Prelude.{ℕ, zero, suc, ◌+◌, ℤ, List, [], ◌∷◌, ◌++◌, Option, Some, None, Bool, true, false, ◌&&◌, not, length, is_some, is_none, nat_le, int_lt, if◌then◌else◌, slice_get, unwrap_or, pos}
 use Rattle.ld_model.specs.Members.{activity_number, person_number, holds_role}
 use Rattle.ld_model.specs.Names.{role_number, thing_number}
 use Rattle.ld_model.specs.State.{PersonState, RunState, with_cell, moment_in}
@@ -45,7 +45,7 @@ is_before moment (Some last) = int_lt moment last
 
 -- The run's last moment.
 abbrev pub last_moment : RunState → Moment
-last_moment s = record { 0 = unwrap_or (moment_in (s.cells Now)) 0 }
+last_moment s = record { 0 = unwrap_or (moment_in (s.cells Now)) (pos 0) }
 
 -- The run's last moment is one that has a text.
 abbrev pub IsDated : RunState → Type 0
@@ -93,10 +93,10 @@ is_no_person s person = (UnknownPerson, not (is_enrolled s person))
 -- The causes of refusal of a command, in the order in which they are tried.
 abbrev pub causes : Course → RunState → ℤ → BuiltCommand → List Cause
 causes unit s moment (Enrol person) = comes_too_early s moment ∷ (PersonExists, is_enrolled s person) ∷ (RunFull, nat_le 200 (length s.persons)) ∷ []
-causes unit s moment (Assign person role) = 
+causes unit s moment (Assign person role) =
     comes_too_early s moment ∷ is_no_person s person ∷ (UnknownRole, is_none (role_number unit role)) ∷ (HoldsAlready, holds_already unit s person role) ∷ []
 causes unit s moment Start = comes_too_early s moment ∷ (StartedAlready, is_started s) ∷ []
-causes unit s moment (Complete person activity) = 
+causes unit s moment (Complete person activity) =
     comes_too_early s moment ∷ is_unstarted s ∷ is_no_person s person ∷ (UnknownActivity, is_none (activity_number unit activity)) ∷ (NotByChoice, not (by_choice_at unit (activity_number unit activity))) ∷ []
 causes unit s moment (Tree person) = comes_too_early s moment ∷ is_unstarted s ∷ is_no_person s person ∷ []
 

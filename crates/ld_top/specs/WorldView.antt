@@ -2,7 +2,7 @@
 use Rattle.std.specs.Prelude.{List, [], ◌∷◌, Option, Some, None}
 use Rattle.ld_model.specs.declared.unit.Unit.{Unit as Course}
 use Rattle.ld_top.specs.declared.world.World.{World}
-use Rattle.ld_top.specs.declared.world.Run.{Run}
+use Rattle.ld_top.specs.declared.run.Run.{Run}
 use Rattle.ld_top.specs.StateView.{state_of}
 use Rattle.ld_top.specs.World.{RunOf, WorldState}
 

@@ -13,25 +13,15 @@ use ld_value::moment::Moment;
 #[derive(Drop)]
 pub enum BuiltCommand {
     /// The person joins the run.
-    Enrol {
-        person: Id,
-    },
+    Enrol { person: Id },
     /// The person holds the role from now on.
-    Assign {
-        person: Id,
-        role: Id,
-    },
+    Assign { person: Id, role: Id },
     /// The run starts.
     Start,
     /// The person says that the activity is completed.
-    Complete {
-        person: Id,
-        activity: Id,
-    },
+    Complete { person: Id, activity: Id },
     /// The person's activity tree is asked for.
-    Tree {
-        person: Id,
-    },
+    Tree { person: Id },
 }
 
 /// A command line, with the moment that it carries.

@@ -33,7 +33,9 @@ pub fn first_cause(
 {
     match command {
         BuiltCommand::Enrol { person } => enrol_cause(state, moment, person),
-        BuiltCommand::Assign { person, role } => assign_cause(prepared, state, moment, person, role),
+        BuiltCommand::Assign { person, role } => assign_cause(
+            prepared, state, moment, person, role,
+        ),
         BuiltCommand::Start => start_cause(state, moment),
         BuiltCommand::Complete { person, activity } => {
             complete_cause(prepared, state, moment, person, activity)

@@ -18,6 +18,7 @@ pub mod reader;
 pub mod refusal;
 mod replay;
 mod reply;
+mod run;
 pub mod state;
 mod step;
 pub mod top;

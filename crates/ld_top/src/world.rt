@@ -17,6 +17,7 @@ use crate::built::{BuiltCommand, BuiltLine, built_line};
 use crate::prepared::PreparedUnit;
 use crate::refusal::Refusal;
 use crate::reply::{push_done, push_refusal};
+use crate::run::Run;
 use crate::state::State;
 use crate::step::{Stepped, step_run};
 use ld_base::id::Id;
@@ -29,14 +30,6 @@ use ld_lines::refusal::refusal_word;
 use ld_refs::check::Checked;
 use ld_value::moment::Moment;
 use std::alloc::Global;
-
-/// A run, by its name. Its last moment is one that has a text.
-#[derive(Drop)]
-pub struct Run {
-    pub name: Id,
-    pub state: State,
-    ghost dated: { IsDated (state_of state) },
-}
 
 /// One unit, and the run that was made of it.
 pub struct World {

@@ -2,6 +2,8 @@ use Rattle.std.proofs.Common.{◌≡◌, ◌∙◌, ◌++◌, ap, codes, true, f
 use Rattle.std.specs.Str.{bytes_eq}
 use Rattle.std.proofs.lemmas.Grind.{common_steps}
 use Rattle.ld_top.proofs.Worlds.{on_ok, is_none, refused_line, creates_nothing, creates_no_second, created}
+use Rattle.ld_top.proofs.Printable.{first_dated}
+use Rattle.ld_top.specs.StateView.{state_of}
 use Rattle.ld_top.specs.declared.refusal.Refusal.TheVariants.{UnknownUnit}
 use Rattle.ld_top.proofs.world.World.create.Goals as goal
 
@@ -21,3 +23,6 @@ returns-clause-ok c =
     let none = is_none c.args.self.now.run c.in_default.not-Some in
     let text : c.push.new.self.bytes ≡ codes "ok create\n" = c.in_ok-push.ensures.ok ∙ ap (λ b. b ++ codes "ok create\n") c.clear.ensures.empty in
     rw none (created _ _ _ _ _ same c.new-state.ensures _ text)
+
+pub invariant_of-t-31 : goal.invariant_of-t-31
+invariant_of-t-31 c = record { dated = first_dated (state_of c.new-state.result) c.args.moment.0 c.new-state.ensures c.requires }
