@@ -81,6 +81,7 @@ pub fn push_done(
             push_tree(alloc, prepared, state, person, out)?;
             Ok(())
         }
+        _ => Ok(()),
     }
 }
 
