@@ -11,7 +11,23 @@ use Rattle.ld_lines.specs.declared.line.Line.TheVariants.{Create, OfRun, GlobalS
 use Rattle.ld_lines.specs.declared.command.RunCommand.{RunCommand}
 use Rattle.ld_lines.specs.declared.command.RunCommand.TheVariants.{Enrol, Assign, Drop, Start, Open, Complete, Set, Clear, Get, Tree, Outbox, Report, Tick}
 
--- The verbs of one run, with the words behind the run's name.
+-- The verbs that show something, with the words behind the run's name.
+unfoldable pub showing_command : List ℕ → Form RunCommand
+showing_command verb =
+    if verb is "tree" then (do give (Tree (← identifier))) else
+    if verb is "outbox" then (do give (Outbox (← identifier))) else
+    if verb is "report" then give Report else
+    no_words
+
+-- The verbs of properties, and those.
+unfoldable pub property_command : List ℕ → Form RunCommand
+property_command verb =
+    if verb is "set" then (do give (Set (← identifier) (← identifier) (← any_text))) else
+    if verb is "clear" then (do give (Clear (← identifier) (← identifier))) else
+    if verb is "get" then (do give (Get (← identifier) (← identifier))) else
+    showing_command verb
+
+-- The verbs by which a run goes on, and those: all verbs of one run.
 unfoldable pub command_of_verb : List ℕ → Form RunCommand
 command_of_verb verb =
     if verb is "enrol" then (do give (Enrol (← identifier))) else
@@ -20,14 +36,8 @@ command_of_verb verb =
     if verb is "start" then give Start else
     if verb is "open" then (do give (Open (← identifier) (← identifier))) else
     if verb is "complete" then (do give (Complete (← identifier) (← identifier))) else
-    if verb is "set" then (do give (Set (← identifier) (← identifier) (← any_text))) else
-    if verb is "clear" then (do give (Clear (← identifier) (← identifier))) else
-    if verb is "get" then (do give (Get (← identifier) (← identifier))) else
-    if verb is "tree" then (do give (Tree (← identifier))) else
-    if verb is "outbox" then (do give (Outbox (← identifier))) else
-    if verb is "report" then give Report else
     if verb is "tick" then give Tick else
-    no_words
+    property_command verb
 
 -- The verbs of the whole world, with their words, and those of one run, whose first word is its name.
 unfoldable pub line_of_verb : Moment → List ℕ → Form Line
