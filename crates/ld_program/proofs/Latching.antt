@@ -4,7 +4,7 @@ use Rattle.std.proofs.lemmas.Bool.{eqb-true}
 use Rattle.ld_base.specs.declared.numbers.RuleNo.{RuleNo}
 use Rattle.ld_base.specs.declared.numbers.ThingNo.{ThingNo}
 use Rattle.ld_lines.specs.declared.command.RunCommand.{RunCommand}
-use Rattle.ld_lines.specs.declared.command.RunCommand.TheVariants.{Enrol, Assign, Drop, Start, Open, Complete, Set, Clear, Get, Tree, Outbox, Report, Tick}
+use Rattle.ld_lines.specs.declared.command.RunCommand.TheVariants.{Enrol, Assign, Start, Complete, Tree}
 use Rattle.ld_model.specs.Cells.{same_cell, same_owner}
 use Rattle.ld_model.specs.Members.{person_number}
 use Rattle.ld_model.specs.Names.{role_number}
@@ -143,14 +143,6 @@ change_leaves unit s moment (Assign person role) name other = role_leaves s (per
 change_leaves unit s moment Start name other = rw other.started refl
 change_leaves unit s moment (Complete person activity) name other = choice_leaves s (person_number s person) (thing_number unit activity) name other
 change_leaves unit s moment (Tree person) name other = refl
-change_leaves unit s moment (Drop person role) name other = refl
-change_leaves unit s moment (Open person activity) name other = refl
-change_leaves unit s moment (Set person property value) name other = refl
-change_leaves unit s moment (Clear person property) name other = refl
-change_leaves unit s moment (Get person property) name other = refl
-change_leaves unit s moment (Outbox person) name other = refl
-change_leaves unit s moment Report name other = refl
-change_leaves unit s moment Tick name other = refl
 
 pub mark_is_no_change : (rule : RuleNo) (owner : Owner) → IsNoChange (Mark rule owner)
 mark_is_no_change rule owner = record { started = refl; chosen = λ thing person. refl }

@@ -1,10 +1,10 @@
 -- A refused command changes nothing, and one that is done keeps its moment.
 use Rattle.std.proofs.Common.{◌≡◌, ℕ, ℤ, List, [], ◌∷◌, ◌++◌, Bool, true, false, ◌&&◌, Option, Some, None, refl, sym, ap, ◌∙◌, if◌then◌else◌}
 use Rattle.std.specs.Str.{bytes_eq}
-use Rattle.ld_lines.specs.declared.line.Line.{Line}
-use Rattle.ld_lines.specs.declared.line.Line.TheVariants.{Create, OfRun, GlobalSet, GlobalGet}
+use Rattle.ld_lines.specs.declared.command.Line.{Line}
+use Rattle.ld_lines.specs.declared.command.Line.TheVariants.{Create, OfRun}
 use Rattle.ld_lines.specs.declared.command.RunCommand.{RunCommand}
-use Rattle.ld_lines.specs.declared.command.RunCommand.TheVariants.{Enrol, Assign, Drop, Start, Open, Complete, Set, Clear, Get, Tree, Outbox, Report, Tick}
+use Rattle.ld_lines.specs.declared.command.RunCommand.TheVariants.{Enrol, Assign, Start, Complete, Tree}
 use Rattle.ld_model.specs.State.{RunState, state_at_first}
 use Rattle.ld_model.specs.declared.cell.CellName.TheVariants.{Now}
 use Rattle.ld_model.specs.declared.unit.Unit.{Unit as Course}
@@ -84,8 +84,6 @@ unfolding world_step line_outcome
 line_refused w None number is = refl
 line_refused w (Some (Create moment run unit)) number is = create_refused w moment.0 run (unit_named unit w.units) number is
 line_refused w (Some (OfRun moment run command)) number is = of_run_refused w moment.0 run command (run_named run w.runs) refl number is
-line_refused w (Some (GlobalSet moment uri person value)) number is = refl
-line_refused w (Some (GlobalGet moment uri person)) number is = refl
 
 -- ---- a command that is done
 
@@ -142,11 +140,3 @@ done_later unit s moment (Assign person role) work is = not_back unit s moment (
 done_later unit s moment Start work is = not_back unit s moment Start (is_back s moment) (others (causes unit s moment Start)) work is
 done_later unit s moment (Complete person activity) work is = not_back unit s moment (Complete person activity) (is_back s moment) (others (causes unit s moment (Complete person activity))) work is
 done_later unit s moment (Tree person) work is = not_back unit s moment (Tree person) (is_back s moment) (others (causes unit s moment (Tree person))) work is
-done_later unit s moment (Drop person role) work is = not_back unit s moment (Drop person role) (is_back s moment) (others (causes unit s moment (Drop person role))) work is
-done_later unit s moment (Open person activity) work is = not_back unit s moment (Open person activity) (is_back s moment) (others (causes unit s moment (Open person activity))) work is
-done_later unit s moment (Set person property value) work is = not_back unit s moment (Set person property value) (is_back s moment) (others (causes unit s moment (Set person property value))) work is
-done_later unit s moment (Clear person property) work is = not_back unit s moment (Clear person property) (is_back s moment) (others (causes unit s moment (Clear person property))) work is
-done_later unit s moment (Get person property) work is = not_back unit s moment (Get person property) (is_back s moment) (others (causes unit s moment (Get person property))) work is
-done_later unit s moment (Outbox person) work is = not_back unit s moment (Outbox person) (is_back s moment) (others (causes unit s moment (Outbox person))) work is
-done_later unit s moment Report work is = not_back unit s moment Report (is_back s moment) (others (causes unit s moment Report)) work is
-done_later unit s moment Tick work is = not_back unit s moment Tick (is_back s moment) (others (causes unit s moment Tick)) work is

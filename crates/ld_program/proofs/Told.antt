@@ -3,10 +3,10 @@ use Rattle.std.proofs.Common.{◌≡◌, inl, inr, ℕ, List, [], ◌∷◌, ◌
 use Rattle.std.specs.Fmt.{digits}
 use Rattle.std.proofs.lemmas.Cmp.{nat_eq_equiv}
 use Rattle.std.proofs.lemmas.List.{append_cancel_left}
-use Rattle.ld_lines.specs.declared.line.Line.{Line}
-use Rattle.ld_lines.specs.declared.line.Line.TheVariants.{Create, OfRun, GlobalSet, GlobalGet}
+use Rattle.ld_lines.specs.declared.command.Line.{Line}
+use Rattle.ld_lines.specs.declared.command.Line.TheVariants.{Create, OfRun}
 use Rattle.ld_lines.specs.declared.command.RunCommand.{RunCommand}
-use Rattle.ld_lines.specs.declared.command.RunCommand.TheVariants.{Enrol, Assign, Drop, Start, Open, Complete, Set, Clear, Get, Tree, Outbox, Report, Tick}
+use Rattle.ld_lines.specs.declared.command.RunCommand.TheVariants.{Enrol, Assign, Start, Complete, Tree}
 use Rattle.ld_program.specs.Answers.{AnswersLine, Leads, line_of, no_memory_block}
 use Rattle.ld_program.specs.Reply.{reply_block, reply_text, refusal_text, line_done_text, done_text}
 use Rattle.ld_program.specs.Step.{Work, Reply, done, refused}
@@ -42,21 +42,11 @@ done_tells run (Assign person role) work = record { block = λ rest more same. d
 done_tells run Start work = record { block = λ rest more same. differ_at 0 _ _ refl same }
 done_tells run (Complete person activity) work = record { block = λ rest more same. differ_at 0 _ _ refl same }
 done_tells run (Tree person) work = record { block = λ rest more same. differ_at 0 _ _ refl same }
-done_tells run (Drop person role) work = record { block = λ rest more same. differ_at 0 _ _ refl same }
-done_tells run (Open person activity) work = record { block = λ rest more same. differ_at 0 _ _ refl same }
-done_tells run (Set person property value) work = record { block = λ rest more same. differ_at 0 _ _ refl same }
-done_tells run (Clear person property) work = record { block = λ rest more same. differ_at 0 _ _ refl same }
-done_tells run (Get person property) work = record { block = λ rest more same. differ_at 0 _ _ refl same }
-done_tells run (Outbox person) work = record { block = λ rest more same. differ_at 0 _ _ refl same }
-done_tells run Report work = record { block = λ rest more same. differ_at 0 _ _ refl same }
-done_tells run Tick work = record { block = λ rest more same. differ_at 0 _ _ refl same }
 
 line_tells : (w : WorldState) (line : Option Line) (work : Work) → Tells (line_done_text w line work)
 line_tells w None work = record { block = λ rest more same. differ_at 0 _ _ refl same }
 line_tells w (Some (Create moment run unit)) work = record { block = λ rest more same. differ_at 0 _ _ refl same }
 line_tells w (Some (OfRun moment run command)) work = done_tells (run_named run w.runs) command work
-line_tells w (Some (GlobalSet moment uri person value)) work = record { block = λ rest more same. differ_at 0 _ _ refl same }
-line_tells w (Some (GlobalGet moment uri person)) work = record { block = λ rest more same. differ_at 0 _ _ refl same }
 
 reply_tells : (w : WorldState) (line : Option Line) (reply : Reply) → Tells (reply_text w line reply)
 reply_tells w line (refused number) = refusal_tells number

@@ -3,7 +3,7 @@ use Rattle.std.proofs.Common.{◌≡◌, ◌+◌, ℕ, ℤ, List, [], ◌∷◌,
 use Rattle.ld_base.specs.declared.numbers.RuleNo.{RuleNo}
 use Rattle.ld_base.specs.declared.numbers.ThingNo.{ThingNo}
 use Rattle.ld_lines.specs.declared.command.RunCommand.{RunCommand}
-use Rattle.ld_lines.specs.declared.command.RunCommand.TheVariants.{Enrol, Assign, Drop, Start, Open, Complete, Set, Clear, Get, Tree, Outbox, Report, Tick}
+use Rattle.ld_lines.specs.declared.command.RunCommand.TheVariants.{Enrol, Assign, Start, Complete, Tree}
 use Rattle.ld_model.specs.Cells.{same_cell}
 use Rattle.ld_model.specs.Members.{person_number}
 use Rattle.ld_model.specs.Names.{role_number}
@@ -54,14 +54,6 @@ started_change unit s moment (Assign person role) told = started_role s (person_
 started_change unit s moment Start told = refl
 started_change unit s moment (Complete person activity) told = started_choice s (person_number s person) (thing_number unit activity) told
 started_change unit s moment (Tree person) told = told
-started_change unit s moment (Drop person role) told = told
-started_change unit s moment (Open person activity) told = told
-started_change unit s moment (Set person property value) told = told
-started_change unit s moment (Clear person property) told = told
-started_change unit s moment (Get person property) told = told
-started_change unit s moment (Outbox person) told = told
-started_change unit s moment Report told = told
-started_change unit s moment Tick told = told
 
 started_lasts : (unit : Course) → IsLasting unit HasStarted
 started_lasts unit = record {

@@ -1,8 +1,8 @@
 -- What a line does to a world of one unit.
 use Rattle.std.proofs.Common.{ℕ, List, [], ◌∷◌, ◌++◌, ◌≡◌, Option, Some, None, true, false, refl, sym, ◌∙◌, ap, append_assoc, Result, Ok, Err, OnOk, IfOk, codes}
 use Rattle.std.specs.Str.{bytes_eq}
-use Rattle.ld_lines.specs.declared.line.Line.{Line}
-use Rattle.ld_lines.specs.declared.line.Line.TheVariants.{Create, OfRun}
+use Rattle.ld_lines.specs.declared.command.Line.{Line}
+use Rattle.ld_lines.specs.declared.command.Line.TheVariants.{Create, OfRun}
 use Rattle.ld_lines.specs.declared.command.RunCommand.{RunCommand}
 use Rattle.ld_model.specs.State.{RunState, state_at_first}
 use Rattle.ld_model.specs.declared.unit.Unit.{Unit as Course}

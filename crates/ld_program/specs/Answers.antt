@@ -1,7 +1,7 @@
 -- Which texts answer the lines of a history.
 use Rattle.std.specs.Prelude.{ℕ, List, [], ◌∷◌, ◌++◌, ◌≡◌, ◌⊎◌, Option, None, length, nat_lt, if◌then◌else◌}
 use Rattle.ld_lines.specs.Commands.{command_of}
-use Rattle.ld_lines.specs.declared.line.Line.{Line}
+use Rattle.ld_lines.specs.declared.command.Line.{Line}
 use Rattle.ld_program.specs.Reply.{reply_block, refusal_line}
 use Rattle.ld_program.specs.World.{WorldState, world_step}
 

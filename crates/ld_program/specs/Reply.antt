@@ -1,8 +1,8 @@
 -- The text of a reply.
 use Rattle.std.specs.Prelude.{ℕ, List, [], ◌∷◌, ◌++◌, Option, Some, None, length, codes, decimal, ◌==◌, if◌then◌else◌, unwrap_or}
 use Rattle.ld_lines.specs.Refusals.{word_of_refusal}
-use Rattle.ld_lines.specs.declared.line.Line.{Line}
-use Rattle.ld_lines.specs.declared.line.Line.TheVariants.{Create, OfRun, GlobalSet, GlobalGet}
+use Rattle.ld_lines.specs.declared.command.Line.{Line}
+use Rattle.ld_lines.specs.declared.command.Line.TheVariants.{Create, OfRun}
 use Rattle.ld_lines.specs.declared.command.RunCommand.{RunCommand}
 use Rattle.ld_lines.specs.declared.command.RunCommand.TheVariants.{Enrol, Assign, Start, Complete, Tree}
 use Rattle.ld_model.specs.Members.{person_number}
@@ -44,15 +44,12 @@ done_text run (Assign _ _) work = ok_text (codes "assign") work
 done_text run Start work = ok_text (codes "start") work
 done_text run (Complete _ _) work = ok_text (codes "complete") work
 done_text run (Tree person) work = ok_text (codes "tree") work ++ tree_text run person
-done_text run _ work = []
 
 -- What is told of a line that was done, in the world after it.
 abbrev pub line_done_text : WorldState → Option Line → Work → List ℕ
 line_done_text w None work = []
 line_done_text w (Some (Create _ _ _)) work = codes "ok create"
 line_done_text w (Some (OfRun _ run command)) work = done_text (run_named run w.runs) command work
-line_done_text w (Some (GlobalSet _ _ _ _)) work = []
-line_done_text w (Some (GlobalGet _ _ _)) work = []
 
 abbrev pub reply_text : WorldState → Option Line → Reply → List ℕ
 reply_text w line (refused number) = refusal_text number

@@ -76,8 +76,6 @@ causes unit s moment (Assign person role) = (5, is_back s moment) ∷ (8, not (i
 causes unit s moment Start = (5, is_back s moment) ∷ (7, is_started s) ∷ []
 causes unit s moment (Complete person activity) = (5, is_back s moment) ∷ (6, not (is_started s)) ∷ (8, not (is_enrolled s person)) ∷ (17, is_none (activity_number unit activity)) ∷ (18, not (by_choice_at unit (activity_number unit activity))) ∷ []
 causes unit s moment (Tree person) = (5, is_back s moment) ∷ (6, not (is_started s)) ∷ (8, not (is_enrolled s person)) ∷ []
--- No run knows the other verbs so far.
-causes unit s moment _ = (5, is_back s moment) ∷ (1, true) ∷ []
 
 -- The number of the first cause that holds.
 abbrev pub first_cause : List Cause → Option ℕ
@@ -104,7 +102,10 @@ is_open_at unit s (Some p) activity = is_open unit s p activity
 -- The command is about an activity that is not open for its person.
 abbrev pub is_not_open : Course → RunState → RunCommand → Bool
 is_not_open unit s (Complete person activity) = not (is_open_at unit s (person_number s person) activity)
-is_not_open unit s _ = false
+is_not_open unit s (Enrol _) = false
+is_not_open unit s (Assign _ _) = false
+is_not_open unit s Start = false
+is_not_open unit s (Tree _) = false
 
 -- ---- stage 5: the direct change
 
@@ -132,14 +133,14 @@ changed unit s moment (Enrol person) = with_person s person
 changed unit s moment (Assign person role) = with_role_at s (person_number s person) (role_number unit role)
 changed unit s moment Start = with_cell s Started (Some (moment_datum moment))
 changed unit s moment (Complete person activity) = chosen_at s (person_number s person) (thing_number unit activity)
-changed unit s moment _ = s
+changed unit s moment (Tree _) = s
 
 abbrev pub has_change : RunCommand → Bool
 has_change (Enrol _) = true
 has_change (Assign _ _) = true
 has_change Start = true
 has_change (Complete _ _) = true
-has_change _ = false
+has_change (Tree _) = false
 
 -- ---- all stages
 

@@ -1,6 +1,6 @@
 -- One line of a history that is answered.
 use Rattle.std.specs.Prelude.{ℕ, ℤ, List, [], ◌∷◌, ◌++◌, ◌≡◌, Option, Some, None}
-use Rattle.ld_lines.specs.declared.line.Line.{Line}
+use Rattle.ld_lines.specs.declared.command.Line.{Line}
 use Rattle.ld_lines.specs.declared.command.RunCommand.{RunCommand}
 use Rattle.ld_model.specs.State.{RunState}
 use Rattle.ld_program.specs.Answers.{block_for}

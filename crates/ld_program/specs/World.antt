@@ -2,8 +2,8 @@
 use Rattle.std.specs.Prelude.{ℕ, List, [], ◌∷◌, ◌++◌, Option, Some, None, Bool, true, false, if◌then◌else◌, ℤ}
 use Rattle.std.specs.List.{find}
 use Rattle.std.specs.Str.{bytes_eq}
-use Rattle.ld_lines.specs.declared.line.Line.{Line}
-use Rattle.ld_lines.specs.declared.line.Line.TheVariants.{Create, OfRun, GlobalSet, GlobalGet}
+use Rattle.ld_lines.specs.declared.command.Line.{Line}
+use Rattle.ld_lines.specs.declared.command.Line.TheVariants.{Create, OfRun}
 use Rattle.ld_lines.specs.declared.command.RunCommand.{RunCommand}
 use Rattle.ld_model.specs.State.{RunState, state_at_first}
 use Rattle.ld_model.specs.declared.unit.Unit.{Unit as Course}
@@ -67,9 +67,6 @@ step_run w moment name command (Some run) = with_outcome w name (step run.unit r
 unfoldable pub line_outcome : WorldState → Line → WorldOutcome
 line_outcome w (Create moment run unit) = make_run w moment.0 run (unit_named unit w.units)
 line_outcome w (OfRun moment run command) = step_run w moment.0 run command (run_named run w.runs)
--- No world knows the global verbs so far.
-line_outcome w (GlobalSet _ _ _ _) = world_refusal w 1
-line_outcome w (GlobalGet _ _ _) = world_refusal w 1
 
 -- What a line does: one that is no command line is refused.
 unfoldable pub world_step : WorldState → Option Line → WorldOutcome

@@ -1,5 +1,5 @@
 //! Why a command is refused before it is begun.
-ghost use Rattle.std.specs.Prelude.{◌≡◌, [], ◌∷◌, Some, true};
+ghost use Rattle.std.specs.Prelude.{◌≡◌, Some};
 ghost use Rattle.ld_program.specs.StateView.{state_of};
 ghost use Rattle.ld_program.specs.Step.{causes, first_cause, is_back, is_started, is_enrolled, holds_already, activity_by_choice, by_choice_at};
 ghost use Rattle.ld_model.specs.declared.unit.Unit.{Unit as Course};
@@ -38,18 +38,7 @@ pub fn first_cause(
             complete_cause(prepared, state, moment, person, activity)
         }
         RunCommand::Tree { person } => tree_cause(state, moment, person),
-        _ => unknown_verb_cause(state, moment),
     }
-}
-
-/// The cause of refusal of a verb that no run knows so far.
-fn unknown_verb_cause(state: &State, moment: Moment) -> Option<u8>
-    ensures { result ≡ first_cause ((5, is_back (state_of state.now) moment.0) ∷ (1, true) ∷ []) }
-{
-    if is_back(state, moment) {
-        return Some(5);
-    }
-    Some(1)
 }
 
 /// Whether the moment is before the run's last one.

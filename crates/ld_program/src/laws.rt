@@ -3,7 +3,7 @@
 ghost use Rattle.std.specs.Prelude.{ℕ, ℤ, List, ◌++◌, ◌≡◌, ◌≢◌, true, false, Option, None, Some, codes, slice_get};
 ghost use Rattle.ld_base.specs.declared.numbers.RuleNo.{RuleNo};
 ghost use Rattle.ld_base.specs.declared.numbers.ThingNo.{ThingNo};
-ghost use Rattle.ld_lines.specs.declared.line.Line.{Line};
+ghost use Rattle.ld_lines.specs.declared.command.Line.{Line};
 ghost use Rattle.ld_lines.specs.declared.command.RunCommand.{RunCommand};
 ghost use Rattle.ld_lines.specs.declared.command.RunCommand.TheVariants as verb;
 ghost use Rattle.ld_model.specs.State.{RunState};

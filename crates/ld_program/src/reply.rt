@@ -81,7 +81,6 @@ pub fn push_done(
             push_tree(alloc, prepared, state, person, out)?;
             Ok(())
         }
-        _ => Ok(()),
     }
 }
 

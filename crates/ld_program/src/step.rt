@@ -145,7 +145,7 @@ fn has_change(command: &RunCommand) -> bool
             person: _,
             activity: _,
         } => true,
-        _ => false,
+        RunCommand::Tree { person: _ } => false,
     }
 }
 
@@ -164,7 +164,7 @@ fn change(
         RunCommand::Assign { person, role } => assign(prepared, state, person, role),
         RunCommand::Start => state.put(CellName::Started, Some(Value::Moment(moment))),
         RunCommand::Complete { person, activity } => choose(prepared, state, person, activity),
-        _ => Ok(()),
+        RunCommand::Tree { person: _ } => Ok(()),
     }
 }
 

@@ -1,7 +1,7 @@
 //! The world of the plain engine: one published unit, and the one run that was made of it.
 ghost use Rattle.std.specs.Prelude.{◌≡◌, ◌≤◌, ◌++◌, [], ◌∷◌, None, Some, IfOk, OnOk, OnErr, length};
 ghost use Rattle.ld_base.specs.Roomy.{room_of, KeepsRoom};
-ghost use Rattle.ld_lines.specs.declared.line.Line.TheVariants as line;
+ghost use Rattle.ld_lines.specs.declared.command.Line.TheVariants as line;
 ghost use Rattle.ld_program.specs.Answers.{AnswersLine, line_of, block_for, no_memory_block};
 ghost use Rattle.ld_program.specs.Reply.{refusal_text};
 ghost use Rattle.ld_program.specs.Turn.{IsAnswered, IsTold, IsToldOfRun, with_first_state};
@@ -17,9 +17,7 @@ use crate::step::{Stepped, step_run};
 use ld_base::id::Id;
 use ld_base::memory::NoMemory;
 use ld_base::text::Text;
-use ld_lines::command::RunCommand;
-use ld_lines::fault::LineFault;
-use ld_lines::line::Line;
+use ld_lines::command::{Line, LineFault, RunCommand};
 use ld_lines::lines::LINE_LIMIT;
 use ld_lines::read::read_command;
 use ld_lines::refusal::refusal_word;
@@ -93,7 +91,6 @@ impl World {
                     command,
                 },
             ) => self.of_run(alloc, moment, &run, &command, out),
-            Ok(_) => refuse(1, out),
             Err(LineFault::BadLine) => refuse(1, out),
             Err(LineFault::NoMemory) => Err(NoMemory),
         }
