@@ -4,8 +4,8 @@
 use std::io::{self, BufRead, BufReader, Read, Write};
 
 const LINE_LIMIT: usize = 65_536;
-/// The reply where the person is not enrolled: a bad line so far, once causes are told `no 8 unknown-person`.
-const UNKNOWN_PERSON: &str = "no 1 bad-line\n";
+/// The reply where the person is not enrolled.
+const UNKNOWN_PERSON: &str = "no 8 unknown-person\n";
 const WORK: &str = "turns=0 fired=0 rejected=0 sent=0";
 const UNIT: [(&str, &str); 5] = [("unit", "u"), ("play", "p"), ("act", "a"), ("part", "rp"), ("activity", "read")];
 

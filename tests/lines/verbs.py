@@ -3,8 +3,8 @@
 # The verbs that are read, and answered as a bad line until runs know them. Take a verb out once it is run.
 NOT_RUN = ["drop", "open", "set", "clear", "get", "outbox", "report", "tick", "global-set", "global-get"]
 
-# The reply to a moment before the run's last one: today a bad line, once causes are told "no 5 moment-back {moment}".
-MOMENT_BACK = "no 1 bad-line"
+# The reply to a moment before the run's last one.
+MOMENT_BACK = "no 5 moment-back {moment}"
 
 WORK = "turns=0 fired=0 rejected=0 sent=0"
 OPENS = "turns=1 fired=1 rejected=0 sent=0"

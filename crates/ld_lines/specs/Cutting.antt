@@ -28,11 +28,13 @@ StopsAt InputTooLong taken = taken ≡ 2 ^ 40
 
 -- The first line feed is at this place, if there is one.
 abbrev pub FeedAt : List ℕ → Option ℕ → Type 0
-FeedAt held found = MatchOption found (HasNoFeed held) (λ at. (at < length held) × HasNoFeed (take at held) × (held ≡ take at held ++ 10 ∷ drop (at + 1) held))
+FeedAt held found =
+    MatchOption found (HasNoFeed held) (λ at. (at < length held) × HasNoFeed (take at held) × (held ≡ take at held ++ 10 ∷ drop (at + 1) held))
 
 -- The bytes begin with this piece, which its line feed ends, or the end of the source.
 abbrev pub Ends : List ℕ → List ℕ → Reading → Type 0
-Ends bytes piece r = HasNoFeed piece × (((bytes ≡ piece ++ 10 ∷ r.held) × (r.ended ≡ false)) ⊎ ((bytes ≡ piece) × (r.held ≡ []) × (r.ended ≡ true) × (0 < length piece)))
+Ends bytes piece r =
+    HasNoFeed piece × (((bytes ≡ piece ++ 10 ∷ r.held) × (r.ended ≡ false)) ⊎ ((bytes ≡ piece) × (r.held ≡ []) × (r.ended ≡ true) × (0 < length piece)))
 
 -- What was taken is held behind what was held, and the end was not told.
 pub record Fetches (old : Reading) (before : Option (List ℕ)) (new : Reading) (now : Option (List ℕ)) : Type 0 where

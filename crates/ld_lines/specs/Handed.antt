@@ -22,7 +22,9 @@ pub record Stopped (first : Option (List ℕ)) (bytes : List ℕ) (lines : List 
 -- of which there are fewer than 2^40.
 abbrev pub HandedOn : Option (List ℕ) → List (List ℕ) → Answer → Reading → Option (List ℕ) → Type 0
 HandedOn first lines (WholeLine line) new now = (bytes : List ℕ) × Handed first bytes (lines ++ line ∷ []) new now
-HandedOn first lines OverLine new now = (bytes : List ℕ) × (long : List ℕ) × (65536 < length long) × Handed first bytes (lines ++ long ∷ []) new now
-HandedOn first lines NoLine new now = (bytes : List ℕ) × Handed first bytes lines new now × (lines_of bytes ≡ lines) × (length bytes < 2 ^ 40) × IfSome first (λ all. bytes ≡ all)
+HandedOn first lines OverLine new now =
+    (bytes : List ℕ) × (long : List ℕ) × (65536 < length long) × Handed first bytes (lines ++ long ∷ []) new now
+HandedOn first lines NoLine new now =
+    (bytes : List ℕ) × Handed first bytes lines new now × (lines_of bytes ≡ lines) × (length bytes < 2 ^ 40) × IfSome first (λ all. bytes ≡ all)
 HandedOn first lines Fault new now = (bytes : List ℕ) × Stopped first bytes lines new now
 HandedOn first lines TooLong new now = (bytes : List ℕ) × Stopped first bytes lines new now

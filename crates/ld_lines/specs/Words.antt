@@ -1,7 +1,9 @@
 -- The words of a line: the elements of a JSON array, read one after the other.
-use Rattle.std.specs.Prelude.{ℕ, List, [], ◌∷◌, Option, Some, None}
-use Rattle.serde_json.specs.Data.{Data, Items, no_items, item}
+use Rattle.std.specs.Prelude.{ℕ, List, [], ◌∷◌, Bool, codes, Option, Some, None}
+use Rattle.serde_json.specs.Data.{Items, no_items, item}
 use Rattle.serde_json.specs.Find.{as_str}
+use Rattle.std.specs.Str.{bytes_eq}
+use Prim.Native.String.{String}
 use Rattle.ld_base.specs.Identifier.{has_identifier_form}
 use Rattle.ld_base.specs.Maybe.{provided}
 use Rattle.std.specs.Option.{option_map, option_and_then}
@@ -13,11 +15,12 @@ use Rattle.ld_value.specs.declared.moment.Moment.{Moment}
 abbrev pub Form : Type 0 → Type 0
 Form A = Items → Option (A × Items)
 
--- One form, and then another behind it.
+-- What was found, and then another form of the elements behind it.
 abbrev pub behind : {A B : Type 0} → Option (A × Items) → (A → Form B) → Option (B × Items)
 behind None next = None
 behind (Some found) next = next found.0 found.1
 
+-- The same as an operator, by which forms stand one behind the other.
 infixl 10 ◌>>=◌
 abbrev pub ◌>>=◌ : {A B : Type 0} → Form A → (A → Form B) → Form B
 (form >>= next) elements = behind (form elements) next
@@ -62,18 +65,27 @@ person_in (b ∷ bytes) = option_map Some (identifier_in (b ∷ bytes))
 abbrev pub moment_in : List ℕ → Option Moment
 moment_in text = option_map (λ seconds. record { 0 = seconds }) (moment_of text)
 
--- One word that may be any text, is an identifier, a uri, a person or the empty word, or a moment.
+-- A text.
 abbrev pub any_text : Form (List ℕ)
 any_text = word Some
 
+-- An identifier.
 abbrev pub identifier : Form (List ℕ)
 identifier = word identifier_in
 
+-- A uri.
 abbrev pub uri : Form (List ℕ)
 uri = word uri_in
 
+-- A person, or the empty text.
 abbrev pub person_or_none : Form (Option (List ℕ))
 person_or_none = word person_in
 
+-- A moment.
 abbrev pub moment : Form Moment
 moment = word moment_in
+
+-- The verb has these letters.
+infix 20 ◌is◌
+abbrev pub ◌is◌ : List ℕ → String → Bool
+verb is letters = bytes_eq verb (codes letters)

@@ -2,7 +2,7 @@
 ghost use Rattle.std.specs.Prelude.{◌≡◌, ◌≤◌, ◌<◌, ◌+◌, ◌-◌, [], IfOk, OnErr, length, take, drop, slice_range, vec_len};
 ghost use Rattle.ld_base.specs.Outside.{Rose, piece_then};
 ghost use Rattle.ld_lines.specs.Reading.{IsEnd};
-ghost use Rattle.ld_lines.specs.Window.{Window, Fills};
+ghost use Rattle.ld_lines.specs.Window.{Window, Fills, TakesInto};
 
 use ld_base::memory::NoMemory;
 use ld_base::source::{Source, SourceFailed};
@@ -162,10 +162,8 @@ fn take_into<S: Source>(
     requires within { stop ≤ vec_len bytes.old }
     ensures room { vec_len bytes.new ≡ vec_len bytes.old }
     ensures front { take start bytes.new.items ≡ take start bytes.old.items }
-    ensures within { IfOk result (λ n. start + n ≤ stop) }
-    ensures bytes { IfOk result
-        (λ n. S.left source.old ≡ piece_then (slice_range bytes.new.items start (start + n)) (S.left source.new)) }
-    ensures end { IfOk result (λ n. n ≡ 0 → IsEnd (S.left source.new)) }
+    ensures ok { IfOk result
+        (TakesInto start stop (S.left source.old) bytes.new.items (S.left source.new)) }
     ensures err { OnErr result (S.left source.new ≡ S.left source.old) }
     ensures cause { OnErr result (Rose (S.faults source.old) (S.faults source.new)) }
     ensures counts { S.faults source.old ≤ S.faults source.new }
@@ -173,7 +171,7 @@ fn take_into<S: Source>(
     take_within(bytes.as_mut_slice(), start, stop, source)
 }
 
-/// Takes bytes into `bytes[start..stop]`, and gives their number.
+/// The same of a slice.
 fn take_within<S: Source>(
     bytes: &mut [u8],
     start: usize,
@@ -183,10 +181,8 @@ fn take_within<S: Source>(
     requires some { start < stop }
     requires within { stop ≤ length bytes.old }
     ensures front { take start bytes.new ≡ take start bytes.old }
-    ensures within { IfOk result (λ n. start + n ≤ stop) }
-    ensures bytes { IfOk result
-        (λ n. S.left source.old ≡ piece_then (slice_range bytes.new start (start + n)) (S.left source.new)) }
-    ensures end { IfOk result (λ n. n ≡ 0 → IsEnd (S.left source.new)) }
+    ensures ok { IfOk result
+        (TakesInto start stop (S.left source.old) bytes.new (S.left source.new)) }
     ensures err { OnErr result (S.left source.new ≡ S.left source.old) }
     ensures cause { OnErr result (Rose (S.faults source.old) (S.faults source.new)) }
     ensures counts { S.faults source.old ≤ S.faults source.new }

@@ -59,8 +59,8 @@ impl Lines {
     /// told its end; nothing is taken from then on. After either the lines are done with: what is
     /// held of the last one may be a part of it.
     pub fn next<S: Source>(&mut self, source: &mut S) -> Result<Next<'_>, LineStop>
-        ensures* hands_out { sem 𝓛 (LendsLine self.entry
-            (λ new. HandsOut self.old (S.left source.old) (answer_of result) new (S.left source.new))) }
+        ensures* hands_out { sem 𝓛 (LendsLine self.entry (λ new.
+            HandsOut self.old (S.left source.old) (answer_of result) new (S.left source.new))) }
         ensures read_fault { result ≡ Err LineStop.ReadFault
             → Rose (S.faults source.old) (S.faults source.new) }
         ensures counts { S.faults source.old ≤ S.faults source.new }

@@ -1,8 +1,8 @@
 //! Reading command lines.
-#![tactic(auto, unfolding(crate::specs::Commands::command_of_verb, crate::specs::Commands::line_of_verb, crate::specs::Commands::command_of), using(ld_json::proofs::Json::tree_read, ld_json::proofs::Json::no_tree))]
+#![tactic(auto, unfolding(crate::specs::Commands::command_of_verb, crate::specs::Commands::property_command, crate::specs::Commands::showing_command, crate::specs::Commands::line_of_verb, crate::specs::Commands::command_of), using(ld_json::proofs::Json::tree_read, ld_json::proofs::Json::no_tree))]
 
 ghost use Rattle.std.specs.Prelude.{◌≡◌, Some, None, IfOk, IfSome, Err};
-ghost use Rattle.ld_lines.specs.Commands.{array_of, command_of, command_of_verb, line_of_verb, line_in};
+ghost use Rattle.ld_lines.specs.Commands.{array_of, command_of, command_of_verb, property_command, showing_command, line_of_verb, line_in};
 ghost use Rattle.ld_lines.specs.Elements.{left_of, Reads};
 ghost use Rattle.ld_lines.specs.LineMoment.{moment_of_line};
 ghost use Rattle.ld_value.specs.Calendar.{IsMoment};
@@ -107,6 +107,16 @@ fn read_run_verb(verb: &str, words: &mut Words) -> Option<RunCommand>
             person: words.identifier()?,
             activity: words.identifier()?,
         }),
+        "tick" => Some(RunCommand::Tick),
+        _ => read_property_verb(verb, words),
+    }
+}
+
+/// The same of a verb of properties, or one that shows something.
+fn read_property_verb(verb: &str, words: &mut Words) -> Option<RunCommand>
+    ensures { Reads (property_command verb.now) words.old result words.new }
+{
+    match verb {
         "set" => Some(RunCommand::Set {
             person: words.identifier()?,
             property: words.identifier()?,
@@ -120,6 +130,15 @@ fn read_run_verb(verb: &str, words: &mut Words) -> Option<RunCommand>
             person: words.identifier()?,
             property: words.identifier()?,
         }),
+        _ => read_showing_verb(verb, words),
+    }
+}
+
+/// The same of a verb that shows something.
+fn read_showing_verb(verb: &str, words: &mut Words) -> Option<RunCommand>
+    ensures { Reads (showing_command verb.now) words.old result words.new }
+{
+    match verb {
         "tree" => Some(RunCommand::Tree {
             person: words.identifier()?,
         }),
@@ -127,7 +146,6 @@ fn read_run_verb(verb: &str, words: &mut Words) -> Option<RunCommand>
             person: words.identifier()?,
         }),
         "report" => Some(RunCommand::Report),
-        "tick" => Some(RunCommand::Tick),
         _ => None,
     }
 }

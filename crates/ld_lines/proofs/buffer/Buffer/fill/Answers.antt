@@ -18,7 +18,7 @@ returns-clause-bytes g c =
       piece = slice_range filled (at + len) (at + len + n);
       held = slice_range_join filled at len n ∙ ap (λ ys. ys ++ slice_range filled (at + len) (at + len + n)) kept;
       counted =
-          length-between filled (at + len) (at + len + n) (omega (arith, c.take_into.new.bytes.ok.0, c.in_ok-count.ensures.within))
+          length-between filled (at + len) (at + len + n) (omega (arith, c.take_into.new.bytes.ok.0, c.in_ok-count.ensures.ok.0))
           ∙ omega arith;
-      left = c.in_ok-count.ensures.bytes;
+      left = c.in_ok-count.ensures.ok.1;
     }
