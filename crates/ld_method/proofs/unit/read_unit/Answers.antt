@@ -9,4 +9,4 @@ unfolding unit_of
 returns-clause-value c conditions =
     let tree = c.args.node.now.tree in
     then_same (only unit_names tree) _ (only_listed unit_names c.args.node.now c.in_ok-only.ensures.faultless)
-    ∙ rw (c.in_ok-format.ensures.value, c.in_ok-identifier.ensures.value, c.in_ok-level.ensures.value, c.in_ok-title.ensures.value, c.in_ok-turns.ensures.value, c.in_ok-metadata.ensures.value, c.in_ok-learning_objectives.ensures.value, c.in_ok-prerequisites.ensures.value, c.in_ok-method.ensures.value, c.replace.ensures.value, c.replace-2.ensures.value, c.replace-3.ensures.value, c.replace-4.ensures.value, c.replace-5.ensures.value) refl
+    ∙ rw (c.in_ok-format.ensures.value, c.in_ok-identifier.ensures.value, c.in_ok-level.ensures.value, c.in_ok-content.ensures.title, c.in_ok-content.ensures.turns, c.in_ok-content.ensures.metadata, c.in_ok-content.ensures.objectives, c.in_ok-content.ensures.prerequisites, c.in_ok-content.ensures.method, c.replace.ensures.value, c.replace-2.ensures.value, c.replace-3.ensures.value, c.replace-4.ensures.value, c.replace-5.ensures.value) refl

@@ -9,4 +9,4 @@ unfolding activity_of
 returns-clause-value c =
     let tree = c.args.node.now.tree in
     then_same (only (activity_names tree) tree) _ (only_listed (activity_names tree) c.args.node.now c.in_ok-only_by_kind.ensures.faultless)
-    ∙ rw (c.in_ok-identifier.ensures.value, c.in_ok-kind.ensures.value, c.in_ok-title.ensures.value, c.in_ok-visible.ensures.value, c.in_ok-learning_objectives.ensures.value, c.in_ok-prerequisites.ensures.value, c.in_ok-supports.ensures.value, c.in_ok-environments.ensures.value, c.in_ok-items.ensures.value, c.in_ok-complete.ensures.value, c.in_ok-on_completion.ensures.value) refl
+    ∙ rw (c.in_ok-identifier.ensures.value, c.in_ok-kind.ensures.value, c.in_ok-title.ensures.value, c.in_ok-visible.ensures.value, c.in_ok-content.ensures.objectives, c.in_ok-content.ensures.prerequisites, c.in_ok-content.ensures.supports, c.in_ok-content.ensures.environments, c.in_ok-content.ensures.items, c.in_ok-content.ensures.complete, c.in_ok-content.ensures.follows) refl

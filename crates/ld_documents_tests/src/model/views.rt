@@ -4,10 +4,9 @@ ghost use Rattle.ld_value.specs.Datum.{datum_of, truth_datum};
 ghost use Rattle.ld_model.specs.Cells.{same_cell};
 ghost use Rattle.ld_model.specs.declared.cell.CellName.TheVariants as names;
 
-use crate::cell::CellName;
-use crate::view::View;
-use ld_base::numbers::{PersonNo, ThingNo};
 use ld_base::steps::Steps;
+use ld_model::cell::CellName;
+use ld_model::view::View;
 use ld_value::value::Value;
 use std::marker::Brand;
 use std::sync::ledger::{Blank, Ledger};
