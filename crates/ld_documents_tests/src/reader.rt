@@ -31,13 +31,17 @@ fn parts_are_read(rt: HostRuntime) -> Result<(), Fail> {
 }
 
 fn are_the_roles(roles: &[Role]) -> bool {
-    roles.len() == 2
-        && is_the_learner(&roles[0])
-        && are_within(&roles[0].roles)
-        && roles[1].identifier.as_str() == "tutor"
-        && matches!(roles[1].kind, RoleKind::Staff)
-        && roles[1].title.is_none()
-        && roles[1].roles.is_empty()
+    let [learner, tutor] = roles else {
+        return false;
+    };
+    is_the_learner(learner) && are_within(learner.roles.as_slice()) && is_the_tutor(tutor)
+}
+
+fn is_the_tutor(role: &Role) -> bool {
+    role.identifier.as_str() == "tutor"
+        && matches!(role.kind, RoleKind::Staff)
+        && role.title.is_none()
+        && role.roles.is_empty()
 }
 
 fn is_the_learner(role: &Role) -> bool {
@@ -51,7 +55,12 @@ fn is_the_learner(role: &Role) -> bool {
 }
 
 fn are_within(roles: &[Role]) -> bool {
-    roles.len() == 2 && roles[0].identifier.as_str() == "expert" && is_the_novice(&roles[1])
+    let [expert, novice] = roles else {
+        return false;
+    };
+    expert.identifier.as_str() == "expert"
+        && is_the_novice(novice)
+        && is_the_beginner(novice.roles.as_slice())
 }
 
 fn is_the_novice(role: &Role) -> bool {
@@ -60,9 +69,13 @@ fn is_the_novice(role: &Role) -> bool {
         && matches!(role.match_persons, MatchPersons::NotExclusively)
         && role.min_persons == 0
         && role.max_persons.is_none()
-        && role.roles.len() == 1
-        && role.roles[0].identifier.as_str() == "beginner"
-        && role.roles[0].min_persons == 2
+}
+
+fn is_the_beginner(roles: &[Role]) -> bool {
+    let [beginner] = roles else {
+        return false;
+    };
+    beginner.identifier.as_str() == "beginner" && beginner.min_persons == 2
 }
 
 fn are_the_environments(environments: &[Environment]) -> bool {
