@@ -65,18 +65,23 @@ unit_of parts conditions tree = do
 abbrev pub with_conditions : List Condition → Course → Course
 with_conditions conditions unit = record { format = unit.format; identifier = unit.identifier; level = unit.level; title = unit.title; turns = unit.turns; metadata = unit.metadata; learning_objectives = unit.learning_objectives; prerequisites = unit.prerequisites; roles = unit.roles; properties = unit.properties; environments = unit.environments; activities = unit.activities; structures = unit.structures; method = unit.method; conditions = conditions }
 
+-- The faults behind the level.
+unfoldable pub content_faults : Placed → List Told
+content_faults node =
+    in_optional (codes "title") (leaf_faults title_of) node
+    ++ (in_optional (codes "turns") (leaf_faults turns_of) node
+    ++ (in_optional (codes "metadata") (leaf_faults metadata_of) node
+    ++ (in_items (codes "learning-objectives") node
+    ++ (in_items (codes "prerequisites") node
+    ++ in_member (codes "method") method_faults node))))
+
 unfoldable pub unit_faults : Placed → List Told
 unit_faults node =
     only_faults unit_names node
     ++ (in_member (codes "format") format_faults node
     ++ (in_member (codes "identifier") (leaf_faults identifier_of) node
     ++ (in_member (codes "level") (leaf_faults (word_of level_words)) node
-    ++ (in_optional (codes "title") (leaf_faults title_of) node
-    ++ (in_optional (codes "turns") (leaf_faults turns_of) node
-    ++ (in_optional (codes "metadata") (leaf_faults metadata_of) node
-    ++ (in_items (codes "learning-objectives") node
-    ++ (in_items (codes "prerequisites") node
-    ++ in_member (codes "method") method_faults node))))))))
+    ++ content_faults node)))
 
 -- Conditions are left out of this engine so far.
 unfoldable pub conditions_in : Data → Option (List Condition)

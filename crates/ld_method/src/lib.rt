@@ -15,7 +15,5 @@ pub mod method;
 pub mod part;
 pub mod play;
 pub mod role_part;
-#[cfg(test)]
-mod tests;
 pub mod unit;
 pub mod whole;

@@ -5,17 +5,19 @@ ghost use Rattle.ld_json.specs.Fault.{SaysFirst};
 ghost use Rattle.ld_json.specs.Walk.{in_member};
 ghost use Rattle.ld_model.specs.declared.condition.Condition.{Condition};
 ghost use Rattle.ld_method.specs.Methods.{method_of, method_faults};
-ghost use Rattle.ld_method.specs.Units.{format_of, format_faults, level_words, unit_of, unit_faults, with_conditions};
-ghost use Rattle.ld_reader.specs.Forms.{word_of};
-ghost use Rattle.ld_reader.specs.Walks.{member_of, leaf_faults};
+ghost use Rattle.ld_method.specs.Units.{format_of, format_faults, level_words, unit_of, unit_faults, content_faults, turns_of, metadata_of, with_conditions};
+ghost use Rattle.ld_reader.specs.Forms.{title_of, word_of};
+ghost use Rattle.ld_reader.specs.Items.{items_of};
+ghost use Rattle.ld_reader.specs.Walks.{member_of, optional_of, default_of, leaf_faults};
 
 use crate::part::MethodPart;
 use ld_base::id::Id;
 use ld_base::items::Items;
+use ld_base::plain_text::PlainText;
 use ld_json::code::Code;
 use ld_json::fault::ReadFault;
 use ld_json::node::Node;
-use ld_model::item::Item;
+use ld_model::item::{Item, ItemList};
 use ld_model::method::Method;
 use ld_model::unit::{Level, Parts, Unit};
 use ld_reader::lists::list_at;
@@ -51,29 +53,64 @@ pub fn read_unit(alloc: Global, node: &Node<'_>, parts: Parts) -> Result<Unit, R
     let format = format_at(alloc, node)?;
     let identifier = member_at::<Id>(alloc, node, "identifier")?;
     let level = level_at(alloc, node)?;
+    let content = content_at(alloc, node)?;
+    let mut parts = parts;
+    Ok(Unit {
+        format,
+        identifier,
+        level,
+        title: content.title,
+        turns: content.turns,
+        metadata: content.metadata,
+        learning_objectives: content.learning_objectives,
+        prerequisites: content.prerequisites,
+        roles: replace(&mut parts.roles, Items::new(alloc)),
+        properties: replace(&mut parts.properties, Items::new(alloc)),
+        environments: replace(&mut parts.environments, Items::new(alloc)),
+        activities: replace(&mut parts.activities, Items::new(alloc)),
+        structures: replace(&mut parts.structures, Items::new(alloc)),
+        method: content.method,
+        conditions: Items::new(alloc),
+    })
+}
+
+/// What stands in the unit's own document behind its level.
+#[derive(Drop)]
+struct Content {
+    title: Option<PlainText>,
+    turns: u32,
+    metadata: Option<PlainText>,
+    learning_objectives: ItemList,
+    prerequisites: ItemList,
+    method: Method,
+}
+
+/// What stands in the document behind the level.
+#[tactic(auto, unfolding(crate::specs::Units::content_faults), using(ld_json::proofs::First::first_of_both))]
+fn content_at(alloc: Global, node: &Node<'_>) -> Result<Content, ReadFault>
+    requires { IsObject node.now }
+    ensures title { IfOk result (λ content. optional_of (codes "title") title_of node.now.tree ≡ Some content.title) }
+    ensures turns { IfOk result (λ content. default_of (codes "turns") 64 turns_of node.now.tree ≡ Some content.turns) }
+    ensures metadata { IfOk result (λ content. optional_of (codes "metadata") metadata_of node.now.tree ≡ Some content.metadata) }
+    ensures objectives { IfOk result (λ content. items_of (codes "learning-objectives") node.now.tree ≡ Some content.learning_objectives) }
+    ensures prerequisites { IfOk result (λ content. items_of (codes "prerequisites") node.now.tree ≡ Some content.prerequisites) }
+    ensures method { IfOk result (λ content. member_of (codes "method") method_of node.now.tree ≡ Some content.method) }
+    ensures faultless { OnOk result (content_faults node.now ≡ []) }
+    ensures first { IfErr result (SaysFirst (content_faults node.now)) }
+{
     let title = title_at(alloc, node, "title")?;
     let turns = number_or(alloc, node, "turns", USUAL_TURNS, 1, 256)?;
     let metadata = text_at(alloc, node, "metadata", 0, 4096)?;
     let learning_objectives = list_at::<Item>(alloc, node, "learning-objectives")?;
     let prerequisites = list_at::<Item>(alloc, node, "prerequisites")?;
     let method = method_at(alloc, node)?;
-    let mut parts = parts;
-    Ok(Unit {
-        format,
-        identifier,
-        level,
+    Ok(Content {
         title,
         turns,
         metadata,
         learning_objectives,
         prerequisites,
-        roles: replace(&mut parts.roles, Items::new(alloc)),
-        properties: replace(&mut parts.properties, Items::new(alloc)),
-        environments: replace(&mut parts.environments, Items::new(alloc)),
-        activities: replace(&mut parts.activities, Items::new(alloc)),
-        structures: replace(&mut parts.structures, Items::new(alloc)),
         method,
-        conditions: Items::new(alloc),
     })
 }
 

@@ -15,8 +15,6 @@ pub mod names;
 pub mod property;
 pub mod role;
 pub mod rule;
-#[cfg(test)]
-mod tests;
 pub mod thing;
 pub mod unit;
 pub mod view;

@@ -21,7 +21,7 @@ use std::marker::Model;
 /// Where a thing stands in its unit, by numbers from 0 in the unit's lists: a play; an act in its
 /// play; a role-part in its play and act; an activity; a structure; an environment; a learning
 /// object or a service in its environment; or an item of some thing.
-#[derive(Clone, Copy, Debug, PartialEq, Eq)]
+#[derive(Clone, Copy, PartialEq, Eq)]
 pub enum Place {
     Play(u32),
     Act(u32, u32),
@@ -35,7 +35,7 @@ pub enum Place {
 }
 
 /// What an identifier names: a role, a thing or a property by its number, or the unit itself.
-#[derive(Clone, Copy, Debug, PartialEq, Eq)]
+#[derive(Clone, Copy, PartialEq, Eq)]
 pub enum Named {
     Role(RoleNo),
     Thing(ThingNo),

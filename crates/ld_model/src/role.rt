@@ -5,21 +5,21 @@ use ld_base::plain_text::PlainText;
 use std::marker::Model;
 
 /// Whether a role is one of learners or of staff.
-#[derive(Clone, Copy, Debug, PartialEq, Eq)]
+#[derive(Clone, Copy)]
 pub enum RoleKind {
     Learner,
     Staff,
 }
 
 /// Whether occurrences of a role may be made while a run goes on.
-#[derive(Clone, Copy, Debug, PartialEq, Eq)]
+#[derive(Clone, Copy)]
 pub enum CreateNew {
     Allowed,
     NotAllowed,
 }
 
 /// Whether a person may be a member of more than one of the roles that a role holds.
-#[derive(Clone, Copy, Debug, PartialEq, Eq)]
+#[derive(Clone, Copy, PartialEq, Eq)]
 pub enum MatchPersons {
     ExclusivelyInRoles,
     NotExclusively,

@@ -13,14 +13,14 @@ use ld_base::numbers::number;
 use std::alloc::Global;
 
 /// Whether a rule is judged for each person, or once for the run.
-#[derive(Clone, Copy, Debug, PartialEq, Eq)]
+#[derive(Clone, Copy)]
 pub enum RuleKind {
     Person,
     Run,
 }
 
 /// A rule, by the place of its thing in the unit, counted from 0 in the unit's lists.
-#[derive(Clone, Copy, Debug, PartialEq, Eq)]
+#[derive(Clone, Copy, PartialEq, Eq)]
 pub enum Rule {
     /// The activity is completed.
     CompletesActivity(u32),

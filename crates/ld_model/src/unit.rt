@@ -11,7 +11,7 @@ use ld_base::plain_text::PlainText;
 
 /// Which elements a unit may have: level A has none of properties, conditions and notifications, B
 /// has the first two, and C has all.
-#[derive(Clone, Copy, Debug, PartialEq, Eq)]
+#[derive(Clone, Copy, PartialEq, Eq)]
 pub enum Level {
     A,
     B,

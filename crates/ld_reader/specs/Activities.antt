@@ -58,6 +58,17 @@ activity_of tree = do
   follows ← optional_of (codes "on-completion") on_completion_of tree
   Some (record { identifier = id; kind = kind; title = title; visible = visible; learning_objectives = objectives; prerequisites = prerequisites; supports = supports; environments = environments; items = items; complete = complete; on_completion = follows })
 
+-- The faults of what an activity holds and is completed by.
+unfoldable pub content_faults : Placed → List Told
+content_faults node =
+    in_items (codes "learning-objectives") node
+    ++ (in_items (codes "prerequisites") node
+    ++ (in_references (codes "supports") node
+    ++ (in_references (codes "environments") node
+    ++ (in_items (codes "items") node
+    ++ (in_optional (codes "complete") activity_completion_faults node
+    ++ in_optional (codes "on-completion") on_completion_faults node)))))
+
 unfoldable pub activity_faults : Placed → List Told
 activity_faults node =
     only_faults (activity_names node.tree) node
@@ -65,13 +76,7 @@ activity_faults node =
     ++ (in_optional (codes "kind") (leaf_faults (word_of activity_words)) node
     ++ (in_optional (codes "title") (leaf_faults title_of) node
     ++ (in_optional (codes "visible") (leaf_faults as_bool) node
-    ++ (in_items (codes "learning-objectives") node
-    ++ (in_items (codes "prerequisites") node
-    ++ (in_references (codes "supports") node
-    ++ (in_references (codes "environments") node
-    ++ (in_items (codes "items") node
-    ++ (in_optional (codes "complete") activity_completion_faults node
-    ++ in_optional (codes "on-completion") on_completion_faults node))))))))))
+    ++ content_faults node))))
 
 -- ---- structures
 

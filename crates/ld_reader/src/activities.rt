@@ -3,9 +3,10 @@ ghost use Rattle.std.specs.Prelude.{◌≡◌, [], codes, Some, IfOk, OnOk, IfEr
 ghost use Rattle.ld_json.specs.Access.{IsObject, only_faults};
 ghost use Rattle.ld_json.specs.Fault.{SaysFirst};
 ghost use Rattle.ld_json.specs.Walk.{in_optional};
-ghost use Rattle.ld_reader.specs.Activities.{activity_words, activity_kind_of, names_by_kind, learning_names, support_names, activity_names, activity_of, activity_faults};
-ghost use Rattle.ld_reader.specs.Completions.{activity_completion_of, activity_completion_faults};
+ghost use Rattle.ld_reader.specs.Activities.{activity_words, activity_kind_of, names_by_kind, learning_names, support_names, activity_names, activity_of, activity_faults, content_faults};
+ghost use Rattle.ld_reader.specs.Completions.{activity_completion_of, activity_completion_faults, on_completion_of};
 ghost use Rattle.ld_reader.specs.Forms.{word_of};
+ghost use Rattle.ld_reader.specs.Items.{items_of, references_of};
 ghost use Rattle.ld_reader.specs.Walks.{leaf_faults, optional_of};
 
 use crate::completions::read_activity_completion;
@@ -19,7 +20,7 @@ use ld_json::fault::ReadFault;
 use ld_json::node::Node;
 use ld_model::activity::{Activity, ActivityKind};
 use ld_model::completion::{Completion, OnCompletion};
-use ld_model::item::Item;
+use ld_model::item::{Item, ItemList, ReferenceList};
 use std::alloc::Global;
 
 impl Part for ActivityKind {
@@ -48,27 +49,65 @@ impl Part for Activity {
         let kind = default_at::<ActivityKind>(alloc, node, "kind", ActivityKind::Learning)?;
         let title = title_at(alloc, node, "title")?;
         let visible = default_at::<bool>(alloc, node, "visible", true)?;
-        let learning_objectives = list_at::<Item>(alloc, node, "learning-objectives")?;
-        let prerequisites = list_at::<Item>(alloc, node, "prerequisites")?;
-        let supports = list_at::<Id>(alloc, node, "supports")?;
-        let environments = list_at::<Id>(alloc, node, "environments")?;
-        let items = list_at::<Item>(alloc, node, "items")?;
-        let complete = complete_at(alloc, node)?;
-        let on_completion = optional_at::<OnCompletion>(alloc, node, "on-completion")?;
+        let content = content_at(alloc, node)?;
         Ok(Activity {
             identifier,
             kind,
             title,
             visible,
-            learning_objectives,
-            prerequisites,
-            supports,
-            environments,
-            items,
-            complete,
-            on_completion,
+            learning_objectives: content.learning_objectives,
+            prerequisites: content.prerequisites,
+            supports: content.supports,
+            environments: content.environments,
+            items: content.items,
+            complete: content.complete,
+            on_completion: content.on_completion,
         })
     }
+}
+
+/// What an activity holds, and when it is completed.
+#[derive(Drop)]
+struct Content {
+    learning_objectives: ItemList,
+    prerequisites: ItemList,
+    supports: ReferenceList,
+    environments: ReferenceList,
+    items: ItemList,
+    complete: Option<Completion>,
+    on_completion: Option<OnCompletion>,
+}
+
+/// What the activity holds, and when it is completed.
+#[tactic(auto, unfolding(crate::specs::Activities::content_faults), using(ld_json::proofs::First::first_of_both))]
+fn content_at(alloc: Global, node: &Node<'_>) -> Result<Content, ReadFault>
+    requires { IsObject node.now }
+    ensures objectives { IfOk result (λ content. items_of (codes "learning-objectives") node.now.tree ≡ Some content.learning_objectives) }
+    ensures prerequisites { IfOk result (λ content. items_of (codes "prerequisites") node.now.tree ≡ Some content.prerequisites) }
+    ensures supports { IfOk result (λ content. references_of (codes "supports") node.now.tree ≡ Some content.supports) }
+    ensures environments { IfOk result (λ content. references_of (codes "environments") node.now.tree ≡ Some content.environments) }
+    ensures items { IfOk result (λ content. items_of (codes "items") node.now.tree ≡ Some content.items) }
+    ensures complete { IfOk result (λ content. optional_of (codes "complete") activity_completion_of node.now.tree ≡ Some content.complete) }
+    ensures follows { IfOk result (λ content. optional_of (codes "on-completion") on_completion_of node.now.tree ≡ Some content.on_completion) }
+    ensures faultless { OnOk result (content_faults node.now ≡ []) }
+    ensures first { IfErr result (SaysFirst (content_faults node.now)) }
+{
+    let learning_objectives = list_at::<Item>(alloc, node, "learning-objectives")?;
+    let prerequisites = list_at::<Item>(alloc, node, "prerequisites")?;
+    let supports = list_at::<Id>(alloc, node, "supports")?;
+    let environments = list_at::<Id>(alloc, node, "environments")?;
+    let items = list_at::<Item>(alloc, node, "items")?;
+    let complete = complete_at(alloc, node)?;
+    let on_completion = optional_at::<OnCompletion>(alloc, node, "on-completion")?;
+    Ok(Content {
+        learning_objectives,
+        prerequisites,
+        supports,
+        environments,
+        items,
+        complete,
+        on_completion,
+    })
 }
 
 /// That the node is an object, and its members are those of an activity of the kind that it says.

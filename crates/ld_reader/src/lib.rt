@@ -28,6 +28,4 @@ pub mod part;
 pub mod parts;
 pub mod roles;
 pub mod structures;
-#[cfg(test)]
-mod tests;
 pub mod values;

@@ -1,0 +1,182 @@
+//! The names, things and rules of a unit, told by hand, and a view of one cell.
+mod views;
+
+use crate::documents::full_unit;
+use ld_base::id::Id;
+use ld_base::items::Items;
+use ld_base::numbers::{PropNo, RoleNo, RuleNo, ThingNo};
+use ld_model::identifiers::has_distinct_identifiers;
+use ld_model::names::{Named, Names, Place};
+use ld_model::property::{Property, PropertyKind};
+use ld_model::rule::{Rule, RuleKind, list_rules, number_of_rule};
+use ld_model::unit::Unit;
+use ld_value::kind::Kind;
+use std::alloc::Global;
+use std::test::Fail;
+
+/// The identifiers of the roles in document order.
+const ROLES: &str = "learner expert novice beginner tutor";
+
+/// The identifiers of the things in document order.
+const THINGS: &str =
+    "room book page find mail hall read aim before i1 i2 well help some row o1 o2 p a rp rq f1 b rr f2 q c rs f3";
+
+fn id(alloc: Global, text: &str) -> Result<Id, Fail> {
+    let read = Id::read(alloc, text.as_bytes())?;
+    Ok(read.ok_or("no identifier")?)
+}
+
+/// The unit that has each member, and a property.
+fn course(alloc: Global) -> Result<Unit, Fail> {
+    let mut unit = full_unit(alloc)?;
+    let properties = properties(alloc)?;
+    unit.properties = properties;
+    Ok(unit)
+}
+
+fn properties(alloc: Global) -> Result<Items<Property>, Fail> {
+    let mut properties = Items::new(alloc);
+    properties.push(property(alloc)?)?;
+    Ok(properties)
+}
+
+fn property(alloc: Global) -> Result<Property, Fail> {
+    Ok(Property {
+        identifier: id(alloc, "score")?,
+        kind: PropertyKind::LocPers,
+        datatype: Kind::Integer,
+        title: None,
+        role: None,
+        uri: None,
+        initial: None,
+        restrictions: None,
+    })
+}
+
+/// The names of the unit.
+fn names_of(alloc: Global, unit: &Unit) -> Result<Names, Fail> {
+    if !has_distinct_identifiers(alloc, unit)? {
+        return Err("two parts have one identifier".into());
+    }
+    Ok(Names::of(alloc, unit)?)
+}
+
+/// Whether the identifier names just this, and it is told by this identifier.
+fn is_named(names: &Names, id: &Id, named: Named) -> bool {
+    match names.number(id) {
+        Some(found) => found == named && names.id(found) == id,
+        None => false,
+    }
+}
+
+#[test]
+fn parts_are_named_and_numbered(rt: HostRuntime) -> Result<(), Fail> {
+    let unit = course(rt.alloc())?;
+    let names = names_of(rt.alloc(), &unit)?;
+    assert!(rt; are_the_roles(rt.alloc(), &names)?);
+    assert!(rt; are_the_things(rt.alloc(), &names)?);
+    assert!(rt; is_named(&names, &id(rt.alloc(), "score")?, Named::Prop(PropNo(0))));
+    assert!(rt; is_named(&names, &unit.identifier, Named::Unit));
+    assert!(rt; names.number(&id(rt.alloc(), "nobody")?).is_none());
+    assert!(rt; names.rule(Named::Unit) == Some(RuleNo(14)));
+    Ok(())
+}
+
+fn are_the_roles(alloc: Global, names: &Names) -> Result<bool, Fail> {
+    for (number, word) in ROLES.split(' ').enumerate() {
+        if !is_named(names, &id(alloc, word)?, Named::Role(RoleNo(number as u32))) {
+            return Ok(false);
+        }
+    }
+    Ok(true)
+}
+
+fn are_the_things(alloc: Global, names: &Names) -> Result<bool, Fail> {
+    for (number, word) in THINGS.split(' ').enumerate() {
+        if !is_named(
+            names,
+            &id(alloc, word)?,
+            Named::Thing(ThingNo(number as u32)),
+        ) {
+            return Ok(false);
+        }
+    }
+    Ok(true)
+}
+
+/// Where a thing stands in its unit, and the rule that completes it.
+const PLACES: [(&str, Place, Option<u32>); 10] = [
+    ("room", Place::Environment(0), None),
+    ("book", Place::Object(0, 0), None),
+    ("mail", Place::Service(0, 1), None),
+    ("help", Place::Activity(1), Some(1)),
+    ("row", Place::Structure(1), Some(3)),
+    ("p", Place::Play(0), Some(11)),
+    ("b", Place::Act(0, 1), Some(10)),
+    ("c", Place::Act(1, 0), None),
+    ("rq", Place::RolePart(0, 0, 1), Some(6)),
+    ("f3", Place::Item, None),
+];
+
+#[test]
+fn things_stand_in_their_places(rt: HostRuntime) -> Result<(), Fail> {
+    let unit = course(rt.alloc())?;
+    let names = names_of(rt.alloc(), &unit)?;
+    for (word, place, rule) in PLACES.iter() {
+        assert!(rt;
+            stands_at(&names, &id(rt.alloc(), word)?, *place, *rule),
+            "{word}"
+        );
+    }
+    Ok(())
+}
+
+/// Whether the thing of this identifier stands at the place, and this rule completes it.
+fn stands_at(names: &Names, id: &Id, place: Place, rule: Option<u32>) -> bool {
+    match names.number(id) {
+        Some(Named::Thing(found)) => {
+            names.place(found) == place && names.rule(Named::Thing(found)) == rule.map(RuleNo)
+        }
+        _ => false,
+    }
+}
+
+/// The rules of the unit in their order.
+const RULES: [Rule; 15] = [
+    Rule::CompletesActivity(0),
+    Rule::CompletesActivity(1),
+    Rule::CompletesStructure(0),
+    Rule::CompletesStructure(1),
+    Rule::OpensAct(0, 0),
+    Rule::CompletesPart(0, 0, 0),
+    Rule::CompletesPart(0, 0, 1),
+    Rule::CompletesAct(0, 0),
+    Rule::OpensAct(0, 1),
+    Rule::CompletesPart(0, 1, 0),
+    Rule::CompletesAct(0, 1),
+    Rule::CompletesPlay(0),
+    Rule::OpensAct(1, 0),
+    Rule::CompletesPart(1, 0, 0),
+    Rule::CompletesUnit,
+];
+
+#[test]
+fn rules_stand_in_their_order(rt: HostRuntime) -> Result<(), Fail> {
+    let unit = course(rt.alloc())?;
+    let rules = list_rules(rt.alloc(), &unit)?;
+    assert!(rt; rules.as_slice() == RULES.as_slice());
+    assert!(rt; number_of_rule(&rules, Rule::OpensAct(0, 1)) == Some(8));
+    assert!(rt; number_of_rule(&rules, Rule::OpensAct(0, 2)).is_none());
+    assert!(rt; matches!(Rule::CompletesStructure(0).kind(), RuleKind::Person));
+    assert!(rt; matches!(Rule::OpensAct(0, 0).kind(), RuleKind::Run));
+    Ok(())
+}
+
+#[test]
+fn a_repeated_identifier_is_found(rt: HostRuntime) -> Result<(), Fail> {
+    let mut unit = course(rt.alloc())?;
+    assert!(rt; has_distinct_identifiers(rt.alloc(), &unit)?);
+    unit.identifier = id(rt.alloc(), "f3")?;
+    assert!(rt; !has_distinct_identifiers(rt.alloc(), &unit)?);
+    Ok(())
+}
