@@ -42,8 +42,14 @@ def read_crates():
 def below(crates, name):
     """All crates that this one stands on, lowest first."""
     found = []
-    for each in crates[name]:
-        found += [it for it in [*below(crates, each), each] if it not in found]
+
+    def go(crate):
+        for each in crates[crate]:
+            if each not in found:
+                go(each)
+                found.append(each)
+
+    go(name)
     return found
 
 

@@ -114,14 +114,25 @@ fn prints_escapes(alloc: Global) -> Result<bool, NoMemory> {
     Ok(out.as_str() == wanted)
 }
 
-/// Printing: each escape, byte order of members, whole numbers.
+/// Whether an array with numbers is printed, and members in byte order.
+fn prints_numbers(alloc: Global, out: &mut Text) -> Result<bool, NoMemory> {
+    let tree = json!(in alloc; {"b": [true, 7, -7], "B": null})?;
+    Doc::of(tree).print(alloc, out)?;
+    Ok(out.as_str() == "{\"B\":null,\"b\":[true,7,-7]}")
+}
+
+/// Whether an empty object and a text are printed, and members in byte order.
+fn prints_texts(alloc: Global, out: &mut Text) -> Result<bool, NoMemory> {
+    let tree = json!(in alloc; {"aa": "\n", "a": {}})?;
+    Doc::of(tree).print(alloc, out)?;
+    Ok(out.as_str() == "{\"a\":{},\"aa\":\"\\n\"}")
+}
+
 #[test]
 fn prints(rt: HostRuntime) -> Result<(), Fail> {
     let alloc = rt.alloc();
     assert!(rt; prints_escapes(alloc)?);
-    let mut out = Text::new(alloc);
-    let tree = json!(in alloc; {"b": [true, 7, -7], "a": {}, "B": null, "aa": "\n"})?;
-    Doc::of(tree).print(alloc, &mut out)?;
-    assert!(rt; out.as_str() == "{\"B\":null,\"a\":{},\"aa\":\"\\n\",\"b\":[true,7,-7]}");
+    assert!(rt; prints_numbers(alloc, &mut Text::new(alloc))?);
+    assert!(rt; prints_texts(alloc, &mut Text::new(alloc))?);
     Ok(())
 }
