@@ -1,0 +1,6 @@
+//! A value for which memory was wanting.
+use ld_value::value::Value;
+
+/// Memory was wanting: nothing has changed, and this is what was not taken in.
+#[derive(Drop)]
+pub struct Refused(pub Option<Value>);
