@@ -1,14 +1,9 @@
 -- What the recorded writes mean: the cells as they were before them.
-use Rattle.std.specs.Prelude.{ℕ, List, [], ◌∷◌, Option, None, slice_index_or, set, take, length, option_map, All, IfSome, IfNone, ◌≤◌, ◌<◌, ◌^◌, ◌≡◌}
+use Rattle.std.specs.Prelude.{ℕ, List, [], ◌∷◌, Option, set, take, All, IfSome, IfNone, ◌≤◌, ◌<◌, ◌≡◌}
 use Rattle.ld_value.specs.Datum.{Datum}
-use Rattle.ld_value.specs.declared.value.Value.{Value}
 use Rattle.ld_cells.specs.Stored.{Kept, held}
 use Rattle.ld_cells.specs.declared.change.Change.{Change}
 use Rattle.ld_cells.specs.declared.mark.Mark.{Mark}
-
--- A write to the slot of these cells, as it is recorded.
-abbrev pub change_at : List (Option Value) → ℕ → Change
-change_at values slot = record { slot = slot; before = slice_index_or values slot None }
 
 -- The cells as they were before the writes, which are listed from the first to the last.
 abbrev pub before : List Change → List (Option Datum) → List (Option Datum)
@@ -19,10 +14,14 @@ before (change ∷ later) cells = set (before later cells) change.slot (held cha
 abbrev pub kept_at : List Change → List (Option Datum) → Mark → Kept
 kept_at changes cells mark = record { cells = before changes (take mark.cells cells); spare = mark.spare }
 
+-- All writes are to cells that are counted.
+abbrev pub AreBelow : ℕ → List Change → Type 0
+AreBelow count changes = All (λ change. change.slot < count) changes
+
 -- All writes that are recorded under the mark are to cells of then, which are still there; and where all
 -- were taken back, there is at least as much spare as then.
 pub record IsUnder (changes : List Change) (cells capacity : ℕ) (mark : Mark) : Type 0 where
-  pub slots : All (λ change. change.slot < mark.cells) changes
+  pub slots : AreBelow mark.cells changes
   pub there : mark.cells ≤ cells
   pub spare : mark.spare ≤ capacity
 

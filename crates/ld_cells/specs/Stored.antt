@@ -1,5 +1,5 @@
 -- What contracts see of the cells of a run's state.
-use Rattle.std.specs.Prelude.{ℕ, List, Option, Some, None, length, slice_index_or, option_map, ◌+◌, ◌≤◌, ◌≡◌}
+use Rattle.std.specs.Prelude.{ℕ, List, map, Option, Some, None, length, slice_index_or, option_map, ◌+◌, ◌≤◌}
 use Rattle.ld_value.specs.Datum.{Datum, datum_of}
 use Rattle.ld_value.specs.declared.value.Value.{Value}
 
@@ -19,6 +19,10 @@ pub record Stored : Type 0 where
 -- What a cell holds means: the datum of its value, if it has one.
 abbrev pub held : Option Value → Option Datum
 held cell = option_map datum_of cell
+
+-- What cells hold means, slot by slot.
+abbrev pub cells_of : List (Option Value) → List (Option Datum)
+cells_of values = map held values
 
 -- What the slot holds.
 abbrev pub value_at : List (Option Datum) → ℕ → Option Datum

@@ -4,7 +4,7 @@ ghost use Rattle.ld_cells.specs.Stored.{Stored, KeepsRoom, held, value_at, marke
 
 use crate::change::Change;
 use crate::mark::Mark;
-use crate::recorded::{append, record, same_cell, take_back};
+use crate::recorded::{append, put, record, same_cell, take_back};
 use crate::refused::Refused;
 use ld_base::memory::NoMemory;
 use ld_base::steps::Steps;
@@ -23,16 +23,16 @@ pub struct Cells {
 }
 
 impl Model for Cells {
-    ghost use Rattle.std.specs.Prelude.{map, option_map, vec_len, vec_capacity, ◌-◌, ◌<◌, ◌^◌};
-    ghost use Rattle.ld_cells.specs.Stored.{Stored, held};
+    ghost use Rattle.std.specs.Prelude.{option_map, vec_len, vec_capacity, ◌-◌, ◌<◌, ◌^◌};
+    ghost use Rattle.ld_cells.specs.Stored.{Stored, cells_of};
 
     ghost Value = { Stored };
 
     ghost use Rattle.ld_cells.specs.Recorded.{kept_at, AreRecorded};
 
     ghost view = { λ s. record {
-        cells = map held s.values.items;
-        kept = option_map (kept_at s.changes.items (map held s.values.items)) s.mark;
+        cells = cells_of s.values.items;
+        kept = option_map (kept_at s.changes.items (cells_of s.values.items)) s.mark;
         spare = vec_capacity s.changes - vec_len s.changes;
         room = vec_capacity s.values - vec_len s.values
     } };
@@ -127,7 +127,7 @@ impl Cells {
                 Ok(true)
             }
             _ => {
-                self.values[index] = value;
+                put(&mut self.values, slot, value);
                 Ok(true)
             }
         }

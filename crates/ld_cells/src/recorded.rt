@@ -1,7 +1,7 @@
 //! Writes to cells that are recorded, and taken back.
-ghost use Rattle.std.specs.Prelude.{◌≡◌, ◌↔◌, ◌<◌, ◌≤◌, ◌+◌, ◌++◌, ◌∷◌, [], OnOk, OnErr, IfErr, IsOk, IsTrue, All, map, slice_set, vec_len, vec_capacity};
-ghost use Rattle.ld_cells.specs.Stored.{held};
-ghost use Rattle.ld_cells.specs.Recorded.{before, change_at};
+ghost use Rattle.std.specs.Prelude.{◌≡◌, ◌↔◌, ◌<◌, ◌≤◌, ◌+◌, ◌++◌, ◌∷◌, [], OnOk, OnErr, IfErr, IsOk, IsTrue, take, ℕ, slice_set, vec_len, vec_capacity};
+ghost use Rattle.ld_cells.specs.Stored.{held, cells_of};
+ghost use Rattle.ld_cells.specs.Recorded.{before, AreBelow};
 
 use crate::change::Change;
 use crate::refused::Refused;
@@ -37,7 +37,18 @@ pub fn append(values: &mut Vec<Option<Value>>, value: Option<Value>) -> Result<(
     }
 }
 
-/// Writes to the slot and records the write. Where memory is wanting, all stays as it was.
+/// Writes to the slot; what it held is dropped.
+pub fn put(values: &mut Vec<Option<Value>>, slot: u32, value: Option<Value>)
+    requires { slot < vec_len values.old }
+    ensures cells { cells_of values.new.items ≡ slice_set (cells_of values.old.items) slot (held value) }
+    ensures length { vec_len values.new ≡ vec_len values.old }
+    ensures room { vec_capacity values.new ≡ vec_capacity values.old }
+{
+    values[slot as usize] = value;
+}
+
+/// Writes to the slot and records the write, so that taking it back gives what was there. Where memory is
+/// wanting, all stays as it was.
 pub fn record(
     values: &mut Vec<Option<Value>>,
     changes: &mut Vec<Change>,
@@ -45,11 +56,19 @@ pub fn record(
     value: Option<Value>,
 ) -> Result<(), Refused>
     requires { slot < vec_len values.old }
-    ensures items { OnOk result (values.new.items ≡ slice_set values.old.items slot value) }
-    ensures recorded { OnOk result (changes.new.items ≡ changes.old.items ++ change_at values.old.items slot ∷ []) }
+    ensures cells {
+        OnOk result (cells_of values.new.items ≡ slice_set (cells_of values.old.items) slot (held value))
+    }
+    ensures kept { (count : ℕ) → slot < count →
+        before changes.new.items (take count (cells_of values.new.items))
+            ≡ before changes.old.items (take count (cells_of values.old.items)) }
+    ensures slots { (count : ℕ) → slot < count →
+        AreBelow count changes.old.items → AreBelow count changes.new.items }
     ensures err { OnErr result ((values.new ≡ values.old) × (changes.new.items ≡ changes.old.items)) }
     ensures full { OnErr result (vec_capacity changes.new ≡ vec_capacity changes.old) }
     ensures returned { IfErr result (λ refused. refused.0 ≡ value) }
+    ensures length { vec_len values.new ≡ vec_len values.old }
+    ensures count { vec_len changes.new ≤ vec_len changes.old + 1 }
     ensures room { vec_capacity values.new ≡ vec_capacity values.old }
     ensures capacity { vec_capacity changes.old ≤ vec_capacity changes.new }
     ensures within { vec_len changes.old < vec_capacity changes.old → IsOk result }
@@ -66,14 +85,14 @@ pub fn record(
 
 /// Takes the recorded writes back, the last of them first.
 pub fn take_back(values: &mut Vec<Option<Value>>, changes: &mut Vec<Change>)
-    requires { All (λ change. change.slot < vec_len values.old) changes.old.items }
-    ensures cells { map held values.new.items ≡ before changes.old.items (map held values.old.items) }
+    requires { AreBelow (vec_len values.old) changes.old.items }
+    ensures cells { cells_of values.new.items ≡ before changes.old.items (cells_of values.old.items) }
     ensures length { vec_len values.new ≡ vec_len values.old }
     ensures room { vec_capacity values.new ≡ vec_capacity values.old }
     ensures changes { changes.new.items ≡ [] }
     ensures capacity { vec_capacity changes.new ≡ vec_capacity changes.old }
 {
     while let Some(change) = changes.pop() {
-        values[change.slot as usize] = change.before;
+        put(values, change.slot, change.before);
     }
 }
