@@ -109,6 +109,7 @@ impl Cells {
         requires { slot < length self.old.cells }
         ensures cells { OnOk result (self.new.cells ≡ slice_set self.old.cells slot (held value)) }
         ensures answer { IfOk result (λ changed. (changed ≡ false) ↔ (value_at self.old.cells slot ≡ held value)) }
+        ensures same { result ≡ Ok false → self.new ≡ self.old }
         ensures refused { OnErr result (self.new ≡ self.old) }
         ensures returned { IfErr result (λ refused. refused.0 ≡ value) }
         ensures within { 0 < self.old.spare → IsOk result }
@@ -149,9 +150,9 @@ impl Cells {
     pub fn undo(&mut self)
         requires { IsSome self.old.kept }
         ensures cells { IfSome self.old.kept (λ kept. self.new.cells ≡ kept.cells) }
-        ensures spare { IfSome self.old.kept (λ kept. kept.spare ≤ self.new.spare) }
         ensures unmarked { self.new.kept ≡ None }
-        ensures lowers { self.old.spare ≤ self.new.spare }
+        ensures mark_spare { IfSome self.old.kept (λ kept. kept.spare ≤ self.new.spare) }
+        ensures spare { self.old.spare ≤ self.new.spare }
         ensures room { KeepsRoom self.old self.new }
     {
         let Some(mark) = self.mark.take() else {
@@ -165,9 +166,9 @@ impl Cells {
     pub fn keep(&mut self)
         requires { IsSome self.old.kept }
         ensures cells { self.new.cells ≡ self.old.cells }
-        ensures spare { IfSome self.old.kept (λ kept. kept.spare ≤ self.new.spare) }
         ensures unmarked { self.new.kept ≡ None }
-        ensures lowers { self.old.spare ≤ self.new.spare }
+        ensures mark_spare { IfSome self.old.kept (λ kept. kept.spare ≤ self.new.spare) }
+        ensures spare { self.old.spare ≤ self.new.spare }
         ensures room { self.new.room ≡ self.old.room }
     {
         self.changes.clear();
