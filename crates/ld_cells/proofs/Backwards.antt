@@ -22,13 +22,13 @@ cells_of-set values slot value = map-set held values slot value
 pub put_back : (values : List (Option Value)) (slot : ℕ) (value : Option Value) → slot < length values → set (set (cells_of values) slot (held value)) slot (held (get_or values slot None)) ≡ cells_of values
 put_back values slot value below =
     rw (set-set (cells_of values) slot (held value) (held (get_or values slot None)), ← get_or-map held values slot None None below)
-        (set-get_or (cells_of values) slot None)
+    (set-get_or (cells_of values) slot None)
 
 -- a recorded write and the record of it leave what was before all of them
 pub before-record : (changes : List Change) (values : List (Option Value)) (slot count : ℕ) (value : Option Value) (change : Change) → change ≡ record { slot = slot; before = get_or values slot None } → slot < length values → slot < count → before (changes ++ change ∷ []) (take count (cells_of (set values slot value))) ≡ before changes (take count (cells_of values))
 before-record changes values slot count value change is below within =
     rw (before-push changes change, is, ← take-set-lt count (cells_of (set values slot value)) slot (held (get_or values slot None)) within, cells_of-set values slot value, put_back values slot value below)
-        refl
+    refl
 
 pub AreBelow-push : (count : ℕ) (changes : List Change) (change : Change) → AreBelow count changes → change.slot < count → AreBelow count (changes ++ change ∷ [])
 AreBelow-push count changes change all below = All-push (λ each. each.slot < count) changes change all below

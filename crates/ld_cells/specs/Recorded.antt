@@ -1,6 +1,8 @@
 -- What the recorded writes mean: the cells as they were before them.
-use Rattle.std.specs.Prelude.{ℕ, List, [], ◌∷◌, Option, set, take, All, IfSome, IfNone, ◌≤◌, ◌<◌, ◌≡◌}
+use Rattle.std.specs.Prelude.{ℕ, List, [], ◌∷◌, Option, set, take, All, IfSome, IfNone, vec_len, vec_capacity, ◌≤◌, ◌<◌, ◌^◌, ◌≡◌}
+use Rattle.std.specs.Global.{Vec}
 use Rattle.ld_value.specs.Datum.{Datum}
+use Rattle.ld_value.specs.declared.value.Value.{Value}
 use Rattle.ld_cells.specs.Stored.{Kept, held}
 use Rattle.ld_cells.specs.declared.change.Change.{Change}
 use Rattle.ld_cells.specs.declared.mark.Mark.{Mark}
@@ -18,14 +20,16 @@ kept_at changes cells mark = record { cells = before changes (take mark.cells ce
 abbrev pub AreBelow : ℕ → List Change → Type 0
 AreBelow count changes = All (λ change. change.slot < count) changes
 
--- All writes that are recorded under the mark are to cells of then, which are still there; and where all
--- were taken back, there is at least as much spare as then.
-pub record IsUnder (changes : List Change) (cells capacity : ℕ) (mark : Mark) : Type 0 where
-  pub slots : AreBelow mark.cells changes
-  pub there : mark.cells ≤ cells
-  pub spare : mark.spare ≤ capacity
+-- The writes are to cells that there were at the mark, and these are still there; and once all are taken
+-- back, there is at least as much spare as at the mark.
+pub record IsUnder (values : Vec (Option Value)) (changes : Vec Change) (mark : Mark) : Type 0 where
+  pub slots : AreBelow mark.cells changes.items
+  pub there : mark.cells ≤ vec_len values
+  pub spare : mark.spare ≤ vec_capacity changes
 
--- Writes are recorded under a mark alone.
-pub record AreRecorded (changes : List Change) (cells capacity : ℕ) (mark : Option Mark) : Type 0 where
-  pub under : IfSome mark (IsUnder changes cells capacity)
-  pub none : IfNone mark (changes ≡ [])
+-- What is always so of the cells, the recorded writes and the mark: slots are numbers of 32 bits, and writes
+-- are recorded under a mark alone.
+pub record IsSound (values : Vec (Option Value)) (changes : Vec Change) (mark : Option Mark) : Type 0 where
+  pub few : vec_len values < 2 ^ 32
+  pub under : IfSome mark (IsUnder values changes)
+  pub none : IfNone mark (changes.items ≡ [])

@@ -1,5 +1,5 @@
 -- What contracts see of the cells of a run's state.
-use Rattle.std.specs.Prelude.{ℕ, List, map, Option, Some, None, length, slice_index_or, option_map, ◌+◌, ◌≤◌}
+use Rattle.std.specs.Prelude.{ℕ, List, map, Option, Some, None, length, slice_index_or, slice_set, option_map, ◌+◌, ◌≤◌, ◌≡◌}
 use Rattle.ld_value.specs.Datum.{Datum, datum_of}
 use Rattle.ld_value.specs.declared.value.Value.{Value}
 
@@ -27,6 +27,14 @@ cells_of values = map held values
 -- What the slot holds.
 abbrev pub value_at : List (Option Datum) → ℕ → Option Datum
 value_at cells slot = slice_index_or cells slot None
+
+-- The slot holds this value, or none.
+abbrev pub Holds : List (Option Datum) → ℕ → Option Value → Type 0
+Holds cells slot value = value_at cells slot ≡ held value
+
+-- What these cells hold once the value, or none, is written to the slot.
+abbrev pub written : List (Option Datum) → ℕ → Option Value → List (Option Datum)
+written cells slot value = slice_set cells slot (held value)
 
 -- The same cells with a mark, at which they and the spare are kept.
 abbrev pub marked : Stored → Stored

@@ -1,6 +1,6 @@
 //! The cells of a run's state.
-ghost use Rattle.std.specs.Prelude.{◌≡◌, ◌↔◌, ◌<◌, ◌≤◌, ◌+◌, ◌-◌, ◌^◌, ◌++◌, ◌∷◌, [], length, false, IfOk, OnOk, OnErr, IfErr, IsOk, IfSome, IsSome, IsTrue, option_copied, slice_set};
-ghost use Rattle.ld_cells.specs.Stored.{Stored, KeepsRoom, held, value_at, marked};
+ghost use Rattle.std.specs.Prelude.{◌≡◌, ◌↔◌, ◌<◌, ◌≤◌, ◌+◌, ◌-◌, ◌^◌, ◌++◌, ◌∷◌, [], length, false, IfOk, OnOk, OnErr, IfErr, IsOk, IfSome, IsSome, IsTrue, option_copied};
+ghost use Rattle.ld_cells.specs.Stored.{Stored, Holds, KeepsRoom, held, marked, written};
 
 use crate::change::Change;
 use crate::mark::Mark;
@@ -23,21 +23,21 @@ pub struct Cells {
 }
 
 impl Model for Cells {
-    ghost use Rattle.std.specs.Prelude.{option_map, vec_len, vec_capacity, ◌-◌, ◌<◌, ◌^◌};
+    ghost use Rattle.std.specs.Prelude.{option_map, vec_len, vec_capacity, ◌-◌};
     ghost use Rattle.ld_cells.specs.Stored.{Stored, cells_of};
 
     ghost Value = { Stored };
 
-    ghost use Rattle.ld_cells.specs.Recorded.{kept_at, AreRecorded};
+    ghost use Rattle.ld_cells.specs.Recorded.{kept_at, IsSound};
 
     ghost view = { λ s. record {
-        cells = cells_of s.values.items;
-        kept = option_map (kept_at s.changes.items (cells_of s.values.items)) s.mark;
-        spare = vec_capacity s.changes - vec_len s.changes;
-        room = vec_capacity s.values - vec_len s.values
+      cells = cells_of s.values.items;
+      kept = option_map (kept_at s.changes.items (cells_of s.values.items)) s.mark;
+      spare = vec_capacity s.changes - vec_len s.changes;
+      room = vec_capacity s.values - vec_len s.values;
     } };
 
-    ghost invariant = { λ s. (vec_len s.values < 2 ^ 32) × AreRecorded s.changes.items (vec_len s.values) (vec_capacity s.changes) s.mark };
+    ghost invariant = { λ s. IsSound s.values s.changes s.mark };
 }
 
 impl Cells {
@@ -96,7 +96,7 @@ impl Cells {
     /// What the slot holds; None exactly where it has no value. It counts as one step.
     pub fn read<L: Ledger>(&self, slot: u32, steps: &mut Steps<L>) -> Option<&Value>
         requires { slot < length self.now.cells }
-        ensures value { held (option_copied result) ≡ value_at self.now.cells slot }
+        ensures value { Holds self.now.cells slot (option_copied result) }
         ensures steps { steps.new ≡ steps.old + 1 }
     {
         steps.tick();
@@ -107,8 +107,8 @@ impl Cells {
     /// want of memory, changes nothing, and cannot come within the spare or where there is no mark.
     pub fn write(&mut self, slot: u32, value: Option<Value>) -> Result<bool, Refused>
         requires { slot < length self.old.cells }
-        ensures cells { OnOk result (self.new.cells ≡ slice_set self.old.cells slot (held value)) }
-        ensures answer { IfOk result (λ changed. (changed ≡ false) ↔ (value_at self.old.cells slot ≡ held value)) }
+        ensures cells { OnOk result (self.new.cells ≡ written self.old.cells slot value) }
+        ensures answer { IfOk result (λ changed. (changed ≡ false) ↔ Holds self.old.cells slot value) }
         ensures same { result ≡ Ok false → self.new ≡ self.old }
         ensures refused { OnErr result (self.new ≡ self.old) }
         ensures returned { IfErr result (λ refused. refused.0 ≡ value) }

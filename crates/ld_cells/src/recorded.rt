@@ -1,6 +1,6 @@
 //! Writes to cells that are recorded, and taken back.
-ghost use Rattle.std.specs.Prelude.{◌≡◌, ◌↔◌, ◌<◌, ◌≤◌, ◌+◌, ◌++◌, ◌∷◌, [], OnOk, OnErr, IfErr, IsOk, IsTrue, take, ℕ, slice_set, vec_len, vec_capacity};
-ghost use Rattle.ld_cells.specs.Stored.{held, cells_of};
+ghost use Rattle.std.specs.Prelude.{◌≡◌, ◌↔◌, ◌<◌, ◌≤◌, ◌+◌, ◌++◌, ◌∷◌, [], OnOk, OnErr, IfErr, IsOk, IsTrue, take, ℕ, vec_len, vec_capacity};
+ghost use Rattle.ld_cells.specs.Stored.{held, cells_of, written};
 ghost use Rattle.ld_cells.specs.Recorded.{before, AreBelow};
 
 use crate::change::Change;
@@ -20,18 +20,18 @@ pub fn same_cell(first: &Option<Value>, second: &Option<Value>) -> bool
 }
 
 /// Appends a cell. Where memory is wanting, all stays as it was.
-pub fn append(values: &mut Vec<Option<Value>>, value: Option<Value>) -> Result<(), Refused>
-    ensures items { OnOk result (values.new.items ≡ values.old.items ++ value ∷ []) }
+pub fn append(values: &mut Vec<Option<Value>>, cell: Option<Value>) -> Result<(), Refused>
+    ensures items { OnOk result (values.new.items ≡ values.old.items ++ cell ∷ []) }
     ensures err { OnErr result (values.new.items ≡ values.old.items) }
     ensures full { OnErr result (vec_capacity values.new ≡ vec_capacity values.old) }
-    ensures returned { IfErr result (λ refused. refused.0 ≡ value) }
+    ensures returned { IfErr result (λ refused. refused.0 ≡ cell) }
     ensures capacity { vec_capacity values.old ≤ vec_capacity values.new }
     ensures within { vec_len values.old < vec_capacity values.old → IsOk result }
 {
     if let Err(_) = values.reserve(1) {
-        return Err(Refused(value));
+        return Err(Refused(cell));
     }
-    match values.push(value) {
+    match values.push(cell) {
         Ok(()) => Ok(()),
         Err(_) => unreachable!(),
     }
@@ -40,7 +40,7 @@ pub fn append(values: &mut Vec<Option<Value>>, value: Option<Value>) -> Result<(
 /// Writes to the slot; what it held is dropped.
 pub fn put(values: &mut Vec<Option<Value>>, slot: u32, value: Option<Value>)
     requires { slot < vec_len values.old }
-    ensures cells { cells_of values.new.items ≡ slice_set (cells_of values.old.items) slot (held value) }
+    ensures cells { cells_of values.new.items ≡ written (cells_of values.old.items) slot value }
     ensures length { vec_len values.new ≡ vec_len values.old }
     ensures room { vec_capacity values.new ≡ vec_capacity values.old }
 {
@@ -56,12 +56,10 @@ pub fn record(
     value: Option<Value>,
 ) -> Result<(), Refused>
     requires { slot < vec_len values.old }
-    ensures cells {
-        OnOk result (cells_of values.new.items ≡ slice_set (cells_of values.old.items) slot (held value))
-    }
+    ensures cells { OnOk result (cells_of values.new.items ≡ written (cells_of values.old.items) slot value) }
     ensures kept { (count : ℕ) → slot < count →
         before changes.new.items (take count (cells_of values.new.items))
-            ≡ before changes.old.items (take count (cells_of values.old.items)) }
+        ≡ before changes.old.items (take count (cells_of values.old.items)) }
     ensures slots { (count : ℕ) → slot < count →
         AreBelow count changes.old.items → AreBelow count changes.new.items }
     ensures err { OnErr result ((values.new ≡ values.old) × (changes.new.items ≡ changes.old.items)) }

@@ -10,6 +10,6 @@ pub returns-clause-kept : goal.returns-clause-kept
 returns-clause-kept c = λ count within.
     let below : c.args.slot < length c.args.values.now.items = omega arith in
     let there : c.replace-before.result ≡ get_or c.args.values.now.items c.args.slot None =
-            c.replace-before.ensures.value ∙ get_or_read _ _ _ below c.index_mut.ensures.value None in
+    c.replace-before.ensures.value ∙ get_or_read _ _ _ below c.index_mut.ensures.value None in
     rw (c.in-Ok.ensures.items, c.reserve.ensures.items, c.replace-before.ensures.after, there)
-        (before-record c.args.changes.now.items c.args.values.now.items c.args.slot count c.args.value _ refl below within)
+    (before-record c.args.changes.now.items c.args.values.now.items c.args.slot count c.args.value _ refl below within)

@@ -9,7 +9,7 @@ invariant-loop-change l = record {
   cells : before l.changes.items (cells_of l.values.items) ≡ before l.fn.changes.items (cells_of l.fn.values.items);
   length : vec_len l.values ≡ vec_len l.fn.values;
   room : vec_capacity l.values ≡ vec_capacity l.fn.values;
-  capacity : vec_capacity l.changes ≡ vec_capacity l.fn.changes
+  capacity : vec_capacity l.changes ≡ vec_capacity l.fn.changes;
 }
 
 abbrev pub decreases-loop-change : goal.decreases-loop-change
