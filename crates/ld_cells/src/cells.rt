@@ -13,8 +13,8 @@ use std::alloc::Global;
 use std::marker::Model;
 use std::sync::ledger::Ledger;
 
-/// Cells by slot, counted from 0, each with a value or none. Under a mark the old value of each write is
-/// recorded, so that all of them can be taken back.
+/// Cells by slot, counted from 0, each with a value or none. Under a mark, what a write replaces is
+/// recorded, so that it can be taken back.
 #[derive(Drop)]
 pub struct Cells {
     values: Vec<Option<Value>>,
@@ -53,8 +53,8 @@ impl Cells {
         }
     }
 
-    /// Makes room for so many more cells, and for recording so many writes. Where memory is wanting, the
-    /// cells and what is kept at the mark stay too.
+    /// Makes room for so many more cells, and for recording so many writes. The cells, and what is
+    /// kept at the mark, stay as they are, also where memory is wanting.
     pub fn reserve(&mut self, cells: u32, writes: u32) -> Result<(), NoMemory>
         ensures ok { OnOk result ((cells ≤ self.new.room) × (writes ≤ self.new.spare)) }
         ensures within { cells ≤ self.old.room → writes ≤ self.old.spare → IsOk result }
@@ -75,8 +75,8 @@ impl Cells {
         self.values.len() as u32
     }
 
-    /// Appends a cell and answers its slot. A refusal, for want of memory, changes nothing, and cannot come
-    /// where there is room.
+    /// Appends a cell and answers its slot. A refusal, for want of memory, changes nothing, and
+    /// cannot come where there is room.
     pub fn add(&mut self, value: Option<Value>) -> Result<u32, Refused>
         requires { length self.old.cells < 2 ^ 32 - 1 }
         ensures slot { IfOk result (λ slot. slot ≡ length self.old.cells) }
@@ -103,12 +103,14 @@ impl Cells {
         self.values[slot as usize].as_ref()
     }
 
-    /// Gives the slot this value, or none, and answers whether that changed what it holds. A refusal, for
-    /// want of memory, changes nothing, and cannot come within the spare or where there is no mark.
+    /// Gives the slot this value, or none, and answers whether that changed what it holds. A refusal,
+    /// for want of memory, changes nothing, and cannot come within the spare or where there is no
+    /// mark.
     pub fn write(&mut self, slot: u32, value: Option<Value>) -> Result<bool, Refused>
         requires { slot < length self.old.cells }
         ensures cells { OnOk result (self.new.cells ≡ written self.old.cells slot value) }
-        ensures answer { IfOk result (λ changed. (changed ≡ false) ↔ Holds self.old.cells slot value) }
+        ensures answer { IfOk result (λ changed.
+            (changed ≡ false) ↔ Holds self.old.cells slot value) }
         ensures same { result ≡ Ok false → self.new ≡ self.old }
         ensures refused { OnErr result (self.new ≡ self.old) }
         ensures returned { IfErr result (λ refused. refused.0 ≡ value) }
@@ -145,8 +147,8 @@ impl Cells {
         });
     }
 
-    /// Gives back the cells as they were at the mark, and no others. Its time grows with the writes that
-    /// were recorded and the cells that were added since.
+    /// Gives back the cells as they were at the mark, and no others. Its time grows with the writes
+    /// that were recorded and the cells that were added since.
     pub fn undo(&mut self)
         requires { IsSome self.old.kept }
         ensures cells { IfSome self.old.kept (λ kept. self.new.cells ≡ kept.cells) }

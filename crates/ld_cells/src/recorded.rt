@@ -47,8 +47,8 @@ pub fn put(values: &mut Vec<Option<Value>>, slot: u32, value: Option<Value>)
     values[slot as usize] = value;
 }
 
-/// Writes to the slot and records the write, so that taking it back gives what was there. Where memory is
-/// wanting, all stays as it was.
+/// Writes to the slot and records the write, so that taking it back gives what was there. Where
+/// memory is wanting, all stays as it was.
 pub fn record(
     values: &mut Vec<Option<Value>>,
     changes: &mut Vec<Change>,
@@ -56,13 +56,15 @@ pub fn record(
     value: Option<Value>,
 ) -> Result<(), Refused>
     requires { slot < vec_len values.old }
-    ensures cells { OnOk result (cells_of values.new.items ≡ written (cells_of values.old.items) slot value) }
+    ensures cells { OnOk result (
+        cells_of values.new.items ≡ written (cells_of values.old.items) slot value) }
     ensures kept { (count : ℕ) → slot < count →
         before changes.new.items (take count (cells_of values.new.items))
         ≡ before changes.old.items (take count (cells_of values.old.items)) }
     ensures slots { (count : ℕ) → slot < count →
         AreBelow count changes.old.items → AreBelow count changes.new.items }
-    ensures err { OnErr result ((values.new ≡ values.old) × (changes.new.items ≡ changes.old.items)) }
+    ensures err { OnErr result (values.new ≡ values.old) }
+    ensures unrecorded { OnErr result (changes.new.items ≡ changes.old.items) }
     ensures full { OnErr result (vec_capacity changes.new ≡ vec_capacity changes.old) }
     ensures returned { IfErr result (λ refused. refused.0 ≡ value) }
     ensures length { vec_len values.new ≡ vec_len values.old }
@@ -84,7 +86,8 @@ pub fn record(
 /// Takes the recorded writes back, the last of them first.
 pub fn take_back(values: &mut Vec<Option<Value>>, changes: &mut Vec<Change>)
     requires { AreBelow (vec_len values.old) changes.old.items }
-    ensures cells { cells_of values.new.items ≡ before changes.old.items (cells_of values.old.items) }
+    ensures cells { cells_of values.new.items
+        ≡ before changes.old.items (cells_of values.old.items) }
     ensures length { vec_len values.new ≡ vec_len values.old }
     ensures room { vec_capacity values.new ≡ vec_capacity values.old }
     ensures changes { changes.new.items ≡ [] }

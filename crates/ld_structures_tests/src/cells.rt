@@ -18,8 +18,8 @@ fn number_in(cell: Option<&Value>) -> Option<i64> {
     }
 }
 
-/// Writes the number, or none, to the cell, and answers whether that changed it; or adds it as the next
-/// cell.
+/// Writes the number, or none, to the cell, and answers whether that changed it; or adds it as the
+/// next cell.
 fn put(cells: &mut Cells, slot: u32, number: Option<i64>) -> Result<bool, NoMemory>
     ensures kept { cells.new.kept ≡ cells.old.kept }
 {

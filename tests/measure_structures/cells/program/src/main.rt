@@ -1,6 +1,6 @@
-//! Sixty million writes to ten thousand cells, 200 under each mark, of which every second one is taken back;
-//! with the word `texts` twelve million writes of texts. It prints how many of them changed a cell, and a
-//! sum of what is held in the end.
+//! Sixty million writes to ten thousand cells, 200 under each mark, of which every second one is
+//! taken back; with the word `texts` twelve million writes of texts. It prints how many of them
+//! changed a cell, and a sum of what is held in the end.
 #![tactic(auto)]
 
 ghost use Rattle.std.specs.Prelude.{◌≡◌, ◌<◌, OnOk};
@@ -45,7 +45,13 @@ fn value_of(alloc: Global, texts: bool, number: u64) -> Result<Option<Value>, No
     Ok(Some(Value::Int(number as i64)))
 }
 
-fn write_some(alloc: Global, cells: &mut Cells, draw: &mut Draw, texts: bool, times: u32) -> Result<u64, NoMemory>
+fn write_some(
+    alloc: Global,
+    cells: &mut Cells,
+    draw: &mut Draw,
+    texts: bool,
+    times: u32,
+) -> Result<u64, NoMemory>
     ensures kept { cells.new.kept ≡ cells.old.kept }
 {
     let mut changed: u64 = 0;
@@ -63,7 +69,13 @@ fn write_some(alloc: Global, cells: &mut Cells, draw: &mut Draw, texts: bool, ti
     Ok(changed)
 }
 
-fn round(alloc: Global, cells: &mut Cells, draw: &mut Draw, texts: bool, back: bool) -> Result<u64, NoMemory>
+fn round(
+    alloc: Global,
+    cells: &mut Cells,
+    draw: &mut Draw,
+    texts: bool,
+    back: bool,
+) -> Result<u64, NoMemory>
     requires { cells.old.kept ≡ None }
     ensures { OnOk result (cells.new.kept ≡ None) }
 {
