@@ -90,11 +90,11 @@ fn write_some(cells: &mut Cells, draw: &mut Draw, texts: bool, times: u32) -> u6
     changed
 }
 
-fn sum(cells: &Cells) -> u64 {
+fn sum(cells: &Cells) -> i64 {
     let mut sum = 0;
     for slot in 0..cells.values.len() {
         sum += match &cells.values[slot] {
-            Some(Value::Int(number)) => *number as u64,
+            Some(Value::Int(number)) => *number,
             Some(_) => 1,
             None => 0,
         };

@@ -34,7 +34,9 @@ impl Draw {
     }
 }
 
-fn value_of(alloc: Global, texts: bool, number: u64) -> Result<Option<Value>, NoMemory> {
+fn value_of(alloc: Global, texts: bool, number: u64) -> Result<Option<Value>, NoMemory>
+    requires { number < 16 }
+{
     if number == 0 {
         return Ok(None);
     }
@@ -89,16 +91,16 @@ fn round(
     Ok(changed)
 }
 
-fn sum<L: Ledger>(cells: &Cells, blank: Blank) -> u64
+fn sum<L: Ledger>(cells: &Cells, blank: Blank) -> i64
     requires name { blank.name ≡ L.name }
     requires parts { blank.parts ≡ L.parts }
     requires some { 0 < L.parts }
 {
     let mut steps = Steps::<L>::new(blank);
-    let mut sum: u64 = 0;
+    let mut sum: i64 = 0;
     for slot in 0..cells.len() {
         let number = match cells.read(slot, &mut steps) {
-            Some(Value::Int(number)) => *number as u64,
+            Some(Value::Int(number)) => *number,
             Some(_) => 1,
             None => 0,
         };
@@ -107,7 +109,7 @@ fn sum<L: Ledger>(cells: &Cells, blank: Blank) -> u64
     sum
 }
 
-fn work(alloc: Global, texts: bool) -> Result<(u64, u64), NoMemory> {
+fn work(alloc: Global, texts: bool) -> Result<(u64, i64), NoMemory> {
     let rounds = if texts { 60_000 } else { 300_000 };
     let mut draw = Draw { state: 1 };
     let mut cells = Cells::new(alloc);
