@@ -33,8 +33,8 @@ abbrev pub Holds : List (Option Datum) → ℕ → Option Value → Type 0
 Holds cells slot value = value_at cells slot ≡ held value
 
 -- What these cells hold once the value, or none, is written to the slot.
-abbrev pub written : List (Option Datum) → ℕ → Option Value → List (Option Datum)
-written cells slot value = slice_set cells slot (held value)
+abbrev pub with_value : List (Option Datum) → ℕ → Option Value → List (Option Datum)
+with_value cells slot value = slice_set cells slot (held value)
 
 -- The same cells with a mark, at which they and the spare are kept.
 abbrev pub marked : Stored → Stored

@@ -1,6 +1,6 @@
 //! The cells of a run's state.
 ghost use Rattle.std.specs.Prelude.{◌≡◌, ◌↔◌, ◌<◌, ◌≤◌, ◌+◌, ◌-◌, ◌^◌, ◌++◌, ◌∷◌, [], length, false, IfOk, OnOk, OnErr, IfErr, IsOk, IfSome, IsSome, IsTrue, option_copied};
-ghost use Rattle.ld_cells.specs.Stored.{Stored, Holds, KeepsRoom, held, marked, written};
+ghost use Rattle.ld_cells.specs.Stored.{Stored, Holds, KeepsRoom, held, marked, with_value};
 
 use crate::change::Change;
 use crate::mark::Mark;
@@ -108,7 +108,7 @@ impl Cells {
     /// mark.
     pub fn write(&mut self, slot: u32, value: Option<Value>) -> Result<bool, Refused>
         requires { slot < length self.old.cells }
-        ensures cells { OnOk result (self.new.cells ≡ written self.old.cells slot value) }
+        ensures cells { OnOk result (self.new.cells ≡ with_value self.old.cells slot value) }
         ensures answer { IfOk result (λ changed.
             (changed ≡ false) ↔ Holds self.old.cells slot value) }
         ensures same { result ≡ Ok false → self.new ≡ self.old }

@@ -1,6 +1,6 @@
 //! Writes to cells that are recorded, and taken back.
 ghost use Rattle.std.specs.Prelude.{◌≡◌, ◌↔◌, ◌<◌, ◌≤◌, ◌+◌, ◌++◌, ◌∷◌, [], OnOk, OnErr, IfErr, IsOk, IsTrue, take, ℕ, vec_len, vec_capacity};
-ghost use Rattle.ld_cells.specs.Stored.{held, cells_of, written};
+ghost use Rattle.ld_cells.specs.Stored.{held, cells_of, with_value};
 ghost use Rattle.ld_cells.specs.Recorded.{before, AreBelow};
 
 use crate::change::Change;
@@ -40,7 +40,7 @@ pub fn append(values: &mut Vec<Option<Value>>, cell: Option<Value>) -> Result<()
 /// Writes to the slot; what it held is dropped.
 pub fn put(values: &mut Vec<Option<Value>>, slot: u32, value: Option<Value>)
     requires { slot < vec_len values.old }
-    ensures cells { cells_of values.new.items ≡ written (cells_of values.old.items) slot value }
+    ensures cells { cells_of values.new.items ≡ with_value (cells_of values.old.items) slot value }
     ensures length { vec_len values.new ≡ vec_len values.old }
     ensures room { vec_capacity values.new ≡ vec_capacity values.old }
 {
@@ -57,7 +57,7 @@ pub fn record(
 ) -> Result<(), Refused>
     requires { slot < vec_len values.old }
     ensures cells { OnOk result (
-        cells_of values.new.items ≡ written (cells_of values.old.items) slot value) }
+        cells_of values.new.items ≡ with_value (cells_of values.old.items) slot value) }
     ensures kept { (count : ℕ) → slot < count →
         before changes.new.items (take count (cells_of values.new.items))
         ≡ before changes.old.items (take count (cells_of values.old.items)) }
