@@ -1,0 +1,179 @@
+//! The cells of a run's state.
+ghost use Rattle.std.specs.Prelude.{◌≡◌, ◌↔◌, ◌<◌, ◌≤◌, ◌+◌, ◌-◌, ◌^◌, ◌++◌, ◌∷◌, [], length, false, IfOk, OnOk, OnErr, IfErr, IsOk, IfSome, IsSome, IsTrue, option_copied};
+ghost use Rattle.ld_cells.specs.Stored.{Stored, Holds, KeepsRoom, held, marked, with_value};
+
+use crate::change::Change;
+use crate::mark::Mark;
+use crate::recorded::{append, put, record, same_cell, take_back};
+use crate::refused::Refused;
+use ld_base::memory::NoMemory;
+use ld_base::steps::Steps;
+use ld_value::value::Value;
+use std::alloc::Global;
+use std::marker::Model;
+use std::sync::ledger::Ledger;
+
+/// Cells by slot, counted from 0, each with a value or none. Under a mark, what a write replaces is
+/// recorded, so that it can be taken back.
+#[derive(Drop)]
+pub struct Cells {
+    values: Vec<Option<Value>>,
+    changes: Vec<Change>,
+    mark: Option<Mark>,
+}
+
+impl Model for Cells {
+    ghost use Rattle.std.specs.Prelude.{option_map, vec_len, vec_capacity, ◌-◌};
+    ghost use Rattle.ld_cells.specs.Stored.{Stored, cells_of};
+
+    ghost Value = { Stored };
+
+    ghost use Rattle.ld_cells.specs.Recorded.{kept_at, IsSound};
+
+    ghost view = { λ s. record {
+      cells = cells_of s.values.items;
+      kept = option_map (kept_at s.changes.items (cells_of s.values.items)) s.mark;
+      spare = vec_capacity s.changes - vec_len s.changes;
+      room = vec_capacity s.values - vec_len s.values;
+    } };
+
+    ghost invariant = { λ s. IsSound s.values s.changes s.mark };
+}
+
+impl Cells {
+    /// No cells and no mark, which takes no memory.
+    pub fn new(alloc: Global) -> Cells
+        ensures cells { result.cells ≡ [] }
+        ensures unmarked { result.kept ≡ None }
+    {
+        Cells {
+            values: Vec::new(alloc),
+            changes: Vec::new(alloc),
+            mark: None,
+        }
+    }
+
+    /// Makes room for so many more cells, and for recording so many writes. The cells, and what is
+    /// kept at the mark, stay as they are, also where memory is wanting.
+    pub fn reserve(&mut self, cells: u32, writes: u32) -> Result<(), NoMemory>
+        ensures ok { OnOk result ((cells ≤ self.new.room) × (writes ≤ self.new.spare)) }
+        ensures within { cells ≤ self.old.room → writes ≤ self.old.spare → IsOk result }
+        ensures cells { self.new.cells ≡ self.old.cells }
+        ensures kept { self.new.kept ≡ self.old.kept }
+        ensures spare { self.old.spare ≤ self.new.spare }
+        ensures room { self.old.room ≤ self.new.room }
+    {
+        self.values.reserve(cells as usize)?;
+        self.changes.reserve(writes as usize)?;
+        Ok(())
+    }
+
+    /// The number of cells.
+    pub fn len(&self) -> u32
+        ensures { result ≡ length self.now.cells }
+    {
+        self.values.len() as u32
+    }
+
+    /// Appends a cell and answers its slot. A refusal, for want of memory, changes nothing, and
+    /// cannot come where there is room.
+    pub fn add(&mut self, value: Option<Value>) -> Result<u32, Refused>
+        requires { length self.old.cells < 2 ^ 32 - 1 }
+        ensures slot { IfOk result (λ slot. slot ≡ length self.old.cells) }
+        ensures cells { OnOk result (self.new.cells ≡ self.old.cells ++ held value ∷ []) }
+        ensures refused { OnErr result (self.new ≡ self.old) }
+        ensures returned { IfErr result (λ refused. refused.0 ≡ value) }
+        ensures within { 0 < self.old.room → IsOk result }
+        ensures kept { self.new.kept ≡ self.old.kept }
+        ensures spare { self.new.spare ≡ self.old.spare }
+        ensures room { KeepsRoom self.old self.new }
+    {
+        let slot = self.len();
+        append(&mut self.values, value)?;
+        Ok(slot)
+    }
+
+    /// What the slot holds; None exactly where it has no value. It counts as one step.
+    pub fn read<L: Ledger>(&self, slot: u32, steps: &mut Steps<L>) -> Option<&Value>
+        requires { slot < length self.now.cells }
+        ensures value { Holds self.now.cells slot (option_copied result) }
+        ensures steps { steps.new ≡ steps.old + 1 }
+    {
+        steps.tick();
+        self.values[slot as usize].as_ref()
+    }
+
+    /// Gives the slot this value, or none, and answers whether that changed what it holds. A refusal,
+    /// for want of memory, changes nothing, and cannot come within the spare or where there is no
+    /// mark.
+    pub fn write(&mut self, slot: u32, value: Option<Value>) -> Result<bool, Refused>
+        requires { slot < length self.old.cells }
+        ensures cells { OnOk result (self.new.cells ≡ with_value self.old.cells slot value) }
+        ensures answer { IfOk result (λ changed.
+            (changed ≡ false) ↔ Holds self.old.cells slot value) }
+        ensures same { result ≡ Ok false → self.new ≡ self.old }
+        ensures refused { OnErr result (self.new ≡ self.old) }
+        ensures returned { IfErr result (λ refused. refused.0 ≡ value) }
+        ensures within { 0 < self.old.spare → IsOk result }
+        ensures unmarked { self.old.kept ≡ None → IsOk result × (self.new.spare ≡ self.old.spare) }
+        ensures kept { self.new.kept ≡ self.old.kept }
+        ensures spare { self.old.spare ≤ self.new.spare + 1 }
+        ensures room { self.new.room ≡ self.old.room }
+    {
+        let index = slot as usize;
+        if same_cell(&self.values[index], &value) {
+            return Ok(false);
+        }
+        match self.mark {
+            Some(mark) if index < mark.cells => {
+                record(&mut self.values, &mut self.changes, slot, value)?;
+                Ok(true)
+            }
+            _ => {
+                put(&mut self.values, slot, value);
+                Ok(true)
+            }
+        }
+    }
+
+    /// Keeps the present cells, to which `undo` goes back.
+    pub fn mark(&mut self)
+        requires { self.old.kept ≡ None }
+        ensures { self.new ≡ marked self.old }
+    {
+        self.mark = Some(Mark {
+            cells: self.values.len(),
+            spare: self.changes.capacity(),
+        });
+    }
+
+    /// Gives back the cells as they were at the mark, and no others. Its time grows with the writes
+    /// that were recorded and the cells that were added since.
+    pub fn undo(&mut self)
+        requires { IsSome self.old.kept }
+        ensures cells { IfSome self.old.kept (λ kept. self.new.cells ≡ kept.cells) }
+        ensures unmarked { self.new.kept ≡ None }
+        ensures mark_spare { IfSome self.old.kept (λ kept. kept.spare ≤ self.new.spare) }
+        ensures spare { self.old.spare ≤ self.new.spare }
+        ensures room { KeepsRoom self.old self.new }
+    {
+        let Some(mark) = self.mark.take() else {
+            unreachable!();
+        };
+        self.values.truncate(mark.cells);
+        take_back(&mut self.values, &mut self.changes);
+    }
+
+    /// Gives up what was kept at the mark. Its time grows with the writes that were recorded.
+    pub fn keep(&mut self)
+        requires { IsSome self.old.kept }
+        ensures cells { self.new.cells ≡ self.old.cells }
+        ensures unmarked { self.new.kept ≡ None }
+        ensures mark_spare { IfSome self.old.kept (λ kept. kept.spare ≤ self.new.spare) }
+        ensures spare { self.old.spare ≤ self.new.spare }
+        ensures room { self.new.room ≡ self.old.room }
+    {
+        self.changes.clear();
+        self.mark = None;
+    }
+}

@@ -1,0 +1,5 @@
+//! Tests of the plain data structures on which a run stands.
+#![tactic(auto)]
+
+#[cfg(test)]
+mod cells;
