@@ -76,11 +76,13 @@ pub fn record(
     if let Err(_) = changes.reserve(1) {
         return Err(Refused(value));
     }
-    let before = mem::replace(&mut values[slot as usize], value);
-    match changes.push(Change { slot, before }) {
-        Ok(()) => Ok(()),
-        Err(_) => unreachable!(),
-    }
+    // What was there is moved straight into its place, which costs one copy less.
+    let last = changes.len();
+    let Ok(()) = changes.push(Change { slot, before: None }) else {
+        unreachable!();
+    };
+    changes[last].before = mem::replace(&mut values[slot as usize], value);
+    Ok(())
 }
 
 /// Takes the recorded writes back, the last of them first.
