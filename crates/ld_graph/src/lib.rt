@@ -1,0 +1,6 @@
+//! A set of sites, and a set of pairs of a slot and a site.
+#![tactic(auto)]
+
+pub mod dirty;
+pub mod graph;
+pub mod slot_list;
