@@ -4,3 +4,4 @@ pub mod Work
 pub mod Wiring
 pub mod Tidy
 pub mod Rooms
+pub mod Standing

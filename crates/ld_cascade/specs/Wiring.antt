@@ -1,6 +1,5 @@
-use Rattle.std.specs.Prelude.{◌≡◌, ℕ, ◌<◌, ◌≤◌, Bool, true, false, List, [], get_or, length, Contains}
+use Rattle.std.specs.Prelude.{◌≡◌, ℕ, ◌<◌, ◌≤◌, Bool, true, false, List, [], get_or, length, Contains, nat_eq}
 use Rattle.std.specs.Set.{distinct_count}
-use Rattle.std.specs.Prelude.{nat_eq}
 use Rattle.ld_graph.specs.Table.{has}
 use Rattle.ld_graph.specs.Edges.{Edges, IsLinked, edge_room}
 
@@ -42,7 +41,7 @@ slot_count slots = distinct_count nat_eq slots
 pub record EdgesAre (edges : Edges) (i : ℕ) (slots : List ℕ) : Type 0 where
   pub named : (k : ℕ) → IsLinked edges k i → Contains slots k
   pub linked : (k : ℕ) → Contains slots k → IsLinked edges k i
-  pub once : length (get_or edges.rows i []) ≤ slot_count slots
+  pub once : length (get_or edges.rows i []) ≡ slot_count slots
 
 -- no range and no room is smaller, and each site that is not linked anew has the edges that it had
 pub record Follows (old now : Wiring) : Type 0 where

@@ -5,12 +5,7 @@
 #![tactic(auto)]
 
 pub mod judged;
-pub mod laws;
 pub mod links;
-pub mod plain;
-pub mod restore;
-pub mod settle;
 pub mod settled;
 pub mod sites;
 mod totals;
-mod walk;

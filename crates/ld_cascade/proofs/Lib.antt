@@ -1,0 +1,7 @@
+mod Sets
+mod Sums
+mod Sweeps
+mod Edges
+mod Weights
+mod Goings
+mod Visits
