@@ -156,3 +156,12 @@ follows_then f h = record {
     was_out = λ i out. f.was_out i (h.was_out i out);
     rows = λ i out. h.rows i out ∙ f.rows i (h.was_out i out);
   }
+
+pub follows_same : (a b : Wiring) → b.edges ≡ a.edges → b.relinked ≡ a.relinked → b.sites ≡ a.sites → Follows a b
+follows_same a b edges relinked sites = record {
+    sites = omega arith;
+    slots = let e : b.edges.slots ≡ a.edges.slots = ap (λ (x : Edges). x.slots) edges in omega arith;
+    room = let e : edge_room b.edges ≡ edge_room a.edges = ap (λ (x : Edges). edge_room x) edges in omega arith;
+    was_out = λ i out. subst (λ (t : List Bool). has t i ≡ false) relinked out;
+    rows = λ i out. ap (λ (x : Edges). get_or x.rows i []) edges;
+  }

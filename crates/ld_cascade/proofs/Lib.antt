@@ -5,3 +5,4 @@ mod Edges
 mod Weights
 mod Goings
 mod Visits
+mod Linking

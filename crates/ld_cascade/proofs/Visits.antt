@@ -2,15 +2,15 @@ use Rattle.std.proofs.Common.{◌≡◌, ℕ, ◌+◌, ◌*◌, ◌<◌, ◌≤�
 use Rattle.std.proofs.lemmas.Bool.{cases_eq, cases_Bool}
 use Rattle.std.proofs.lemmas.List.Elements.{Contains-push}
 use Rattle.ld_graph.specs.Table.{has}
-use Rattle.ld_graph.specs.Edges.{Edges}
+use Rattle.ld_graph.specs.Edges.{Edges, edge_room}
 use Rattle.ld_cascade.specs.System.{System, fires, MayFire, Lawful}
 use Rattle.ld_cascade.specs.Settling.{Firing, fired, Sums, sums_of, plus, no_sums}
-use Rattle.ld_cascade.specs.Wiring.{Wiring, IsWith, IsWithout, Follows}
+use Rattle.ld_cascade.specs.Wiring.{Wiring, IsWith, IsWithout, Follows, HasSameRow, EdgesAre}
 use Rattle.ld_cascade.specs.Tidy.{Tidy, Covers}
 use Rattle.ld_cascade.specs.Work.{weight, weight_of, visits, visits_weight, work, IsVisited, IsStirred, Stirs}
 use Rattle.ld_cascade.specs.Rooms.{read_count}
 use Rattle.ld_cascade.specs.Standing.{Standing, standing, Goes, Arrives, steps_due}
-use Rattle.ld_cascade.proofs.Edges.{Visiting, Marks, tidy_cleared, tidy_fired, rooms_cleared, rooms_fired, covers_fired}
+use Rattle.ld_cascade.proofs.Edges.{Visiting, Marks, tidy_cleared, tidy_fired, rooms_cleared, rooms_fired, covers_fired, follows_same, follows_then}
 use Rattle.ld_cascade.proofs.Weights.{weight_cleared, weight_fired, weight_after, marked_reads, work_quiet, work_due}
 use Rattle.ld_cascade.proofs.Goings.{plus_none}
 
@@ -19,6 +19,15 @@ fired_quiet y s i quiet = rw quiet refl
 
 pub fired_due : (y : System) (s : y.Situation) (i : ℕ) → fires y s i ≡ true → fired y s i ≡ record { before = s; site = i } ∷ []
 fired_due y s i is_due = rw is_due refl
+
+sums_same : (a b : Sums) → a.fired ≡ b.fired → a.rejected ≡ b.rejected → a.sent ≡ b.sent → a ≡ b
+sums_same a b e f h = rw (e, f, h) refl
+
+one_more : (y : System) (sums : Sums) (s : y.Situation) (m : ℕ)
+    → plus sums (record { fired = 1; rejected = y.rejected s m; sent = y.sent s m }) ≡ plus sums (sums_of y (record { before = s; site = m } ∷ []))
+one_more y sums s m =
+    sums_same (plus sums (record { fired = 1; rejected = y.rejected s m; sent = y.sent s m })) (plus sums (sums_of y (record { before = s; site = m } ∷ [])))
+        refl (omega arith) (omega arith)
 
 -- a site was taken out of the dirty ones and judged, and its reads were asked for: the links are the same
 -- but for its edges, which may be its reads by now
@@ -88,13 +97,125 @@ quiet_arrives {y} {p} {q} {m} l v quiet covers own =
           (subst (λ (u : y.Situation). (i : ℕ) → has p.wiring.dirty i ≡ false → read_count y u i ≤ p.room) (sym l.same) rooms);
     }
 
--- the site fired, and the readers of what it changed were marked
-pub record HasFired (y : System) (q r : Standing y) (m : ℕ) : Type 0 where
-  pub after : r.situation ≡ y.after q.situation m
-  pub sums : r.sums ≡ plus q.sums (record { fired = 1; rejected = y.rejected q.situation m; sent = y.sent q.situation m })
-  pub marks : Marks y q.situation m q.wiring.edges q.wiring.dirty r.wiring.dirty
+-- the site fired in this situation, and the readers of what it changed were marked
+pub record HasFired (y : System) (s : y.Situation) (q r : Standing y) (m : ℕ) : Type 0 where
+  pub after : r.situation ≡ y.after s m
+  pub sums : r.sums ≡ plus q.sums (record { fired = 1; rejected = y.rejected s m; sent = y.sent s m })
+  pub marks : Marks y s m q.wiring.edges q.wiring.dirty r.wiring.dirty
   pub same_edges : r.wiring.edges ≡ q.wiring.edges
   pub same_relinked : r.wiring.relinked ≡ q.wiring.relinked
   pub same_sites : r.wiring.sites ≡ q.wiring.sites
   pub room : q.room ≤ r.room
-  pub steps : r.steps ≤ q.steps + y.cost q.situation m
+  pub steps : r.steps ≤ q.steps + y.cost s m
+
+fired_visited : (y : System) (s : y.Situation) (m i : ℕ) → fires y s m ≡ true → visits y s m i ≡ true → IsVisited y (fired y s m) i
+fired_visited y s m i is_due meet =
+    (record { before = s; site = m },
+     subst (λ (fs : List (Firing y)). Contains fs (record { before = s; site = m })) (sym (fired_due y s m is_due)) (Contains-push [] (record { before = s; site = m })),
+     meet)
+
+-- where the firing fails
+pub failed_goes : {y : System} {p q : Standing y} {m : ℕ} → Looked y p q m → fires y p.situation m ≡ true
+    → (r : Standing y) → r.wiring ≡ q.wiring → q.room ≤ r.room → r.steps ≤ q.steps + y.cost p.situation m
+    → Goes y (fired y p.situation m) p r
+failed_goes {y} {p} {q} {m} l is_due r same room steps = record {
+    steps = let a = looked_weight l in let z = work_due y p.situation m is_due in omega arith;
+    stirs = subst (λ (w : Wiring). Stirs y (fired y p.situation m) p.wiring w) (sym same) (looked_stirs l (fired y p.situation m));
+    follows = subst (λ (w : Wiring). Follows p.wiring w) (sym same) l.follows;
+    same_sites = ap (λ (w : Wiring). w.sites) same ∙ l.same_sites;
+    room = let a = l.room in omega arith;
+  }
+
+pub fired_arrives : {y : System} → Lawful y → {p q r : Standing y} {m : ℕ} → MayFire y p.situation m → Looked y p q m
+    → Visiting y p.situation p.wiring q.wiring.edges q.wiring.dirty m → HasFired y p.situation q r m
+    → Covers y p.situation p.wiring → read_count y p.situation m ≤ q.room
+    → Arrives y (fired y p.situation m) p r
+fired_arrives {y} law {p} {q} {r} {m} may l v f covers own =
+    let s = p.situation in
+    let fs = fired y s m in
+    let is_due = may.due_now in
+    let one = fired_due y s m is_due in
+    let marked = marked_reads v f.marks in
+    let same_sites : r.wiring.sites ≡ p.wiring.sites = f.same_sites ∙ l.same_sites in
+    let grows : p.wiring.edges.slots ≤ r.wiring.edges.slots =
+        let a = l.follows.slots in let b : r.wiring.edges.slots ≡ q.wiring.edges.slots = ap (λ (es : Edges). es.slots) f.same_edges in omega arith in
+    let less : weight_of y s p.wiring.sites r.wiring.dirty ≤ weight_of y s p.wiring.sites q.wiring.dirty + visits_weight y s m =
+        weight_fired y law s may.sound m p.wiring.sites q.wiring.dirty r.wiring.dirty covers.sites marked in
+    let later : weight_of y r.situation r.wiring.sites r.wiring.dirty ≤ weight_of y s p.wiring.sites r.wiring.dirty =
+        rw (f.after, same_sites) (weight_after y law s m p.wiring.sites may r.wiring.dirty) in
+    let looked = looked_weight l in
+    let z = work_due y s m is_due in
+    let cost = f.steps in
+    let steps : r.steps + 3 * weight_of y r.situation r.wiring.sites r.wiring.dirty ≤ steps_due y p + work y fs = omega arith in
+    let stirs = looked_stirs l fs in
+    record {
+      goes = record {
+        steps = omega arith;
+        stirs = record {
+          dirty = λ i is_in. elim (marked i is_in) [
+              inl was ↦ stirs.dirty i was
+            | inr meet ↦ inr (fired_visited y s m i is_due meet) ];
+          relinked = λ i is_in. stirs.relinked i (subst (λ (t : List Bool). has t i ≡ true) f.same_relinked is_in);
+        };
+        follows = record {
+          sites = let a = l.follows.sites in let b = f.same_sites in omega arith;
+          slots = grows;
+          room = subst (λ (es : Edges). edge_room p.wiring.edges ≤ edge_room es) (sym f.same_edges) l.follows.room;
+          was_out = λ i out. l.follows.was_out i (subst (λ (t : List Bool). has t i ≡ false) f.same_relinked out);
+          rows = λ i out. subst (λ (es : Edges). HasSameRow p.wiring.edges es i) (sym f.same_edges)
+              (l.follows.rows i (subst (λ (t : List Bool). has t i ≡ false) f.same_relinked out));
+        };
+        same_sites = same_sites;
+        room = let a = l.room in let b = f.room in omega arith;
+      };
+      sums = f.sums ∙ (ap (λ (x : Sums). plus x (record { fired = 1; rejected = y.rejected s m; sent = y.sent s m })) l.sums
+          ∙ (one_more y p.sums s m ∙ ap (λ (gs : List (Firing y)). plus p.sums (sums_of y gs)) (sym one)));
+      tidy = tidy_fired law may v f.marks r.situation f.after r.wiring f.same_edges refl;
+      covers = covers_fired law may covers same_sites grows r.situation f.after;
+      steps = steps;
+      rooms = λ rooms. rooms_fired law may p.room r.room v f.marks (let a = f.room in omega arith) (let a = l.room in let b = f.room in omega arith) r.situation f.after rooms;
+    }
+
+-- a site is dirty no more
+pub record Cleared (w w' : Wiring) (m : ℕ) : Type 0 where
+  pub dirty : IsWithout w.dirty w'.dirty m
+  pub edges : w'.edges ≡ w.edges
+  pub relinked : w'.relinked ≡ w.relinked
+  pub sites : w'.sites ≡ w.sites
+
+-- its edges may be linked anew
+pub record Linked (w w' : Wiring) (m : ℕ) : Type 0 where
+  pub others : (i : ℕ) → (i ≡ m → ⊥) → HasSameRow w.edges w'.edges i
+  pub follows : Follows w w'
+  pub relinked : (i : ℕ) → has w'.relinked i ≡ true → (has w.relinked i ≡ true) ⊎ (i ≡ m)
+  pub dirty : w'.dirty ≡ w.dirty
+  pub sites : w'.sites ≡ w.sites
+
+pub looked : (y : System) (p q : Standing y) (w : Wiring) (steps m : ℕ) → Cleared p.wiring w m → Linked w q.wiring m
+    → m < p.wiring.sites → has p.wiring.dirty m ≡ true → q.situation ≡ p.situation → q.sums ≡ p.sums → p.room ≤ q.room
+    → steps ≤ p.steps + weight y p.situation m → q.steps ≤ steps + weight y p.situation m → Looked y p q m
+looked y p q w steps m c l here was_dirty same sums room first second = record {
+    same = same;
+    sums = sums;
+    here = here;
+    was_dirty = was_dirty;
+    clear = subst (λ (t : List Bool). IsWithout p.wiring.dirty t m) (sym l.dirty) c.dirty;
+    relinked = λ i is_in. elim (l.relinked i is_in) [
+        inl was ↦ inl (subst (λ (t : List Bool). has t i ≡ true) c.relinked was)
+      | inr e ↦ inr e ];
+    follows = follows_then (follows_same p.wiring w c.edges c.relinked c.sites) l.follows;
+    same_sites = l.sites ∙ c.sites;
+    room = room;
+    steps = omega arith;
+  }
+
+pub visiting : (y : System) (s : y.Situation) (w w' w'' : Wiring) (m : ℕ) → Tidy y s w → Cleared w w' m → Linked w' w'' m
+    → EdgesAre w''.edges m (y.reads s m) → Visiting y s w w''.edges w''.dirty m
+visiting y s w w' w'' m tidy c l own = record {
+    tidy = tidy;
+    link = record {
+      own = own;
+      others = λ i ne. subst (λ (e : Edges). HasSameRow e w''.edges i) c.edges (l.others i ne);
+    };
+    clear = subst (λ (t : List Bool). IsWithout w.dirty t m) (sym l.dirty) c.dirty;
+  }

@@ -8,4 +8,6 @@ pub mod judged;
 pub mod links;
 pub mod settled;
 pub mod sites;
+pub mod settle;
 mod totals;
+mod walk;
