@@ -6,3 +6,5 @@ mod Weights
 mod Goings
 mod Visits
 mod Linking
+mod Sweeping
+mod Turns

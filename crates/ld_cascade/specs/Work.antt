@@ -2,7 +2,7 @@ use Rattle.std.specs.Prelude.{◌≡◌, ℕ, zero, suc, ◌+◌, ◌*◌, ◌�
 use Rattle.std.specs.List.{list_any}
 use Rattle.ld_graph.specs.Table.{has}
 use Rattle.ld_cascade.specs.System.{System}
-use Rattle.ld_cascade.specs.Settling.{Firing}
+use Rattle.ld_cascade.specs.Settling.{Firing, firings_to}
 use Rattle.ld_cascade.specs.Wiring.{Wiring}
 
 -- some slot is in both lists
@@ -51,3 +51,13 @@ pub record Stirs (y : System) (fs : List (Firing y)) (old now : Wiring) : Type 0
 -- visits of the firings, and what the firings cost
 abbrev pub Costs : (y : System) → y.Situation → List (Firing y) → Wiring → ℕ → ℕ → Type 0
 Costs y s fs old before now = now ≤ before + 3 * weight_of y s old.sites old.dirty + work y fs
+
+-- what a settling by these firings takes: steps, and sites that get dirty or are linked anew
+pub record Spends (y : System) (s : y.Situation) (fs : List (Firing y)) (old now : Wiring) (before after : ℕ) : Type 0 where
+  pub ticks : Costs y s fs old before after
+  pub stirs : Stirs y fs old now
+
+-- the same of a settling that stopped after some of its firings
+abbrev pub SpendsInPart : (y : System) → y.Situation → ℕ → Wiring → Wiring → ℕ → ℕ → Type 0
+SpendsInPart y s turns old now before after =
+    (k : ℕ) × (n : ℕ) × (k ≤ turns) × Spends y s (firings_to y s k n) old now before after

@@ -6,7 +6,7 @@ use ld_graph::slot_list::SlotList;
 use std::alloc::Global;
 use std::marker::Model;
 
-ghost use Rattle.std.specs.Prelude.{◌≡◌, ℕ, ◌+◌, ◌<◌, ◌≤◌, ◌⊎◌, Bool, true, false, List, [], get_or, length, IfOk, IfSome, IfNone, Contains, max};
+ghost use Rattle.std.specs.Prelude.{◌≡◌, ℕ, ◌+◌, ◌^◌, ◌<◌, ◌≤◌, ◌⊎◌, Bool, true, false, List, [], get_or, length, IfOk, IfSome, IfNone, Contains, max};
 ghost use Rattle.ld_graph.specs.Table.{has};
 ghost use Rattle.ld_graph.specs.Edges.{Edges, IsLinked, edge_room};
 ghost use Rattle.ld_cascade.specs.Wiring.{Wiring, IsEmpty, IsWith, IsWithout, IsSameTable, HasSameRow, Follows};
@@ -122,7 +122,9 @@ impl Links {
         ensures found { IfSome result (λ n. (site ≤ n) × (n < self.now.sites) × (has self.now.dirty n ≡ true)) }
         ensures least { IfSome result (λ n. (k : ℕ) → site ≤ k → k < n → has self.now.dirty k ≡ false) }
         ensures none { IfNone result ((k : ℕ) → site ≤ k → has self.now.dirty k ≡ false) }
+        ensures range { self.now.sites < 2 ^ 32 }
     {
+        let _range = self.site_count;
         self.dirty_sites.next_from(site)
     }
 
@@ -131,7 +133,9 @@ impl Links {
         ensures found { IfSome result (λ n. (site ≤ n) × (n < self.now.sites) × (has self.now.relinked n ≡ true)) }
         ensures least { IfSome result (λ n. (k : ℕ) → site ≤ k → k < n → has self.now.relinked k ≡ false) }
         ensures none { IfNone result ((k : ℕ) → site ≤ k → has self.now.relinked k ≡ false) }
+        ensures range { self.now.sites < 2 ^ 32 }
     {
+        let _range = self.site_count;
         self.relinked_sites.next_from(site)
     }
 

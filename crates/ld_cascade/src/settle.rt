@@ -16,7 +16,7 @@ ghost use Rattle.ld_cascade.specs.System.{System, Lawful, MayFire, due, fires};
 ghost use Rattle.ld_cascade.specs.Settling.{Firing, Sums, sums_of, plus, no_sums, step, fired, fired_below, swept, sweep_firings, Moves, after_sweeps, all_firings, firings_to, PassesBudget, Settles, rejections, notices};
 ghost use Rattle.ld_cascade.specs.Wiring.{Wiring, IsEmpty, IsWith, IsWithout, HasSameRow, EdgesAre, Follows};
 ghost use Rattle.ld_cascade.specs.Tidy.{IsTidy, Tidy, Covers};
-ghost use Rattle.ld_cascade.specs.Work.{weight, weight_of, work, Stirs, Costs};
+ghost use Rattle.ld_cascade.specs.Work.{weight, weight_of, work, Stirs, Costs, Spends, SpendsInPart};
 ghost use Rattle.ld_cascade.specs.Rooms.{read_count, HasRoom, HasRoomOutside};
 ghost use Rattle.ld_cascade.specs.Standing.{Standing, standing, steps_due, Goes, Arrives};
 
@@ -131,4 +131,121 @@ fn visit<G: Sites, L: Ledger>(
     touch_all(links, &walk.changed);
     walk.totals.add(fired);
     Ok(())
+}
+
+/// One sweep: the dirty sites in order. It tells whether one of them fired.
+fn sweep<G: Sites, L: Ledger>(
+    sites: &mut G,
+    links: &mut Links,
+    walk: &mut Walk,
+    may_fire: bool,
+    steps: &mut Steps<L>,
+) -> Result<bool, Stop>
+    requires tidy { Tidy G.system (G.now sites.old) links.old }
+    requires covers { Covers G.system (G.now sites.old) links.old }
+    requires few { walk.old.totals.fired + G.system.count (G.now sites.old) < 2 ^ 31 - 1 }
+    ensures state { IfOk result (λ _. G.now sites.new ≡ swept G.system (G.now sites.old)) }
+    ensures arrives {
+        IfOk result (λ _. Arrives G.system (sweep_firings G.system (G.now sites.old))
+            (standing G.system (G.now sites.old) links.old walk.old.totals (G.room sites.old) steps.old)
+            (standing G.system (G.now sites.new) links.new walk.new.totals (G.room sites.new) steps.new))
+    }
+    ensures goes {
+        IfErr result (λ _. (n : ℕ) × Goes G.system (fired_below G.system (G.now sites.old) n)
+            (standing G.system (G.now sites.old) links.old walk.old.totals (G.room sites.old) steps.old)
+            (standing G.system (G.now sites.new) links.new walk.new.totals (G.room sites.new) steps.new))
+    }
+    ensures few {
+        IfOk result (λ _. walk.new.totals.fired ≤ walk.old.totals.fired + G.system.count (G.now sites.old))
+    }
+    ensures moves {
+        result ≡ Ok true → (sweep_firings G.system (G.now sites.old) ≡ [] → ⊥) × (may_fire ≡ true)
+    }
+    ensures quiet { result ≡ Ok false → sweep_firings G.system (G.now sites.old) ≡ [] }
+    ensures none { result ≡ Ok false → IsEmpty links.new.dirty }
+    ensures idle { IsEmpty links.old.dirty → result ≡ Ok false }
+    ensures budget {
+        result ≡ Err Stop.TurnBudget → (sweep_firings G.system (G.now sites.old) ≡ [] → ⊥) × (may_fire ≡ false)
+    }
+    ensures stopped {
+        result ≡ Err Stop.TurnBudget → Goes G.system []
+            (standing G.system (G.now sites.old) links.old walk.old.totals (G.room sites.old) steps.old)
+            (standing G.system (G.now sites.new) links.new walk.new.totals (G.room sites.new) steps.new)
+    }
+{
+    let before = walk.totals.fired();
+    let mut from: u32 = 0;
+    while let Some(site) = links.next_dirty(from) {
+        if let Err(stop) = visit(sites, links, walk, site, may_fire, steps) {
+            return Err(stop);
+        }
+        from = site + 1;
+    }
+    Ok(walk.totals.fired() > before)
+}
+
+/// Settles the sites: sweeps over them in order until one fires nothing. It judges only dirty sites,
+/// and those that a firing may concern.
+///
+/// It answers `TurnBudget` exactly where one sweep more than `turns` fires, and `NoMemory` only where
+/// some site is dirty. After either the state and the links are between two visits or in one: take
+/// the state back to where `begin` was called, and then call `restore`.
+pub fn settle<G: Sites, L: Ledger>(
+    alloc: Global,
+    sites: &mut G,
+    links: &mut Links,
+    turns: u32,
+    steps: &mut Steps<L>,
+) -> Result<Settled, Stop>
+    requires tidy { Tidy G.system (G.now sites.old) links.old }
+    requires covers { Covers G.system (G.now sites.old) links.old }
+    requires few { G.system.count (G.now sites.old) ≤ 4000000 }
+    requires turns { turns ≤ 256 }
+    ensures settles { IfOk result (λ r. Settles G.system (G.now sites.old) turns r.turns) }
+    ensures state { IfOk result (λ r. G.now sites.new ≡ after_sweeps G.system (G.now sites.old) r.turns) }
+    ensures fired {
+        IfOk result (λ r. r.fired ≡ length (all_firings G.system (G.now sites.old) r.turns))
+    }
+    ensures rejected {
+        IfOk result (λ r. r.rejected ≡ rejections G.system (all_firings G.system (G.now sites.old) r.turns))
+    }
+    ensures sent {
+        IfOk result (λ r. r.sent ≡ notices G.system (all_firings G.system (G.now sites.old) r.turns))
+    }
+    ensures bounds { IfOk result (λ r. (r.fired < 2 ^ 63) × (r.rejected < 2 ^ 63) × (r.sent < 2 ^ 63)) }
+    ensures budget { result ≡ Err Stop.TurnBudget → PassesBudget G.system (G.now sites.old) turns }
+    ensures idle { IsEmpty links.old.dirty → IsOk result }
+    ensures none { IfOk result (λ _. IsEmpty links.new.dirty) }
+    ensures tidy { IfOk result (λ _. (i : ℕ) → IsTidy G.system (G.now sites.new) links.new.edges i) }
+    ensures covers { IfOk result (λ _. Covers G.system (G.now sites.new) links.new) }
+    ensures rooms {
+        IfOk result (λ _. HasRoomOutside G.system (G.now sites.old) links.old.dirty (G.room sites.old)
+            → HasRoom G.system (G.now sites.new) (G.room sites.new))
+    }
+    ensures room { G.room sites.old ≤ G.room sites.new }
+    ensures follows { Follows links.old links.new }
+    ensures sites { links.new.sites ≡ links.old.sites }
+    ensures spends {
+        IfOk result (λ r. Spends G.system (G.now sites.old) (all_firings G.system (G.now sites.old) r.turns)
+            links.old links.new steps.old steps.new)
+    }
+    ensures spends_budget {
+        result ≡ Err Stop.TurnBudget
+            → Spends G.system (G.now sites.old) (all_firings G.system (G.now sites.old) turns)
+                links.old links.new steps.old steps.new
+    }
+    ensures spends_err {
+        IfErr result (λ _. SpendsInPart G.system (G.now sites.old) turns links.old links.new steps.old steps.new)
+    }
+{
+    let mut walk = Walk { changed: Vec::new(alloc), totals: Totals::zero() };
+    let mut done: u32 = 0;
+    'sweeps: loop {
+        match sweep(sites, links, &mut walk, done < turns, steps) {
+            Err(stop) => return Err(stop),
+            Ok(false) => return Ok(walk.totals.settled(done)),
+            Ok(true) => {}
+        }
+        done += 1;
+    }
 }
