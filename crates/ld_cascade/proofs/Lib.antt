@@ -8,3 +8,6 @@ mod Visits
 mod Linking
 mod Sweeping
 mod Turns
+mod Restoring
+mod Touching
+mod Walking

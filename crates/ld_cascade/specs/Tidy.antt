@@ -2,7 +2,7 @@ use Rattle.std.specs.Prelude.{◌≡◌, ℕ, ◌<◌, ◌≤◌, Bool, true, fa
 use Rattle.ld_graph.specs.Table.{has}
 use Rattle.ld_graph.specs.Edges.{Edges, IsLinked}
 use Rattle.ld_cascade.specs.System.{System, fires}
-use Rattle.ld_cascade.specs.Wiring.{Wiring, EdgesAre}
+use Rattle.ld_cascade.specs.Wiring.{Wiring, EdgesAre, HasSameRow}
 
 -- every site outside the table has the mark that its test gives
 abbrev pub IsClean : (y : System) → y.Situation → List Bool → Type 0
@@ -33,7 +33,7 @@ pub record Changes (y : System) (s t : y.Situation) (slots : List ℕ) : Type 0 
 
 -- the edges stay, what was dirty is dirty, the readers of these slots are, and the new sites are
 pub record Touched (y : System) (s t : y.Situation) (slots : List ℕ) (old now : Wiring) : Type 0 where
-  pub same_edges : now.edges.rows ≡ old.edges.rows
+  pub same_rows : (i : ℕ) → HasSameRow old.edges now.edges i
   pub keeps : (i : ℕ) → has old.dirty i ≡ true → has now.dirty i ≡ true
   pub readers : (k : ℕ) → Contains slots k → (i : ℕ) → IsLinked old.edges k i → has now.dirty i ≡ true
   pub fresh : (i : ℕ) → y.count s ≤ i → i < y.count t → has now.dirty i ≡ true

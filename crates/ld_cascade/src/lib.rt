@@ -5,9 +5,12 @@
 #![tactic(auto)]
 
 pub mod judged;
+pub mod laws;
 pub mod links;
+pub mod plain;
+pub mod restore;
+pub mod settle;
 pub mod settled;
 pub mod sites;
-pub mod settle;
 mod totals;
 mod walk;

@@ -78,6 +78,7 @@ impl Links {
         ensures edges { self.new.edges ≡ self.old.edges }
         ensures relinked { self.new.relinked ≡ self.old.relinked }
         ensures sites { self.new.sites ≡ self.old.sites }
+        ensures follows { Follows self.old self.new }
     {
         self.graph.set_readers(slot, &mut self.dirty_sites);
     }
@@ -89,6 +90,7 @@ impl Links {
         ensures edges { self.new.edges ≡ self.old.edges }
         ensures relinked { self.new.relinked ≡ self.old.relinked }
         ensures sites { self.new.sites ≡ self.old.sites }
+        ensures follows { Follows self.old self.new }
     {
         self.dirty_sites.set(site);
     }
