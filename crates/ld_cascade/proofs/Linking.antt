@@ -1,5 +1,5 @@
 use Rattle.std.proofs.Common.{◌≡◌, ℕ, ◌+◌, ◌<◌, ◌≤◌, Bool, true, false, List, [], length, get_or, Contains, nat_eq, refl, sym, ◌∙◌, ap, subst, arith, inl, inr, ◌⊎◌}
-use Rattle.std.specs.List.{IsDistinct}
+use Rattle.ld_graph.specs.Slots.{AreDistinct}
 use Rattle.std.proofs.lemmas.Bool.{cases_eq, cases_Bool}
 use Rattle.ld_graph.specs.Table.{has}
 use Rattle.ld_graph.specs.Edges.{Edges, IsLinked, edge_room}
@@ -18,7 +18,7 @@ out_of_with {table} {later} {m} w i out =
     (ne, sym (w.others i ne) ∙ out)
 
 -- the edges of one site are linked anew, as a list without repeats that has its reads
-pub edges_linked : (edges : Edges) (m : ℕ) (items reads : List ℕ) → IsDistinct nat_eq items
+pub edges_linked : (edges : Edges) (m : ℕ) (items reads : List ℕ) → AreDistinct items
     → ((k : ℕ) → Contains items k → Contains reads k) → ((k : ℕ) → Contains reads k → Contains items k)
     → ((k : ℕ) → IsLinked edges k m → Contains items k) → ((k : ℕ) → Contains items k → IsLinked edges k m)
     → length (get_or edges.rows m []) ≡ length items → EdgesAre edges m reads

@@ -2,7 +2,7 @@
 use ld_base::memory::NoMemory;
 use ld_graph::dirty::Dirty;
 use ld_graph::graph::Graph;
-use ld_graph::slot_list::SlotList;
+use ld_graph::slots::SlotList;
 use std::alloc::Global;
 use std::marker::Model;
 

@@ -45,6 +45,7 @@ fn link_in_room<G: Sites, L: Ledger>(sites: &mut G, links: &mut Links, site: u32
     ensures ticks { steps.new ≤ steps.old + weight G.system (G.now sites.old) site }
 {
     let Ok(slots) = sites.reads(site, steps) else { unreachable!() };
+    let _distinct = slots.as_slice();
     links.relink(site, slots);
 }
 

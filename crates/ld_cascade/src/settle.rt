@@ -66,7 +66,10 @@ fn link<G: Sites, L: Ledger>(
     let Ok(slots) = sites.reads(site, steps) else {
         return Err(NoMemory);
     };
-    if let Err(_) = links.make_room(slots.len()) {
+    let Ok(count) = u32::try_from(slots.as_slice().len()) else {
+        return Err(NoMemory);
+    };
+    if let Err(_) = links.make_room(count) {
         return Err(NoMemory);
     }
     links.relink(site, slots);

@@ -3,11 +3,10 @@ use crate::judged::Judged;
 use ld_base::fired::Fired;
 use ld_base::memory::NoMemory;
 use ld_base::steps::Steps;
-use ld_graph::slot_list::SlotList;
+use ld_graph::slots::SlotList;
 use std::sync::ledger::Ledger;
 
-ghost use Rattle.std.specs.Prelude.{◌≡◌, ℕ, ◌+◌, ◌<◌, ◌≤◌, Bool, true, false, List, ◌++◌, length, IfOk, IsOk, Contains, nat_eq, ⊤};
-ghost use Rattle.std.specs.List.{IsDistinct};
+ghost use Rattle.std.specs.Prelude.{◌≡◌, ℕ, ◌+◌, ◌<◌, ◌≤◌, Bool, true, false, List, ◌++◌, length, IfOk, IsOk, Contains, ⊤};
 ghost use Rattle.std.specs.Borrow.{sem};
 ghost use mathlib.Core.Option.{none};
 ghost use denote.Follow.{follows_so};
@@ -33,9 +32,12 @@ pub trait Sites {
     /// The slots that the site reads, each once. The state stays as it is, whatever is answered; no
     /// memory is wanted where the room is at least the number of these slots.
     fn reads<L: Ledger>(&mut self, site: u32, steps: &mut Steps<L>) -> Result<&SlotList, NoMemory>
-        ensures named { IfOk result (λ r. (k : ℕ) → Contains r.now.items k → Contains (system.reads (now self.old) site) k) }
-        ensures all { IfOk result (λ r. (k : ℕ) → Contains (system.reads (now self.old) site) k → Contains r.now.items k) }
-        ensures once { IfOk result (λ r. IsDistinct nat_eq r.now.items) }
+        ensures named {
+            IfOk result (λ r. (k : ℕ) → Contains r.now.items k → Contains (system.reads (now self.old) site) k)
+        }
+        ensures all {
+            IfOk result (λ r. (k : ℕ) → Contains (system.reads (now self.old) site) k → Contains r.now.items k)
+        }
         ensures within { read_count system (now self.old) site ≤ room self.old → IsOk result }
         ensures ticks { steps.new ≤ steps.old + weight system (now self.old) site }
         ensures* after { sem 𝓛 (follows_so Self.row Self.row self.entry.ghost_name none (λ _ _. ⊤)
@@ -44,11 +46,19 @@ pub trait Sites {
 
     /// Fires the site: its mark becomes the verdict, and its effect is applied. The slots that it
     /// changes are appended to `changed`. After want of memory the state may be any.
-    fn fire<L: Ledger>(&mut self, site: u32, verdict: bool, changed: &mut Vec<u32>, steps: &mut Steps<L>) -> Result<Fired, NoMemory>
+    fn fire<L: Ledger>(
+        &mut self,
+        site: u32,
+        verdict: bool,
+        changed: &mut Vec<u32>,
+        steps: &mut Steps<L>,
+    ) -> Result<Fired, NoMemory>
         requires may { MayFire system (now self.old) site }
         requires verdict { verdict ≡ system.test (now self.old) site }
         ensures state { IfOk result (λ _. now self.new ≡ system.after (now self.old) site) }
-        ensures changed { IfOk result (λ _. changed.new.items ≡ changed.old.items ++ system.changed (now self.old) site) }
+        ensures changed {
+            IfOk result (λ _. changed.new.items ≡ changed.old.items ++ system.changed (now self.old) site)
+        }
         ensures rejected { IfOk result (λ f. f.rejected ≡ system.rejected (now self.old) site) }
         ensures sent { IfOk result (λ f. f.sent ≡ system.sent (now self.old) site) }
         ensures room { room self.old ≤ room self.new }

@@ -1,5 +1,5 @@
 use crate::dirty::Dirty;
-use crate::slot_list::SlotList;
+use crate::slots::SlotList;
 use ld_base::memory::NoMemory;
 use std::alloc::Global;
 use std::marker::Model;

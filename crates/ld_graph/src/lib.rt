@@ -3,4 +3,4 @@
 
 pub mod dirty;
 pub mod graph;
-pub mod slot_list;
+pub mod slots;

@@ -1,6 +1,6 @@
 use Rattle.std.proofs.Common.{◌≡◌, ℕ, ◌<◌, ◌≤◌, get_or, ◌∙◌, arith}
 use Rattle.std.proofs.lemmas.List.{get_or_default}
-use Rattle.ld_graph.proofs.slot_list.holds.Goals as goal
+use Rattle.ld_graph.proofs.slots.holds.Goals as goal
 
 pub returns-clause-absent : goal.returns-clause-absent
 returns-clause-absent c _ member =

@@ -3,7 +3,7 @@ use std::alloc::Global;
 use std::marker::Model;
 
 ghost use Rattle.std.specs.Prelude.{true, false, ◌≡◌, ℕ, ◌+◌, ◌^◌, ◌<◌, ◌≤◌, ◌⊎◌, ◌++◌, ◌∷◌, [], List, length, IfOk, IfSome, IfNone, OnErr, Contains, slice_get, option_copied};
-ghost use Rattle.ld_graph.specs.Slots.{Slots};
+ghost use Rattle.ld_graph.specs.Slots.{Slots, AreDistinct};
 
 /// A list of slots, no slot twice.
 #[derive(Drop)]
@@ -15,13 +15,13 @@ pub struct SlotList {
 impl Model for SlotList {
     ghost use Rattle.std.specs.Prelude.{length, ◌≤◌};
     ghost use Rattle.std.specs.Vec.{vec_capacity};
-    ghost use Rattle.ld_graph.specs.Slots.{Slots};
+    ghost use Rattle.ld_graph.specs.Slots.{Slots, AreDistinct};
 
     ghost Value = { Slots };
 
     ghost view = { λ s. record { items = s.slots.items; room = s.room } };
 
-    ghost invariant = { λ s. (length s.slots.items ≤ s.room) × (s.room ≤ vec_capacity s.slots) };
+    ghost invariant = { λ s. AreDistinct s.slots.items × (length s.slots.items ≤ s.room) × (s.room ≤ vec_capacity s.slots) };
 }
 
 impl SlotList {
@@ -54,15 +54,16 @@ impl SlotList {
         self.slots.clear();
     }
 
-    pub fn len(&self) -> u32
+    pub fn len(&self) -> usize
         ensures { result ≡ length self.now.items }
     {
-        let _room = self.room;
-        self.slots.len() as u32
+        self.slots.len()
     }
 
     pub fn as_slice(&self) -> &[u32]
-        ensures { result.now ≡ self.now.items }
+        ensures value { result.now ≡ self.now.items }
+        ensures once { AreDistinct self.now.items }
+        ensures room { length self.now.items ≤ self.now.room }
     {
         &self.slots
     }
