@@ -33,8 +33,9 @@ plus_none a =
 -- more firings stir no less
 stirred_left : (y : System) (fs gs : List (Firing y)) (table : List Bool) (i : ℕ) → IsStirred y fs table i → IsStirred y (fs ++ gs) table i
 stirred_left y fs gs table i h = elim h [
-      inl was ↦ inl was
-    | inr v ↦ inr (v.0, Contains-append_left fs gs v.0 v.1, v.2) ]
+  | inl was ↦ inl was
+  | inr v ↦ inr (v.0, Contains-append_left fs gs v.0 v.1, v.2)
+]
 
 visited_right : (y : System) (fs gs : List (Firing y)) (table : List Bool) (i : ℕ) → IsVisited y gs i → IsStirred y (fs ++ gs) table i
 visited_right y fs gs table i v = inr (v.0, Contains-append_right fs gs v.0 v.1, v.2)
@@ -45,15 +46,18 @@ stirs_none y w = record { dirty = λ i is_in. inl is_in; relinked = λ i is_in. 
 pub stirs_then : {y : System} {fs gs : List (Firing y)} {a b c : Wiring} → Stirs y fs a b → Stirs y gs b c → Stirs y (fs ++ gs) a c
 stirs_then {y} {fs} {gs} {a} {b} {c} f h =
     let both : (i : ℕ) → IsStirred y gs b.dirty i → IsStirred y (fs ++ gs) a.dirty i = λ i x. elim x [
-          inl was ↦ stirred_left y fs gs a.dirty i (f.dirty i was)
-        | inr v ↦ visited_right y fs gs a.dirty i v ] in
+      | inl was ↦ stirred_left y fs gs a.dirty i (f.dirty i was)
+      | inr v ↦ visited_right y fs gs a.dirty i v
+    ] in
     record {
       dirty = λ i is_in. both i (h.dirty i is_in);
       relinked = λ i is_in. elim (h.relinked i is_in) [
-          inl was ↦ elim (f.relinked i was) [
-              inl first ↦ inl first
-            | inr x ↦ inr (stirred_left y fs gs a.dirty i x) ]
-        | inr x ↦ inr (both i x) ];
+        | inl was ↦ elim (f.relinked i was) [
+          | inl first ↦ inl first
+          | inr x ↦ inr (stirred_left y fs gs a.dirty i x)
+        ]
+        | inr x ↦ inr (both i x)
+      ];
     }
 
 pub goes_then : {y : System} {fs gs : List (Firing y)} {p q r : Standing y} → Arrives y fs p q → Goes y gs q r → Goes y (fs ++ gs) p r
@@ -82,16 +86,16 @@ arrives_then {y} {fs} {gs} {p} {q} {r} a h =
 
 pub arrives_none : (y : System) (p : Standing y) → Tidy y p.situation p.wiring → Covers y p.situation p.wiring → Arrives y [] p p
 arrives_none y p tidy covers = record {
-    goes = record {
-      steps = omega arith;
-      stirs = stirs_none y p.wiring;
-      follows = follows_self;
-      same_sites = refl;
-      room = omega arith;
-    };
-    sums = plus_none p.sums;
-    tidy = tidy;
-    covers = covers;
+  goes = record {
     steps = omega arith;
-    rooms = λ rooms. rooms;
-  }
+    stirs = stirs_none y p.wiring;
+    follows = follows_self;
+    same_sites = refl;
+    room = omega arith;
+  };
+  sums = plus_none p.sums;
+  tidy = tidy;
+  covers = covers;
+  steps = omega arith;
+  rooms = λ rooms. rooms;
+}

@@ -36,11 +36,12 @@ spare_enough y law s sound edges m each none room =
     let needed : sum_below n h ≡ edges_needed y s = needed_below y law s sound (length edges.rows) in
     let zero : f m ≡ 0 = ap (λ (r : List ℕ). length r) none in
     elim (cases_lt m n) [
-      inl lt ↦
-        let less : f m + h m ≤ h m = omega arith in
-        let sum : sum_below n f + h m ≤ sum_below n h = sum_below_less n m (h m) f h lt (λ i _. each i) less in
-        omega arith
-    | inr past ↦ let a = no_count y law s sound m (omega arith) in omega arith ]
+      | inl lt ↦
+          let less : f m + h m ≤ h m = omega arith in
+          let sum : sum_below n f + h m ≤ sum_below n h = sum_below_less n m (h m) f h lt (λ i _. each i) less in
+          omega arith
+      | inr past ↦ let a = no_count y law s sound m (omega arith) in omega arith
+    ]
 
 -- where all edges are the reads, there is room for them
 pub room_for_all : (y : System) → Lawful y → (s : y.Situation) → y.IsSound s → (edges : Edges)
@@ -57,19 +58,19 @@ room_for_all y law s sound edges all =
 pub restorable_first : (y : System) → Lawful y → (s : y.Situation) → y.IsSound s → (w : Wiring) → Covers y s w
     → ((i : ℕ) → EdgesAre w.edges i (y.reads s i)) → Restorable y s w
 restorable_first y law s sound w covers all = record {
-    edges_are = λ i _. all i;
-    room = room_for_all y law s sound w.edges all;
-    sites = covers.sites;
-    slots = covers.slots;
-  }
+  edges_are = λ i _. all i;
+  room = room_for_all y law s sound w.edges all;
+  sites = covers.sites;
+  slots = covers.slots;
+}
 
 pub restorable_then : (y : System) (s : y.Situation) (old now : Wiring) → Restorable y s old → Follows old now → Restorable y s now
 restorable_then y s old now r f = record {
-    edges_are = λ i out. edges_stay (f.rows i out) (r.edges_are i (f.was_out i out));
-    room = let a = r.room in let b = f.room in omega arith;
-    sites = let a = r.sites in let b = f.sites in omega arith;
-    slots = let a = r.slots in let b = f.slots in omega arith;
-  }
+  edges_are = λ i out. edges_stay (f.rows i out) (r.edges_are i (f.was_out i out));
+  room = let a = r.room in let b = f.room in omega arith;
+  sites = let a = r.sites in let b = f.sites in omega arith;
+  slots = let a = r.slots in let b = f.slots in omega arith;
+}
 
 -- before the site n of the table is linked anew
 pub record Restoring (y : System) (s0 : y.Situation) (w0 : Wiring) (room0 steps0 : ℕ) (s : y.Situation) (w : Wiring) (room steps n : ℕ) : Type 0 where
@@ -96,29 +97,32 @@ pub record Unlinked (w0 w : Wiring) : Type 0 where
 pub restoring_first : (y : System) (s : y.Situation) (w0 w : Wiring) (room steps : ℕ) → Restorable y s w0 → Unlinked w0 w
     → Restoring y s w0 room steps s w room steps 0
 restoring_first y s w0 w room steps r u = record {
-    same = refl;
-    same_table = λ i. ap (λ (t : List Bool). has t i) u.relinked;
-    same_sites = u.sites;
-    same_slots = u.slots;
-    same_room = u.room;
-    within = omega arith;
-    linked = λ i h. elim h [
-        inl out ↦ edges_stay (u.others i out) (r.edges_are i out)
-      | inr lt ↦ absurd (omega arith) ];
-    waits = λ i is_in _. u.own i is_in;
-    more = omega arith;
-    ticks = omega arith;
-  }
+  same = refl;
+  same_table = λ i. ap (λ (t : List Bool). has t i) u.relinked;
+  same_sites = u.sites;
+  same_slots = u.slots;
+  same_room = u.room;
+  within = omega arith;
+  linked = λ i h. elim h [
+    | inl out ↦ edges_stay (u.others i out) (r.edges_are i out)
+    | inr lt ↦ absurd (omega arith)
+  ];
+  waits = λ i is_in _. u.own i is_in;
+  more = omega arith;
+  ticks = omega arith;
+}
 
 -- there is room for the next site
 pub restoring_spare : {y : System} {s0 s : y.Situation} {w0 w : Wiring} {room0 steps0 room steps n : ℕ} → Lawful y → y.IsSound s0 → Restorable y s0 w0
     → Restoring y s0 w0 room0 steps0 s w room steps n → (m : ℕ) → n ≤ m → has w.relinked m ≡ true → read_count y s m ≤ w.edges.spare
 restoring_spare {y} {s0} {s} {w0} {w} {room0} {steps0} {room} {steps} {n} law sound r v m le is_in =
     let each : (i : ℕ) → length (get_or w.edges.rows i []) ≤ read_count y s0 i = λ i. elim (cases_Bool (has w0.relinked i)) [
-          inr out ↦ let e = (v.linked i (inl out)).once in omega arith
-        | inl inside ↦ elim (cases_lt i n) [
-            inl lt ↦ let e = (v.linked i (inr lt)).once in omega arith
-          | inr past ↦ let e : length (get_or w.edges.rows i []) ≡ 0 = ap (λ (x : List ℕ). length x) (v.waits i inside past) in omega arith ] ] in
+      | inr out ↦ let e = (v.linked i (inl out)).once in omega arith
+      | inl inside ↦ elim (cases_lt i n) [
+        | inl lt ↦ let e = (v.linked i (inr lt)).once in omega arith
+        | inr past ↦ let e : length (get_or w.edges.rows i []) ≡ 0 = ap (λ (x : List ℕ). length x) (v.waits i inside past) in omega arith
+      ]
+    ] in
     let none = v.waits m (sym (v.same_table m) ∙ is_in) le in
     let enough = spare_enough y law s0 sound w.edges m each none (let a = r.room in let b = v.same_room in omega arith) in
     subst (λ (u : y.Situation). read_count y u m ≤ w.edges.spare) (sym v.same) enough
@@ -149,35 +153,40 @@ restoring_next {y} {s0} {s} {w0} {w} {w'} {room0} {steps0} {room} {steps} {n} {m
     record {
       same = state ∙ v.same;
       same_table = λ i. elim (cases_eq i m) [
-          inl e ↦ subst (λ (j : ℕ). has w'.relinked j ≡ has w0.relinked j) (sym e) (l.relinked.there ∙ sym was_in)
-        | inr ne ↦ l.relinked.others i ne ∙ v.same_table i ];
+        | inl e ↦ subst (λ (j : ℕ). has w'.relinked j ≡ has w0.relinked j) (sym e) (l.relinked.there ∙ sym was_in)
+        | inr ne ↦ l.relinked.others i ne ∙ v.same_table i
+      ];
       same_sites = l.sites ∙ v.same_sites;
       same_slots = l.slots ∙ v.same_slots;
       same_room = l.room ∙ v.same_room;
       within = let e = v.same_sites in omega arith;
       linked = λ i h. elim (cases_eq i m) [
-          inl e ↦ subst (λ (j : ℕ). EdgesAre w'.edges j (y.reads s0 j)) (sym e) (subst (λ (u : y.Situation). EdgesAre w'.edges m (y.reads u m)) v.same l.own)
+        | inl e ↦ subst (λ (j : ℕ). EdgesAre w'.edges j (y.reads s0 j)) (sym e) (subst (λ (u : y.Situation). EdgesAre w'.edges m (y.reads u m)) v.same l.own)
         | inr ne ↦
-          let early : (has w0.relinked i ≡ false) ⊎ (i < n) = elim h [
-              inl out ↦ inl out
-            | inr below ↦ elim (cases_lt i n) [
-                inl a ↦ inr a
-              | inr a ↦ inl (sym (v.same_table i) ∙ least i a (omega arith)) ] ] in
-          edges_stay (l.others i ne) (v.linked i early) ];
+            let early : (has w0.relinked i ≡ false) ⊎ (i < n) = elim h [
+              | inl out ↦ inl out
+              | inr below ↦ elim (cases_lt i n) [
+                | inl a ↦ inr a
+                | inr a ↦ inl (sym (v.same_table i) ∙ least i a (omega arith))
+              ]
+            ] in
+            edges_stay (l.others i ne) (v.linked i early)
+      ];
       waits = λ i inside past. l.others i (λ e. omega arith) ∙ v.waits i inside (omega arith);
       more = let a = v.more in omega arith;
       ticks =
-        let a = weight_next y s0 w0.relinked n m le was_in in
-        let b : weight y s m ≡ weight y s0 m = ap (λ (u : y.Situation). weight y u m) v.same in
-        let c = v.ticks in
-        omega arith;
+          let a = weight_next y s0 w0.relinked n m le was_in in
+          let b : weight y s m ≡ weight y s0 m = ap (λ (u : y.Situation). weight y u m) v.same in
+          let c = v.ticks in
+          omega arith;
     }
 
 pub restoring_edges : {y : System} {s0 s : y.Situation} {w0 w : Wiring} {room0 steps0 room steps n : ℕ} → Restoring y s0 w0 room0 steps0 s w room steps n
     → ((k : ℕ) → n ≤ k → has w.relinked k ≡ false) → (i : ℕ) → EdgesAre w.edges i (y.reads s0 i)
 restoring_edges {y} {s0} {s} {w0} {w} {room0} {steps0} {room} {steps} {n} v none i = v.linked i (elim (cases_lt i n) [
-      inl a ↦ inr a
-    | inr a ↦ inl (sym (v.same_table i) ∙ none i a) ])
+  | inl a ↦ inr a
+  | inr a ↦ inl (sym (v.same_table i) ∙ none i a)
+])
 
 pub restoring_ticks : {y : System} {s0 s : y.Situation} {w0 w : Wiring} {room0 steps0 room steps n : ℕ} → Restoring y s0 w0 room0 steps0 s w room steps n
     → steps ≤ steps0 + weight_of y s0 w0.sites w0.relinked

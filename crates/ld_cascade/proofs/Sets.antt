@@ -23,6 +23,6 @@ pub count_of_same : (items slots : List ℕ) → AreDistinct items
     → length items ≡ slot_count slots
 count_of_same items slots apart to back =
     length-from_keys nat_eq_equiv items slots (distinct_keys items apart) (λ q.
-        let a = is_member-Decides Decides-eqb items q in
-        let b = is_member-Decides Decides-eqb slots q in
-        same_bools _ _ (λ h. b.1 (to q (a.0 h))) (λ h. a.1 (back q (b.0 h))))
+    let a = is_member-Decides Decides-eqb items q in
+    let b = is_member-Decides Decides-eqb slots q in
+    same_bools _ _ (λ h. b.1 (to q (a.0 h))) (λ h. a.1 (back q (b.0 h))))

@@ -23,12 +23,13 @@ pub sum_below_less : (n m d : ℕ) (f h : ℕ → ℕ) → m < n → ((i : ℕ) 
 unfolding sum_below
 sum_below_less zero m d f h lt le less = absurd (omega arith)
 sum_below_less (suc n) m d f h lt le less = elim (cases_eq n m) [
-      inl e ↦ let a : sum_below n f ≤ sum_below n h = sum_below_le n f h (λ i b. le i (λ k. omega arith)) in
-          let c : f n + d ≤ h n = subst (λ (x : ℕ). f x + d ≤ h x) (sym e) less in
-          omega arith
-    | inr ne ↦ let a : sum_below n f + d ≤ sum_below n h = sum_below_less n m d f h (omega arith) le less in
-          let b : f n ≤ h n = le n ne in
-          omega arith ]
+  | inl e ↦ let a : sum_below n f ≤ sum_below n h = sum_below_le n f h (λ i b. le i (λ k. omega arith)) in
+      let c : f n + d ≤ h n = subst (λ (x : ℕ). f x + d ≤ h x) (sym e) less in
+      omega arith
+  | inr ne ↦ let a : sum_below n f + d ≤ sum_below n h = sum_below_less n m d f h (omega arith) le less in
+      let b : f n ≤ h n = le n ne in
+      omega arith
+]
 
 -- terms that are 0 add nothing
 pub sum_below_more : (n d : ℕ) (f : ℕ → ℕ) → ((i : ℕ) → n ≤ i → f i ≡ 0) → sum_below (n + d) f ≡ sum_below n f
@@ -74,4 +75,4 @@ pub pairs_by_places : (rows : List (List ℕ)) (d : ℕ)
     → sum_by (λ row. length row) rows ≡ sum_below (length rows + d) (λ i. length (get_or rows i []))
 pairs_by_places rows d =
     sum_by_places rows ∙ sym (sum_below_more (length rows) d (λ i. length (get_or rows i []))
-        (λ i past. ap (λ (r : List ℕ). length r) (get_or_past rows i [] past)))
+    (λ i past. ap (λ (r : List ℕ). length r) (get_or_past rows i [] past)))

@@ -48,7 +48,7 @@ sweep_moves_at y law s sound m is_due none =
     let le : m + 1 ≤ y.count s = let a = may.there in let e = k.same_count in omega arith in
     let h : fired_below y s (m + 1) ≡ [] = none_before y s (m + 1) (y.count s) le none in
     not_empty (fired_below y s m) (record { before = visited y s m; site = m })
-        (sym (fired_next y s m ∙ ap (λ x. fired_below y s m ++ x) (fired_due y (visited y s m) m is_due)) ∙ h)
+    (sym (fired_next y s m ∙ ap (λ x. fired_below y s m ++ x) (fired_due y (visited y s m) m is_due)) ∙ h)
 
 -- only sites fire, each once
 pub few_fired : (y : System) → Lawful y → (s : y.Situation) → y.IsSound s → (n : ℕ) → (length (fired_below y s n) ≤ n) × (length (fired_below y s n) ≤ y.count s)
@@ -60,17 +60,18 @@ few_fired y law s sound (suc n) =
     let a = before.0 in
     let b = before.1 in
     let sum : length (fired_below y s n ++ fired y (visited y s n) n) ≡ length (fired_below y s n) + length (fired y (visited y s n) n) =
-        length-append (fired_below y s n) (fired y (visited y s n) n) in
+    length-append (fired_below y s n) (fired y (visited y s n) n) in
     elim (cases_Bool (fires y (visited y s n) n)) [
-      inl is_due ↦
-        let may = may_fire y law (visited y s n) n k.sound is_due in
-        let one : length (fired y (visited y s n) n) ≡ 1 = rw (fired_due y (visited y s n) n is_due) refl in
-        let there = may.there in
-        let same = k.same_count in
-        (omega arith, omega arith)
-    | inr quiet ↦
-        let none : length (fired y (visited y s n) n) ≡ 0 = rw (fired_quiet y (visited y s n) n quiet) refl in
-        (omega arith, omega arith) ]
+      | inl is_due ↦
+          let may = may_fire y law (visited y s n) n k.sound is_due in
+          let one : length (fired y (visited y s n) n) ≡ 1 = rw (fired_due y (visited y s n) n is_due) refl in
+          let there = may.there in
+          let same = k.same_count in
+          (omega arith, omega arith)
+      | inr quiet ↦
+          let none : length (fired y (visited y s n) n) ≡ 0 = rw (fired_quiet y (visited y s n) n quiet) refl in
+          (omega arith, omega arith)
+    ]
 
 -- counts tell whether there were firings
 pub sums_move : (y : System) (before sums : Sums) (fs : List (Firing y)) → sums ≡ plus before (sums_of y fs) → before.fired < sums.fired → fs ≡ [] → ⊥
@@ -95,12 +96,12 @@ pub record Sweeping (y : System) (may : Bool) (p q : Standing y) (n : ℕ) : Typ
 pub sweeping_first : (y : System) (may : Bool) (p : Standing y) → Tidy y p.situation p.wiring → Covers y p.situation p.wiring → Sweeping y may p p 0
 unfolding visited fired_below
 sweeping_first y may p tidy covers = record {
-    same = refl;
-    arrives = arrives_none y p tidy covers;
-    still = λ _ i lt. absurd (omega arith);
-    allowed = λ some. absurd (some refl);
-    idle = λ none. (none, refl);
-  }
+  same = refl;
+  arrives = arrives_none y p tidy covers;
+  still = λ _ i lt. absurd (omega arith);
+  allowed = λ some. absurd (some refl);
+  idle = λ none. (none, refl);
+}
 
 -- no site between the position and the least dirty one fires
 pub to_site : {y : System} {may : Bool} {p q : Standing y} {n : ℕ} → Sweeping y may p q n → (m : ℕ) → n ≤ m
@@ -108,7 +109,7 @@ pub to_site : {y : System} {may : Bool} {p q : Standing y} {n : ℕ} → Sweepin
     → (q.situation ≡ visited y p.situation m) × (fired_below y p.situation m ≡ fired_below y p.situation n)
 to_site {y} {may} {p} {q} {n} w m le least =
     let quiet : (i : ℕ) → n ≤ i → i < m → fires y (visited y p.situation n) i ≡ false =
-        λ i a b. subst (λ (u : y.Situation). fires y u i ≡ false) w.same (w.arrives.tidy i (least i a b)).marked in
+    λ i a b. subst (λ (u : y.Situation). fires y u i ≡ false) w.same (w.arrives.tidy i (least i a b)).marked in
     (w.same ∙ sym (skip y p.situation n m le quiet), skip_firings y p.situation n m le quiet)
 
 -- the firings up to the next dirty site, and its own
@@ -133,16 +134,20 @@ sweeping_next {y} {may} {p} {q} {r} {n} w m le is_in least arrives stepped quiet
       same = stepped ∙ (rw there.0 (sym (visited_next y s0 m)));
       arrives = subst (λ (fs : List (Firing y)). Arrives y fs p r) (sym more) (arrives_then w.arrives arrives);
       still = λ empty i below. elim (cases_Bool (fires y s m)) [
-          inl is_due ↦ absurd (not_empty (fired_below y s0 n) (record { before = s; site = m }) (sym (more ∙ ap (λ x. fired_below y s0 n ++ x) (fired_due y s m is_due)) ∙ empty))
+        | inl is_due ↦ absurd (not_empty (fired_below y s0 n) (record { before = s; site = m }) (sym (more ∙ ap (λ x. fired_below y s0 n ++ x) (fired_due y s m is_due)) ∙ empty))
         | inr no_fire ↦ let none : fired_below y s0 n ≡ [] = sym (append-nil (fired_below y s0 n)) ∙ (sym (more ∙ ap (λ x. fired_below y s0 n ++ x) (fired_quiet y s m no_fire)) ∙ empty) in
-          elim (cases_eq i m) [
-            inl e ↦ subst (λ (j : ℕ). has r.wiring.dirty j ≡ false) (sym e) (quiet no_fire).gone
-          | inr ne ↦ (quiet no_fire).others i ne ∙ (elim (cases_lt i n) [
-              inl early ↦ w.still none i early
-            | inr late ↦ least i late (omega arith) ]) ] ];
+            elim (cases_eq i m) [
+              | inl e ↦ subst (λ (j : ℕ). has r.wiring.dirty j ≡ false) (sym e) (quiet no_fire).gone
+              | inr ne ↦ (quiet no_fire).others i ne ∙ (elim (cases_lt i n) [
+                | inl early ↦ w.still none i early
+                | inr late ↦ least i late (omega arith)
+              ])
+            ]
+      ];
       allowed = λ some. elim (cases_Bool (fires y s m)) [
-          inl is_due ↦ allowed is_due
-        | inr no_fire ↦ w.allowed (λ none. some (more ∙ (rw (none, fired_quiet y s m no_fire) refl))) ];
+        | inl is_due ↦ allowed is_due
+        | inr no_fire ↦ w.allowed (λ none. some (more ∙ (rw (none, fired_quiet y s m no_fire) refl)))
+      ];
       idle = λ none. absurd (let out = (w.idle none).0 m in cc);
     }
 
@@ -152,7 +157,7 @@ pub sweeping_end : {y : System} → Lawful y → {may : Bool} {p q : Standing y}
     → (q.situation ≡ swept y p.situation) × (sweep_firings y p.situation ≡ fired_below y p.situation n)
 sweeping_end {y} law {may} {p} {q} {n} w sound none =
     let quiet : (i : ℕ) → n ≤ i → fires y (visited y p.situation n) i ≡ false =
-        λ i a. subst (λ (u : y.Situation). fires y u i ≡ false) w.same (w.arrives.tidy i (none i a)).marked in
+    λ i a. subst (λ (u : y.Situation). fires y u i ≡ false) w.same (w.arrives.tidy i (none i a)).marked in
     (w.same ∙ sym (sweep_end y law p.situation sound n quiet), sweep_firings_end y law p.situation sound n quiet)
 
 pub sweeping_few : {y : System} → Lawful y → {may : Bool} {p q : Standing y} {n : ℕ} → Sweeping y may p q n → y.IsSound p.situation
@@ -166,6 +171,7 @@ sweeping_few {y} law {may} {p} {q} {n} w sound =
 pub sweeping_stops : {y : System} {p q r : Standing y} {n : ℕ} → Sweeping y false p q n → Goes y [] q r → Goes y [] p r
 sweeping_stops {y} {p} {q} {r} {n} w goes =
     let none : fired_below y p.situation n ≡ [] = elim (empty_or (fired_below y p.situation n)) [
-          inl e ↦ e
-        | inr some ↦ absurd (let t = w.allowed some in cc) ] in
+      | inl e ↦ e
+      | inr some ↦ absurd (let t = w.allowed some in cc)
+    ] in
     subst (λ (fs : List (Firing y)). Goes y fs p r) (append-nil (fired_below y p.situation n) ∙ none) (goes_then w.arrives goes)

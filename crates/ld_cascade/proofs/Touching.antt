@@ -13,27 +13,30 @@ pub tidy_touched : (y : System) → Lawful y → (s t : y.Situation) (slots : Li
     → Tidy y s old → Changes y s t slots → Touched y s t slots old now → Tidy y t now
 tidy_touched y w s t slots old now tidy ch touched i out =
     let was_out : has old.dirty i ≡ false = elim (cases_Bool (has old.dirty i)) [
-          inl is_in ↦ absurd (let still = touched.keeps i is_in in cc)
-        | inr is_out ↦ is_out ] in
+      | inl is_in ↦ absurd (let still = touched.keeps i is_in in cc)
+      | inr is_out ↦ is_out
+    ] in
     let was = tidy i was_out in
     elim (cases_lt i (y.count s)) [
-      inl lt ↦
-        let alike : IsSeenAlike y s t i = record {
-              sound = ch.sound_before;
-              sound_other = ch.sound_after;
-              same_course = ch.same_course;
-              there = lt;
-              there_other = let g = ch.grows in omega arith;
-              agree = λ k member. ch.others k (λ changes. absurd (let is_in = touched.readers k changes i (was.edges_are.linked k member) in cc));
-            } in
-        record {
-          marked = rw (sym (w.same_test s t i alike), ch.same_marks i lt) was.marked;
-          edges_are = edges_stay (touched.same_rows i) (subst (λ (x : List ℕ). EdgesAre old.edges i x) (w.same_reads s t i alike) was.edges_are);
-        }
-    | inr ge ↦ elim (cases_lt i (y.count t)) [
-        inl new_site ↦ absurd (let is_in = touched.fresh i ge new_site in cc)
-      | inr past ↦ record {
+      | inl lt ↦
+          let alike : IsSeenAlike y s t i = record {
+            sound = ch.sound_before;
+            sound_other = ch.sound_after;
+            same_course = ch.same_course;
+            there = lt;
+            there_other = let g = ch.grows in omega arith;
+            agree = λ k member. ch.others k (λ changes. absurd (let is_in = touched.readers k changes i (was.edges_are.linked k member) in cc));
+          } in
+          record {
+            marked = rw (sym (w.same_test s t i alike), ch.same_marks i lt) was.marked;
+            edges_are = edges_stay (touched.same_rows i) (subst (λ (x : List ℕ). EdgesAre old.edges i x) (w.same_reads s t i alike) was.edges_are);
+          }
+      | inr ge ↦ elim (cases_lt i (y.count t)) [
+        | inl new_site ↦ absurd (let is_in = touched.fresh i ge new_site in cc)
+        | inr past ↦ record {
           marked = no_site y w t i ch.sound_after past;
           edges_are = edges_stay (touched.same_rows i)
               (subst (λ (x : List ℕ). EdgesAre old.edges i x) (w.no_reads s i ch.sound_before ge ∙ sym (w.no_reads t i ch.sound_after past)) was.edges_are);
-        } ] ]
+        }
+      ]
+    ]

@@ -22,14 +22,14 @@ pub record Turning (y : System) (turns : ℕ) (p q : Standing y) (k : ℕ) : Typ
 pub turning_first : (y : System) (turns : ℕ) (p : Standing y) → Tidy y p.situation p.wiring → Covers y p.situation p.wiring → Turning y turns p p 0
 unfolding after_sweeps all_firings
 turning_first y turns p tidy covers = record {
-    same = refl;
-    arrives = arrives_none y p tidy covers;
-    same_count = refl;
-    within = omega arith;
-    few = omega arith;
-    moves = λ n lt. absurd (omega arith);
-    idle = λ none. none;
-  }
+  same = refl;
+  arrives = arrives_none y p tidy covers;
+  same_count = refl;
+  within = omega arith;
+  few = omega arith;
+  moves = λ n lt. absurd (omega arith);
+  idle = λ none. none;
+}
 
 more_firings : {y : System} {turns : ℕ} {p q : Standing y} {k : ℕ} → Turning y turns p q k → all_firings y p.situation (k + 1) ≡ all_firings y p.situation k ++ sweep_firings y q.situation
 unfolding all_firings
@@ -52,22 +52,24 @@ turning_next {y} law {turns} {p} {q} {r} {k} w sound small lt arrives stepped fe
       within = omega arith;
       few = let a = w.few in let c = w.same_count in omega arith;
       moves = λ n below. elim (cases_eq n k) [
-          inl here ↦ rw here (λ none. some (rw w.same none))
-        | inr ne ↦ w.moves n (omega arith) ];
+        | inl here ↦ rw here (λ none. some (rw w.same none))
+        | inr ne ↦ w.moves n (omega arith)
+      ];
       idle = λ none. absurd (awake (w.idle none));
     }
 
 pub turning_settles : {y : System} {turns : ℕ} {p q : Standing y} {k : ℕ} → Turning y turns p q k → sweep_firings y q.situation ≡ [] → Settles y p.situation turns k
 turning_settles {y} {turns} {p} {q} {k} w none = record {
-    within = w.within;
-    before = w.moves;
-    quiet = rw (← w.same) none;
-  }
+  within = w.within;
+  before = w.moves;
+  quiet = rw (← w.same) none;
+}
 
 pub turning_passes : {y : System} {turns : ℕ} {p q : Standing y} {k : ℕ} → Turning y turns p q k → turns ≤ k → (sweep_firings y q.situation ≡ [] → ⊥) → PassesBudget y p.situation turns
 turning_passes {y} {turns} {p} {q} {k} w last some n le = elim (cases_eq n k) [
-      inl here ↦ rw here (λ none. some (rw w.same none))
-    | inr ne ↦ w.moves n (let a = w.within in omega arith) ]
+  | inl here ↦ rw here (λ none. some (rw w.same none))
+  | inr ne ↦ w.moves n (let a = w.within in omega arith)
+]
 
 -- a sweep that fires nothing leaves the situation
 pub turning_still : {y : System} {turns : ℕ} {p q : Standing y} {k : ℕ} → Turning y turns p q k → sweep_firings y q.situation ≡ []
@@ -79,7 +81,7 @@ pub turning_end : {y : System} {turns : ℕ} {p q r : Standing y} {k : ℕ} → 
     → Arrives y (sweep_firings y q.situation) q r → Arrives y (all_firings y p.situation k) p r
 turning_end {y} {turns} {p} {q} {r} {k} w none arrives =
     let same : all_firings y p.situation k ++ sweep_firings y q.situation ≡ all_firings y p.situation k =
-        ap (λ (fs : List (Firing y)). all_firings y p.situation k ++ fs) none ∙ append-nil (all_firings y p.situation k) in
+    ap (λ (fs : List (Firing y)). all_firings y p.situation k ++ fs) none ∙ append-nil (all_firings y p.situation k) in
     subst (λ (fs : List (Firing y)). Arrives y fs p r) same (arrives_then w.arrives arrives)
 
 -- a sweep that stops after some sites
@@ -87,11 +89,11 @@ pub turning_stops : {y : System} {turns : ℕ} {p q r : Standing y} {k : ℕ} �
     → Goes y (fired_below y q.situation n) q r → Goes y (firings_to y p.situation k n) p r
 turning_stops {y} {turns} {p} {q} {r} {k} w n goes =
     subst (λ (fs : List (Firing y)). Goes y fs p r) (ap (λ (u : y.Situation). all_firings y p.situation k ++ fired_below y u n) w.same)
-        (goes_then w.arrives goes)
+    (goes_then w.arrives goes)
 
 -- the budget is used up
 pub turning_spent : {y : System} {turns : ℕ} {p q r : Standing y} {k : ℕ} → Turning y turns p q k → turns ≤ k → Goes y [] q r → Goes y (all_firings y p.situation turns) p r
 turning_spent {y} {turns} {p} {q} {r} {k} w last goes =
     let e : k ≡ turns = let a = w.within in omega arith in
     subst (λ (n : ℕ). Goes y (all_firings y p.situation n) p r) e
-        (subst (λ (fs : List (Firing y)). Goes y fs p r) (append-nil (all_firings y p.situation k)) (goes_then w.arrives goes))
+    (subst (λ (fs : List (Firing y)). Goes y fs p r) (append-nil (all_firings y p.situation k)) (goes_then w.arrives goes))

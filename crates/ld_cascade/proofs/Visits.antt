@@ -27,7 +27,7 @@ one_more : (y : System) (sums : Sums) (s : y.Situation) (m : ℕ)
     → plus sums (record { fired = 1; rejected = y.rejected s m; sent = y.sent s m }) ≡ plus sums (sums_of y (record { before = s; site = m } ∷ []))
 one_more y sums s m =
     sums_same (plus sums (record { fired = 1; rejected = y.rejected s m; sent = y.sent s m })) (plus sums (sums_of y (record { before = s; site = m } ∷ [])))
-        refl (omega arith) (omega arith)
+    refl (omega arith) (omega arith)
 
 -- a site was taken out of the dirty ones and judged, and its reads were asked for: the links are the same
 -- but for its edges, which may be its reads by now
@@ -51,23 +51,25 @@ looked_weight {y} {p} {q} {m} l =
 
 looked_stirs : {y : System} {p q : Standing y} {m : ℕ} → Looked y p q m → (fs : List (Firing y)) → Stirs y fs p.wiring q.wiring
 looked_stirs {y} {p} {q} {m} l fs = record {
-    dirty = λ i is_in. inl (elim (cases_eq i m) [
-        inl e ↦ subst (λ (n : ℕ). has p.wiring.dirty n ≡ true) (sym e) l.was_dirty
-      | inr ne ↦ sym (l.clear.others i ne) ∙ is_in ]);
-    relinked = λ i is_in. elim (l.relinked i is_in) [
-        inl was ↦ inl was
-      | inr e ↦ inr (inl (subst (λ (n : ℕ). has p.wiring.dirty n ≡ true) (sym e) l.was_dirty)) ];
-  }
+  dirty = λ i is_in. inl (elim (cases_eq i m) [
+    | inl e ↦ subst (λ (n : ℕ). has p.wiring.dirty n ≡ true) (sym e) l.was_dirty
+    | inr ne ↦ sym (l.clear.others i ne) ∙ is_in
+  ]);
+  relinked = λ i is_in. elim (l.relinked i is_in) [
+    | inl was ↦ inl was
+    | inr e ↦ inr (inl (subst (λ (n : ℕ). has p.wiring.dirty n ≡ true) (sym e) l.was_dirty))
+  ];
+}
 
 -- where the visit ends before the firing
 pub looked_goes : {y : System} {p q : Standing y} {m : ℕ} → Looked y p q m → (fs : List (Firing y)) → Goes y fs p q
 looked_goes {y} {p} {q} {m} l fs = record {
-    steps = let a = looked_weight l in omega arith;
-    stirs = looked_stirs l fs;
-    follows = l.follows;
-    same_sites = l.same_sites;
-    room = l.room;
-  }
+  steps = let a = looked_weight l in omega arith;
+  stirs = looked_stirs l fs;
+  follows = l.follows;
+  same_sites = l.same_sites;
+  room = l.room;
+}
 
 -- where the site does not fire
 pub quiet_arrives : {y : System} {p q : Standing y} {m : ℕ} → Looked y p q m
@@ -88,10 +90,10 @@ quiet_arrives {y} {p} {q} {m} l v quiet covers own =
             let b = covers.slots in let c = l.follows.slots in omega arith;
       };
       steps =
-        let a = looked_weight l in
-        let b : weight_of y q.situation q.wiring.sites q.wiring.dirty ≡ weight_of y p.situation p.wiring.sites q.wiring.dirty =
-            ap (λ (u : y.Situation). weight_of y u q.wiring.sites q.wiring.dirty) l.same ∙ ap (λ (n : ℕ). weight_of y p.situation n q.wiring.dirty) l.same_sites in
-        omega arith;
+          let a = looked_weight l in
+          let b : weight_of y q.situation q.wiring.sites q.wiring.dirty ≡ weight_of y p.situation p.wiring.sites q.wiring.dirty =
+          ap (λ (u : y.Situation). weight_of y u q.wiring.sites q.wiring.dirty) l.same ∙ ap (λ (n : ℕ). weight_of y p.situation n q.wiring.dirty) l.same_sites in
+          omega arith;
       rooms = λ rooms. rooms_cleared y q.situation p.room q.room l.clear
           (subst (λ (u : y.Situation). read_count y u m ≤ q.room) (sym l.same) own) l.room
           (subst (λ (u : y.Situation). (i : ℕ) → has p.wiring.dirty i ≡ false → read_count y u i ≤ p.room) (sym l.same) rooms);
@@ -109,22 +111,23 @@ pub record HasFired (y : System) (s : y.Situation) (q r : Standing y) (m : ℕ) 
   pub steps : r.steps ≤ q.steps + y.cost s m
 
 fired_visited : (y : System) (s : y.Situation) (m i : ℕ) → fires y s m ≡ true → visits y s m i ≡ true → IsVisited y (fired y s m) i
-fired_visited y s m i is_due meet =
-    (record { before = s; site = m },
-     subst (λ (fs : List (Firing y)). Contains fs (record { before = s; site = m })) (sym (fired_due y s m is_due)) (Contains-push [] (record { before = s; site = m })),
-     meet)
+fired_visited y s m i is_due meet = (
+  record { before = s; site = m },
+  subst (λ (fs : List (Firing y)). Contains fs (record { before = s; site = m })) (sym (fired_due y s m is_due)) (Contains-push [] (record { before = s; site = m })),
+  meet,
+)
 
 -- where the firing fails
 pub failed_goes : {y : System} {p q : Standing y} {m : ℕ} → Looked y p q m → fires y p.situation m ≡ true
     → (r : Standing y) → r.wiring ≡ q.wiring → q.room ≤ r.room → r.steps ≤ q.steps + y.cost p.situation m
     → Goes y (fired y p.situation m) p r
 failed_goes {y} {p} {q} {m} l is_due r same room steps = record {
-    steps = let a = looked_weight l in let z = work_due y p.situation m is_due in omega arith;
-    stirs = subst (λ (w : Wiring). Stirs y (fired y p.situation m) p.wiring w) (sym same) (looked_stirs l (fired y p.situation m));
-    follows = subst (λ (w : Wiring). Follows p.wiring w) (sym same) l.follows;
-    same_sites = ap (λ (w : Wiring). w.sites) same ∙ l.same_sites;
-    room = let a = l.room in omega arith;
-  }
+  steps = let a = looked_weight l in let z = work_due y p.situation m is_due in omega arith;
+  stirs = subst (λ (w : Wiring). Stirs y (fired y p.situation m) p.wiring w) (sym same) (looked_stirs l (fired y p.situation m));
+  follows = subst (λ (w : Wiring). Follows p.wiring w) (sym same) l.follows;
+  same_sites = ap (λ (w : Wiring). w.sites) same ∙ l.same_sites;
+  room = let a = l.room in omega arith;
+}
 
 pub fired_arrives : {y : System} → Lawful y → {p q r : Standing y} {m : ℕ} → MayFire y p.situation m → Looked y p q m
     → Visiting y p.situation p.wiring q.wiring.edges q.wiring.dirty m → HasFired y p.situation q r m
@@ -138,11 +141,11 @@ fired_arrives {y} law {p} {q} {r} {m} may l v f covers own =
     let marked = marked_reads v f.marks in
     let same_sites : r.wiring.sites ≡ p.wiring.sites = f.same_sites ∙ l.same_sites in
     let grows : p.wiring.edges.slots ≤ r.wiring.edges.slots =
-        let a = l.follows.slots in let b : r.wiring.edges.slots ≡ q.wiring.edges.slots = ap (λ (es : Edges). es.slots) f.same_edges in omega arith in
+    let a = l.follows.slots in let b : r.wiring.edges.slots ≡ q.wiring.edges.slots = ap (λ (es : Edges). es.slots) f.same_edges in omega arith in
     let less : weight_of y s p.wiring.sites r.wiring.dirty ≤ weight_of y s p.wiring.sites q.wiring.dirty + visits_weight y s m =
-        weight_fired y law s may.sound m p.wiring.sites q.wiring.dirty r.wiring.dirty covers.sites marked in
+    weight_fired y law s may.sound m p.wiring.sites q.wiring.dirty r.wiring.dirty covers.sites marked in
     let later : weight_of y r.situation r.wiring.sites r.wiring.dirty ≤ weight_of y s p.wiring.sites r.wiring.dirty =
-        rw (f.after, same_sites) (weight_after y law s m p.wiring.sites may r.wiring.dirty) in
+    rw (f.after, same_sites) (weight_after y law s m p.wiring.sites may r.wiring.dirty) in
     let looked = looked_weight l in
     let z = work_due y s m is_due in
     let cost = f.steps in
@@ -153,8 +156,9 @@ fired_arrives {y} law {p} {q} {r} {m} may l v f covers own =
         steps = omega arith;
         stirs = record {
           dirty = λ i is_in. elim (marked i is_in) [
-              inl was ↦ stirs.dirty i was
-            | inr meet ↦ inr (fired_visited y s m i is_due meet) ];
+            | inl was ↦ stirs.dirty i was
+            | inr meet ↦ inr (fired_visited y s m i is_due meet)
+          ];
           relinked = λ i is_in. stirs.relinked i (subst (λ (t : List Bool). has t i ≡ true) f.same_relinked is_in);
         };
         follows = record {
@@ -195,27 +199,28 @@ pub looked : (y : System) (p q : Standing y) (w : Wiring) (steps m : ℕ) → Cl
     → m < p.wiring.sites → has p.wiring.dirty m ≡ true → q.situation ≡ p.situation → q.sums ≡ p.sums → p.room ≤ q.room
     → steps ≤ p.steps + weight y p.situation m → q.steps ≤ steps + weight y p.situation m → Looked y p q m
 looked y p q w steps m c l here was_dirty same sums room first second = record {
-    same = same;
-    sums = sums;
-    here = here;
-    was_dirty = was_dirty;
-    clear = subst (λ (t : List Bool). IsWithout p.wiring.dirty t m) (sym l.dirty) c.dirty;
-    relinked = λ i is_in. elim (l.relinked i is_in) [
-        inl was ↦ inl (subst (λ (t : List Bool). has t i ≡ true) c.relinked was)
-      | inr e ↦ inr e ];
-    follows = follows_then (follows_same p.wiring w c.edges c.relinked c.sites) l.follows;
-    same_sites = l.sites ∙ c.sites;
-    room = room;
-    steps = omega arith;
-  }
+  same = same;
+  sums = sums;
+  here = here;
+  was_dirty = was_dirty;
+  clear = subst (λ (t : List Bool). IsWithout p.wiring.dirty t m) (sym l.dirty) c.dirty;
+  relinked = λ i is_in. elim (l.relinked i is_in) [
+    | inl was ↦ inl (subst (λ (t : List Bool). has t i ≡ true) c.relinked was)
+    | inr e ↦ inr e
+  ];
+  follows = follows_then (follows_same p.wiring w c.edges c.relinked c.sites) l.follows;
+  same_sites = l.sites ∙ c.sites;
+  room = room;
+  steps = omega arith;
+}
 
 pub visiting : (y : System) (s : y.Situation) (w w' w'' : Wiring) (m : ℕ) → Tidy y s w → Cleared w w' m → Linked w' w'' m
     → EdgesAre w''.edges m (y.reads s m) → Visiting y s w w''.edges w''.dirty m
 visiting y s w w' w'' m tidy c l own = record {
-    tidy = tidy;
-    link = record {
-      own = own;
-      others = λ i ne. subst (λ (e : Edges). HasSameRow e w''.edges i) c.edges (l.others i ne);
-    };
-    clear = subst (λ (t : List Bool). IsWithout w.dirty t m) (sym l.dirty) c.dirty;
-  }
+  tidy = tidy;
+  link = record {
+    own = own;
+    others = λ i ne. subst (λ (e : Edges). HasSameRow e w''.edges i) c.edges (l.others i ne);
+  };
+  clear = subst (λ (t : List Bool). IsWithout w.dirty t m) (sym l.dirty) c.dirty;
+}

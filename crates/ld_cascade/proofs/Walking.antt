@@ -16,10 +16,10 @@ pub record Walking (y : System) (s0 : y.Situation) (sums0 : Sums) (may : Bool) (
 pub walking_first : (y : System) (s0 : y.Situation) (sums0 : Sums) (may : Bool) → Walking y s0 sums0 may s0 sums0 0
 unfolding visited fired_below
 walking_first y s0 sums0 may = record {
-    same = refl;
-    counted = plus_none sums0;
-    allowed = λ some. absurd (some refl);
-  }
+  same = refl;
+  counted = plus_none sums0;
+  allowed = λ some. absurd (some refl);
+}
 
 pub walking_next : {y : System} {s0 : y.Situation} {sums0 : Sums} {may : Bool} {s : y.Situation} {sums : Sums} {n : ℕ}
     → Walking y s0 sums0 may s sums n → (s' : y.Situation) (sums' : Sums)
@@ -27,15 +27,16 @@ pub walking_next : {y : System} {s0 : y.Situation} {sums0 : Sums} {may : Bool} {
     → Walking y s0 sums0 may s' sums' (n + 1)
 walking_next {y} {s0} {sums0} {may} {s} {sums} {n} w s' sums' stepped added allowed =
     let more : fired_below y s0 (n + 1) ≡ fired_below y s0 n ++ fired y s n =
-        fired_next y s0 n ∙ ap (λ (u : y.Situation). fired_below y s0 n ++ fired y u n) (sym w.same) in
+    fired_next y s0 n ∙ ap (λ (u : y.Situation). fired_below y s0 n ++ fired y u n) (sym w.same) in
     record {
       same = stepped ∙ (ap (λ (u : y.Situation). step y u n) w.same ∙ sym (visited_next y s0 n));
       counted = added ∙ (ap (λ (x : Sums). plus x (sums_of y (fired y s n))) w.counted
           ∙ (plus_assoc sums0 (sums_of y (fired_below y s0 n)) (sums_of y (fired y s n))
           ∙ ap (λ (x : Sums). plus sums0 x) (sym (ap (λ (l : List (Firing y)). sums_of y l) more ∙ sums_append y (fired_below y s0 n) (fired y s n)))));
       allowed = λ some. elim (cases_Bool (fires y s n)) [
-          inl is_due ↦ allowed is_due
-        | inr no_fire ↦ w.allowed (λ none. some (more ∙ (rw (none, fired_quiet y s n no_fire) refl))) ];
+        | inl is_due ↦ allowed is_due
+        | inr no_fire ↦ w.allowed (λ none. some (more ∙ (rw (none, fired_quiet y s n no_fire) refl)))
+      ];
     }
 
 -- the end of the sweep, where every site has been visited
@@ -45,7 +46,7 @@ pub walking_end : {y : System} → Lawful y → {s0 : y.Situation} {sums0 : Sums
 walking_end {y} law {s0} {sums0} {may} {s} {sums} {n} w sound past =
     let k = still_visited y law s0 sound n in
     let quiet : (i : ℕ) → n ≤ i → fires y (visited y s0 n) i ≡ false =
-        λ i a. no_site y law (visited y s0 n) i k.sound (let e = k.same_count in omega arith) in
+    λ i a. no_site y law (visited y s0 n) i k.sound (let e = k.same_count in omega arith) in
     (w.same ∙ sym (sweep_end y law s0 sound n quiet), sweep_firings_end y law s0 sound n quiet)
 
 pub walking_few : {y : System} → Lawful y → {s0 : y.Situation} {sums0 : Sums} {may : Bool} {s : y.Situation} {sums : Sums} {n : ℕ}
@@ -67,13 +68,13 @@ pub record Taking (y : System) (s0 : y.Situation) (turns : ℕ) (s : y.Situation
 pub taking_first : (y : System) (s0 : y.Situation) (turns : ℕ) → Taking y s0 turns s0 no_sums 0
 unfolding after_sweeps all_firings
 taking_first y s0 turns = record {
-    same = refl;
-    counted = refl;
-    same_count = refl;
-    within = omega arith;
-    few = omega arith;
-    moves = λ n lt. absurd (omega arith);
-  }
+  same = refl;
+  counted = refl;
+  same_count = refl;
+  within = omega arith;
+  few = omega arith;
+  moves = λ n lt. absurd (omega arith);
+}
 
 pub taking_next : {y : System} → Lawful y → {s0 : y.Situation} {turns : ℕ} {s : y.Situation} {sums : Sums} {k : ℕ}
     → Taking y s0 turns s sums k → y.IsSound s → y.count s0 ≤ 4000000 → k < turns
@@ -85,7 +86,7 @@ unfolding after_sweeps all_firings
 taking_next {y} law {s0} {turns} {s} {sums} {k} w sound small lt s' sums' stepped added few some =
     let e : k + 1 ≡ suc k = omega arith in
     let more : all_firings y s0 (suc k) ≡ all_firings y s0 k ++ sweep_firings y s =
-        ap (λ (u : y.Situation). all_firings y s0 k ++ sweep_firings y u) (sym w.same) in
+    ap (λ (u : y.Situation). all_firings y s0 k ++ sweep_firings y u) (sym w.same) in
     record {
       same = stepped ∙ (rw e (ap (λ (u : y.Situation). swept y u) w.same));
       counted = rw e (added ∙ (ap (λ (x : Sums). plus x (sums_of y (sweep_firings y s))) w.counted
@@ -94,8 +95,9 @@ taking_next {y} law {s0} {turns} {s} {sums} {k} w sound small lt s' sums' steppe
       within = omega arith;
       few = let a = w.few in let b = w.same_count in omega arith;
       moves = λ n below. elim (cases_eq n k) [
-          inl here ↦ rw here (λ none. some (rw w.same none))
-        | inr ne ↦ w.moves n (omega arith) ];
+        | inl here ↦ rw here (λ none. some (rw w.same none))
+        | inr ne ↦ w.moves n (omega arith)
+      ];
     }
 
 pub taking_still : {y : System} {s0 : y.Situation} {turns : ℕ} {s : y.Situation} {sums : Sums} {k : ℕ}

@@ -45,10 +45,12 @@ weight_fired y w s sound m n before later range only =
     let b : ℕ → ℕ = λ i. cond (has before i) (weight y s i) 0 in
     let v : ℕ → ℕ = λ i. cond (visits y s m i) (weight y s i) 0 in
     let each : (i : ℕ) → i < n → l i ≤ b i + v i = λ i _. elim (cases_Bool (has later i)) [
-        inr out ↦ rw out (omega arith)
+      | inr out ↦ rw out (omega arith)
       | inl is_in ↦ elim (only i is_in) [
-          inl was ↦ rw (is_in, was) (omega arith)
-        | inr meet ↦ rw (is_in, meet) (omega arith) ] ] in
+        | inl was ↦ rw (is_in, was) (omega arith)
+        | inr meet ↦ rw (is_in, meet) (omega arith)
+      ]
+    ] in
     let a : sum_below n l ≤ sum_below n (λ i. b i + v i) = sum_below_le n l (λ i. b i + v i) each in
     let split : sum_below n (λ i. b i + v i) ≡ sum_below n b + sum_below n v = sum_below_add n b v in
     let zeros : (i : ℕ) → y.count s ≤ i → v i ≡ 0 = λ i past. rw (w.no_reads s i sound past) refl in
@@ -59,20 +61,23 @@ weight_fired y w s sound m n before later range only =
 pub weight_after : (y : System) → Lawful y → (s : y.Situation) (m n : ℕ) → MayFire y s m → (table : List Bool) → weight_of y (y.after s m) n table ≤ weight_of y s n table
 weight_after y w s m n may table =
     sum_below_le n (λ i. cond (has table i) (weight y (y.after s m) i) 0) (λ i. cond (has table i) (weight y s i) 0)
-        (λ i _. rw (w.keeps_size s m i may) (omega arith))
+    (λ i _. rw (w.keeps_size s m i may) (omega arith))
 
 -- who is marked by a firing was marked, or reads a changed slot
 pub marked_reads : {y : System} {s : y.Situation} {w : Wiring} {linked : Edges} {cleared later : List Bool} {m : ℕ} → Visiting y s w linked cleared m
     → Marks y s m linked cleared later → (i : ℕ) → has later i ≡ true → (has cleared i ≡ true) ⊎ (visits y s m i ≡ true)
 marked_reads {y} {s} {w} {linked} {cleared} {later} {m} v marks i is_in = elim (cases_Bool (has cleared i)) [
-      inl was ↦ inl was
-    | inr out ↦ elim (marks.only i is_in) [
-        inl was ↦ inl was
-      | inr p ↦ inr (meets_true (y.reads s i) (y.changed s m) p.0
-          (elim (cases_eq i m) [
-              inl e ↦ subst (λ (n : ℕ). Contains (y.reads s n) p.0) (sym e) (v.link.own.named p.0 (subst (λ (n : ℕ). IsLinked linked p.0 n) e p.2))
-            | inr ne ↦ (edges_stay {now = linked} (v.link.others i ne) (v.tidy i (sym (v.clear.others i ne) ∙ out)).edges_are).named p.0 p.2 ])
-          p.1) ] ]
+  | inl was ↦ inl was
+  | inr out ↦ elim (marks.only i is_in) [
+    | inl was ↦ inl was
+    | inr p ↦ inr (meets_true (y.reads s i) (y.changed s m) p.0
+        (elim (cases_eq i m) [
+          | inl e ↦ subst (λ (n : ℕ). Contains (y.reads s n) p.0) (sym e) (v.link.own.named p.0 (subst (λ (n : ℕ). IsLinked linked p.0 n) e p.2))
+          | inr ne ↦ (edges_stay {now = linked} (v.link.others i ne) (v.tidy i (sym (v.clear.others i ne) ∙ out)).edges_are).named p.0 p.2
+        ])
+        p.1)
+  ]
+]
 
 pub work_append : (y : System) (a b : List (Firing y)) → work y (a ++ b) ≡ work y a + work y b
 work_append y a b = sum_by-append (λ (f : Firing y). 3 * visits_weight y f.before f.site + y.cost f.before f.site) a b

@@ -74,6 +74,10 @@ pub record Sums : Type 0 where
   pub rejected : ℕ
   pub sent : ℕ
 
+-- a count by its parts
+abbrev pub counted : ℕ → ℕ → ℕ → Sums
+counted fired rejected sent = record { fired = fired; rejected = rejected; sent = sent }
+
 -- the count of these firings
 abbrev pub sums_of : (y : System) → List (Firing y) → Sums
 sums_of y fs = record { fired = length fs; rejected = rejections y fs; sent = notices y fs }

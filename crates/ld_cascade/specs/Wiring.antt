@@ -11,6 +11,10 @@ pub record Wiring : Type 0 where
   pub relinked : List Bool
   pub sites : ℕ
 
+-- links by their parts
+abbrev pub wired : Edges → List Bool → List Bool → ℕ → Wiring
+wired edges dirty relinked sites = record { edges = edges; dirty = dirty; relinked = relinked; sites = sites }
+
 -- the table has no site
 abbrev pub IsEmpty : List Bool → Type 0
 IsEmpty table = (i : ℕ) → has table i ≡ false

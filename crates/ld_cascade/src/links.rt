@@ -1,4 +1,10 @@
-//! The links of a state's sites: what each reads, which are to be judged, and which were linked anew.
+//! The links of a state's sites: what each reads, which are to be judged, and which were linked
+//! anew.
+ghost use Rattle.std.specs.Prelude.{◌≡◌, ℕ, ◌+◌, ◌^◌, ◌<◌, ◌≤◌, ◌⊎◌, Bool, true, false, List, [], get_or, length, IfOk, IfSome, IfNone, Contains, max};
+ghost use Rattle.ld_graph.specs.Table.{has};
+ghost use Rattle.ld_graph.specs.Edges.{Edges, IsLinked, edge_room};
+ghost use Rattle.ld_cascade.specs.Wiring.{Wiring, IsEmpty, IsWith, IsWithout, IsSameTable, HasSameRow, Follows};
+
 use ld_base::memory::NoMemory;
 use ld_graph::dirty::Dirty;
 use ld_graph::graph::Graph;
@@ -6,12 +12,8 @@ use ld_graph::slots::SlotList;
 use std::alloc::Global;
 use std::marker::Model;
 
-ghost use Rattle.std.specs.Prelude.{◌≡◌, ℕ, ◌+◌, ◌^◌, ◌<◌, ◌≤◌, ◌⊎◌, Bool, true, false, List, [], get_or, length, IfOk, IfSome, IfNone, Contains, max};
-ghost use Rattle.ld_graph.specs.Table.{has};
-ghost use Rattle.ld_graph.specs.Edges.{Edges, IsLinked, edge_room};
-ghost use Rattle.ld_cascade.specs.Wiring.{Wiring, IsEmpty, IsWith, IsWithout, IsSameTable, HasSameRow, Follows};
-
-/// The edges between sites and the slots that they read, the dirty sites, and the table of the sites
+/// The edges between sites and the slots that they read, the dirty sites, and the table of the
+/// sites
 /// linked anew since `begin`.
 #[derive(Drop)]
 pub struct Links {
@@ -22,15 +24,13 @@ pub struct Links {
 }
 
 impl Model for Links {
-    ghost use Rattle.ld_cascade.specs.Wiring.{Wiring, IsInRange};
+    ghost use Rattle.ld_cascade.specs.Wiring.{Wiring, IsInRange, wired};
 
     ghost Value = { Wiring };
 
-    ghost view = { λ l. record { edges = l.graph; dirty = l.dirty_sites; relinked = l.relinked_sites; sites = l.site_count } };
+    ghost view = { λ l. wired l.graph l.dirty_sites l.relinked_sites l.site_count };
 
-    ghost invariant = {
-        λ l. IsInRange (record { edges = l.graph; dirty = l.dirty_sites; relinked = l.relinked_sites; sites = l.site_count })
-    };
+    ghost invariant = { λ l. IsInRange (wired l.graph l.dirty_sites l.relinked_sites l.site_count) };
 }
 
 impl Links {
@@ -43,12 +43,22 @@ impl Links {
         ensures relinked { IsEmpty result.relinked }
     {
         let graph = Graph::new(alloc);
-        let Ok(dirty_sites) = Dirty::new(alloc, 0) else { unreachable!() };
-        let Ok(relinked_sites) = Dirty::new(alloc, 0) else { unreachable!() };
-        Links { graph, dirty_sites, relinked_sites, site_count: 0 }
+        let Ok(dirty_sites) = Dirty::new(alloc, 0) else {
+            unreachable!()
+        };
+        let Ok(relinked_sites) = Dirty::new(alloc, 0) else {
+            unreachable!()
+        };
+        Links {
+            graph,
+            dirty_sites,
+            relinked_sites,
+            site_count: 0,
+        }
     }
 
-    /// Brings the slots and sites below these numbers into range, and changes nothing else, whatever
+    /// Brings the slots and sites below these numbers into range, and changes nothing else,
+    /// whatever
     /// it answers.
     pub fn grow(&mut self, slots: u32, sites: u32) -> Result<(), NoMemory>
         ensures slots { IfOk result (λ _. slots ≤ self.new.edges.slots) }
@@ -58,9 +68,15 @@ impl Links {
         ensures relinked { IsSameTable self.old.relinked self.new.relinked }
         ensures follows { Follows self.old self.new }
     {
-        let Ok(()) = self.graph.reserve(slots, sites, 0) else { return Err(NoMemory) };
-        let Ok(()) = self.dirty_sites.grow(sites) else { return Err(NoMemory) };
-        let Ok(()) = self.relinked_sites.grow(sites) else { return Err(NoMemory) };
+        let Ok(()) = self.graph.reserve(slots, sites, 0) else {
+            return Err(NoMemory)
+        };
+        let Ok(()) = self.dirty_sites.grow(sites) else {
+            return Err(NoMemory)
+        };
+        let Ok(()) = self.relinked_sites.grow(sites) else {
+            return Err(NoMemory)
+        };
         if self.site_count < sites {
             self.site_count = sites;
         }
@@ -72,9 +88,8 @@ impl Links {
         requires slot { slot < self.old.edges.slots }
         ensures keeps { (i : ℕ) → has self.old.dirty i ≡ true → has self.new.dirty i ≡ true }
         ensures readers { (i : ℕ) → IsLinked self.old.edges slot i → has self.new.dirty i ≡ true }
-        ensures only {
-            (i : ℕ) → has self.new.dirty i ≡ true → (has self.old.dirty i ≡ true) ⊎ IsLinked self.old.edges slot i
-        }
+        ensures only { (i : ℕ) → has self.new.dirty i ≡ true → (has self.old.dirty i ≡ true)
+            ⊎ IsLinked self.old.edges slot i }
         ensures edges { self.new.edges ≡ self.old.edges }
         ensures relinked { self.new.relinked ≡ self.old.relinked }
         ensures sites { self.new.sites ≡ self.old.sites }
@@ -121,8 +136,10 @@ impl Links {
 
     /// The least dirty site that is at least this one.
     pub(crate) fn next_dirty(&self, site: u32) -> Option<u32>
-        ensures found { IfSome result (λ n. (site ≤ n) × (n < self.now.sites) × (has self.now.dirty n ≡ true)) }
-        ensures least { IfSome result (λ n. (k : ℕ) → site ≤ k → k < n → has self.now.dirty k ≡ false) }
+        ensures found { IfSome result (λ n.
+            (site ≤ n) × (n < self.now.sites) × (has self.now.dirty n ≡ true)) }
+        ensures least { IfSome result (λ n.
+            (k : ℕ) → site ≤ k → k < n → has self.now.dirty k ≡ false) }
         ensures none { IfNone result ((k : ℕ) → site ≤ k → has self.now.dirty k ≡ false) }
         ensures range { self.now.sites < 2 ^ 32 }
     {
@@ -132,8 +149,10 @@ impl Links {
 
     /// The least site linked anew that is at least this one.
     pub(crate) fn next_relinked(&self, site: u32) -> Option<u32>
-        ensures found { IfSome result (λ n. (site ≤ n) × (n < self.now.sites) × (has self.now.relinked n ≡ true)) }
-        ensures least { IfSome result (λ n. (k : ℕ) → site ≤ k → k < n → has self.now.relinked k ≡ false) }
+        ensures found { IfSome result (λ n.
+            (site ≤ n) × (n < self.now.sites) × (has self.now.relinked n ≡ true)) }
+        ensures least { IfSome result (λ n.
+            (k : ℕ) → site ≤ k → k < n → has self.now.relinked k ≡ false) }
         ensures none { IfNone result ((k : ℕ) → site ≤ k → has self.now.relinked k ≡ false) }
         ensures range { self.now.sites < 2 ^ 32 }
     {
@@ -169,7 +188,8 @@ impl Links {
     pub(crate) fn relink(&mut self, site: u32, slots: &SlotList)
         requires site { site < self.old.sites }
         requires slots { (k : ℕ) → Contains slots.now.items k → k < self.old.edges.slots }
-        requires room { length slots.now.items ≤ self.old.edges.spare + length (get_or self.old.edges.rows site []) }
+        requires room { length slots.now.items
+            ≤ self.old.edges.spare + length (get_or self.old.edges.rows site []) }
         ensures named { (k : ℕ) → IsLinked self.new.edges k site → Contains slots.now.items k }
         ensures linked { (k : ℕ) → Contains slots.now.items k → IsLinked self.new.edges k site }
         ensures count { length (get_or self.new.edges.rows site []) ≡ length slots.now.items }

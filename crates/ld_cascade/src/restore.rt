@@ -1,9 +1,4 @@
 //! Making the edges right again, after the state was taken back.
-use crate::links::Links;
-use crate::sites::Sites;
-use ld_base::steps::Steps;
-use std::sync::ledger::Ledger;
-
 ghost use Rattle.std.specs.Prelude.{◌≡◌, ℕ, ◌+◌, ◌<◌, ◌≤◌, true, false, List, [], get_or};
 ghost use Rattle.ld_graph.specs.Table.{has};
 ghost use Rattle.ld_graph.specs.Edges.{edge_room};
@@ -12,10 +7,17 @@ ghost use Rattle.ld_cascade.specs.Tidy.{Covers};
 ghost use Rattle.ld_cascade.specs.Work.{weight, weight_of};
 ghost use Rattle.ld_cascade.specs.Rooms.{read_count, HasRoom, Restorable};
 
+use crate::links::Links;
+use crate::sites::Sites;
+use ld_base::steps::Steps;
+use std::sync::ledger::Ledger;
+
 /// Takes all edges of each site of the table away.
 fn unlink_all(links: &mut Links)
-    ensures own { (i : ℕ) → has links.old.relinked i ≡ true → get_or links.new.edges.rows i [] ≡ [] }
-    ensures others { (i : ℕ) → has links.old.relinked i ≡ false → HasSameRow links.old.edges links.new.edges i }
+    ensures own { (i : ℕ) → has links.old.relinked i ≡ true
+        → get_or links.new.edges.rows i [] ≡ [] }
+    ensures others { (i : ℕ) → has links.old.relinked i ≡ false
+        → HasSameRow links.old.edges links.new.edges i }
     ensures slots { links.new.edges.slots ≡ links.old.edges.slots }
     ensures edge_room { edge_room links.new.edges ≡ edge_room links.old.edges }
     ensures relinked { links.new.relinked ≡ links.old.relinked }
@@ -29,7 +31,12 @@ fn unlink_all(links: &mut Links)
 }
 
 /// Makes the edges of the site equal to its reads, in the room that there is.
-fn link_in_room<G: Sites, L: Ledger>(sites: &mut G, links: &mut Links, site: u32, steps: &mut Steps<L>)
+fn link_in_room<G: Sites, L: Ledger>(
+    sites: &mut G,
+    links: &mut Links,
+    site: u32,
+    steps: &mut Steps<L>,
+)
     requires site { site < links.old.sites }
     requires slots { G.system.slots (G.now sites.old) ≤ links.old.edges.slots }
     requires room { read_count G.system (G.now sites.old) site ≤ G.room sites.old }
@@ -44,7 +51,9 @@ fn link_in_room<G: Sites, L: Ledger>(sites: &mut G, links: &mut Links, site: u32
     ensures sites { links.new.sites ≡ links.old.sites }
     ensures ticks { steps.new ≤ steps.old + weight G.system (G.now sites.old) site }
 {
-    let Ok(slots) = sites.reads(site, steps) else { unreachable!() };
+    let Ok(slots) = sites.reads(site, steps) else {
+        unreachable!()
+    };
     let _distinct = slots.as_slice();
     links.relink(site, slots);
 }
@@ -65,9 +74,8 @@ pub fn restore<G: Sites, L: Ledger>(sites: &mut G, links: &mut Links, steps: &mu
     ensures room { G.room sites.old ≤ G.room sites.new }
     ensures edge_room { edge_room links.new.edges ≡ edge_room links.old.edges }
     ensures sites { links.new.sites ≡ links.old.sites }
-    ensures ticks {
-        steps.new ≤ steps.old + weight_of G.system (G.now sites.old) links.old.sites links.old.relinked
-    }
+    ensures ticks { steps.new
+        ≤ steps.old + weight_of G.system (G.now sites.old) links.old.sites links.old.relinked }
 {
     unlink_all(links);
     let mut from: u32 = 0;

@@ -1,7 +1,8 @@
 //! The outcomes of a settling.
 use thiserror::Error;
 
-/// What a settling did: how many sweeps fired, and over all its firings how many there were, how many
+/// What a settling did: how many sweeps fired, and over all its firings how many there were, how
+/// many
 /// changes they rejected and how many notices they sent.
 #[derive(Clone, Copy, Debug, PartialEq, Eq)]
 pub struct Settled {

@@ -1,10 +1,10 @@
 //! The sums of some firings.
+ghost use Rattle.std.specs.Prelude.{◌≡◌, ℕ, ◌+◌, ◌-◌, ◌*◌, ◌^◌, ◌<◌, ◌≤◌};
+ghost use Rattle.ld_cascade.specs.Settling.{Sums, counted, plus, no_sums};
+
 use crate::settled::Settled;
 use ld_base::fired::Fired;
 use std::marker::Model;
-
-ghost use Rattle.std.specs.Prelude.{◌≡◌, ℕ, ◌+◌, ◌-◌, ◌*◌, ◌^◌, ◌<◌, ◌≤◌};
-ghost use Rattle.ld_cascade.specs.Settling.{Sums, plus, no_sums};
 
 /// How many firings there were, how many changes they rejected, how many notices they sent.
 #[derive(Drop)]
@@ -17,11 +17,10 @@ pub struct Totals {
 impl Model for Totals {
     ghost Value = { Sums };
 
-    ghost view = { λ t. record { fired = t.fired_so_far; rejected = t.rejected_so_far; sent = t.sent_so_far } };
+    ghost view = { λ t. counted t.fired_so_far t.rejected_so_far t.sent_so_far };
 
-    ghost invariant = {
-        λ t. (t.rejected_so_far ≤ t.fired_so_far * (2 ^ 32)) × (t.sent_so_far ≤ t.fired_so_far * (2 ^ 32))
-    };
+    ghost invariant = { λ t. (t.rejected_so_far ≤ t.fired_so_far * (2 ^ 32))
+        × (t.sent_so_far ≤ t.fired_so_far * (2 ^ 32)) };
 }
 
 impl Totals {
@@ -29,7 +28,11 @@ impl Totals {
     pub fn zero() -> Totals
         ensures { result ≡ no_sums }
     {
-        Totals { fired_so_far: 0, rejected_so_far: 0, sent_so_far: 0 }
+        Totals {
+            fired_so_far: 0,
+            rejected_so_far: 0,
+            sent_so_far: 0,
+        }
     }
 
     /// How many firings there were.
@@ -42,7 +45,8 @@ impl Totals {
     /// Counts one firing more.
     pub fn add(&mut self, fired: Fired)
         requires { self.old.fired < 2 ^ 31 - 1 }
-        ensures { self.new ≡ plus self.old (record { fired = 1; rejected = fired.rejected; sent = fired.sent }) }
+        ensures { self.new ≡ plus self.old
+            (counted 1 fired.rejected fired.sent) }
     {
         self.fired_so_far += 1;
         self.rejected_so_far += fired.rejected as u64;
@@ -56,8 +60,14 @@ impl Totals {
         ensures fired { result.fired ≡ self.now.fired }
         ensures rejected { result.rejected ≡ self.now.rejected }
         ensures sent { result.sent ≡ self.now.sent }
-        ensures bounds { (result.fired < 2 ^ 63) × (result.rejected < 2 ^ 63) × (result.sent < 2 ^ 63) }
+        ensures bounds { (result.fired < 2 ^ 63) × (result.rejected < 2 ^ 63)
+            × (result.sent < 2 ^ 63) }
     {
-        Settled { turns, fired: self.fired_so_far, rejected: self.rejected_so_far, sent: self.sent_so_far }
+        Settled {
+            turns,
+            fired: self.fired_so_far,
+            rejected: self.rejected_so_far,
+            sent: self.sent_so_far,
+        }
     }
 }

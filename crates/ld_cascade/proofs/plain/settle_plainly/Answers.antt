@@ -12,7 +12,7 @@ pub returns-in-Ok-false-clause-state : goal.returns-in-Ok-false-clause-state
 returns-in-Ok-false-clause-state g c =
     let is : c.sweep.result ≡ Ok false = cc in
     rw c.settled.ensures.turns
-        (taking_still c.sweeps.invariant (c.sweep.ensures.quiet is) (g.G.Sites.now c.sweep.new.sites) c.in-Ok-false.ensures.state)
+    (taking_still c.sweeps.invariant (c.sweep.ensures.quiet is) (g.G.Sites.now c.sweep.new.sites) c.in-Ok-false.ensures.state)
 
 pub sweeps-preserved : goal.sweeps-preserved
 sweeps-preserved g c =
@@ -21,4 +21,4 @@ sweeps-preserved g c =
     let m = c.sweep.ensures.moves is in
     let lt : c.sweeps.done < c.args.turns = let t = m.1 in omega (arith, ltb-true) in
     taking_next g.met.G.Sites.lawful c.sweeps.invariant (g.met.G.Sites.sound c.sweeps.sites) c.requires.few lt
-        (g.G.Sites.now c.sweep.new.sites) c.sweep.new.walk.totals e.state e.totals e.few m.0
+    (g.G.Sites.now c.sweep.new.sites) c.sweep.new.walk.totals e.state e.totals e.few m.0

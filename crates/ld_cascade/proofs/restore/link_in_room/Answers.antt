@@ -15,11 +15,11 @@ relink-requires-clause-slots g c k member =
 pub relink-requires-clause-room : goal.relink-requires-clause-room
 relink-requires-clause-room g c =
     let e = count_of_same c.in-Ok.slots.now.items (g.G.Sites.system.reads (g.G.Sites.now c.args.sites.now) c.args.site)
-        c.as_slice-distinct.ensures.once c.in-Ok.ensures.named c.in-Ok.ensures.all in
+    c.as_slice-distinct.ensures.once c.in-Ok.ensures.named c.in-Ok.ensures.all in
     let a = c.requires.spare in
     omega arith
 
 pub returns-clause-own : goal.returns-clause-own
 returns-clause-own g c =
     edges_linked c.relink.new.self.edges c.args.site c.in-Ok.slots.now.items (g.G.Sites.system.reads (g.G.Sites.now c.args.sites.now) c.args.site)
-        c.as_slice-distinct.ensures.once c.in-Ok.ensures.named c.in-Ok.ensures.all c.relink.ensures.named c.relink.ensures.linked c.relink.ensures.count
+    c.as_slice-distinct.ensures.once c.in-Ok.ensures.named c.in-Ok.ensures.all c.relink.ensures.named c.relink.ensures.linked c.relink.ensures.count

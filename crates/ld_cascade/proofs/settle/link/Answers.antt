@@ -17,7 +17,7 @@ relink-requires-clause-slots g c k member =
 pub returns-clause-own_room : goal.returns-clause-own_room
 returns-clause-own_room g c =
     let e = count_of_same c.in-Ok.slots.now.items (g.G.Sites.system.reads (g.G.Sites.now c.args.sites.now) c.args.site)
-        c.as_slice.ensures.once c.in-Ok.ensures.named c.in-Ok.ensures.all in
+    c.as_slice.ensures.once c.in-Ok.ensures.named c.in-Ok.ensures.all in
     let h = c.reads.follows.holds-at-none in
     let within : length c.in-Ok.slots.now.items ≤ g.G.Sites.room c.reads.follows.lender-at-none = rw c.in-Ok.is at h.2 in
     omega arith
@@ -25,4 +25,4 @@ returns-clause-own_room g c =
 pub returns-clause-own : goal.returns-clause-own
 returns-clause-own g c =
     edges_linked c.relink.new.self.edges c.args.site c.in-Ok.slots.now.items (g.G.Sites.system.reads (g.G.Sites.now c.args.sites.now) c.args.site)
-        c.as_slice.ensures.once c.in-Ok.ensures.named c.in-Ok.ensures.all c.relink.ensures.named c.relink.ensures.linked c.relink.ensures.count
+    c.as_slice.ensures.once c.in-Ok.ensures.named c.in-Ok.ensures.all c.relink.ensures.named c.relink.ensures.linked c.relink.ensures.count

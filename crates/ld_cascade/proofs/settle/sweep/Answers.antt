@@ -185,8 +185,9 @@ returns-clause-none g c is i =
     let le : q.sums.fired ≤ p.sums.fired = let a = c.fired-before.ensures in let b = c.fired.ensures in omega (arith, ltb-false) in
     let none : fired_below y s0 c.loop-site.from ≡ [] = sums_quiet y p.sums q.sums (fired_below y s0 c.loop-site.from) w.arrives.sums le in
     elim (cases_lt i c.loop-site.from) [
-      inl early ↦ w.still none i early
-    | inr late ↦ c.in_default.ensures.none i late ]
+      | inl early ↦ w.still none i early
+      | inr late ↦ c.in_default.ensures.none i late
+    ]
 
 pub returns-clause-idle : goal.returns-clause-idle
 returns-clause-idle g c none =

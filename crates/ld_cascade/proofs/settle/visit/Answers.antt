@@ -21,9 +21,9 @@ returns-in-Err-clause-goes g c =
     let k = c.link.ensures in
     let clear : Cleared c.args.links.now c.judge_now.new.self m = record { dirty = j.dirty; edges = j.edges; relinked = j.relinked; sites = j.sites } in
     let link : Linked c.judge_now.new.self c.link.new.links m =
-        record { others = k.others; follows = k.follows; relinked = k.relinked; dirty = k.dirty; sites = k.sites } in
+    record { others = k.others; follows = k.follows; relinked = k.relinked; dirty = k.dirty; sites = k.sites } in
     let l : Looked y p q m = looked y p q c.judge_now.new.self c.judge-judged.new.steps m clear link c.requires.site c.requires.marked
-        k.state refl k.room c.judge-judged.ensures.ticks k.ticks in
+    k.state refl k.room c.judge-judged.ensures.ticks k.ticks in
     looked_goes l (fired y s m)
 
 pub returns-then-not-is_due-clause-arrives : goal.returns-then-not-is_due-clause-arrives
@@ -37,11 +37,11 @@ returns-then-not-is_due-clause-arrives g c =
     let k = c.link.ensures in
     let clear : Cleared c.args.links.now c.judge_now.new.self m = record { dirty = j.dirty; edges = j.edges; relinked = j.relinked; sites = j.sites } in
     let link : Linked c.judge_now.new.self c.link.new.links m =
-        record { others = k.others; follows = k.follows; relinked = k.relinked; dirty = k.dirty; sites = k.sites } in
+    record { others = k.others; follows = k.follows; relinked = k.relinked; dirty = k.dirty; sites = k.sites } in
     let l : Looked y p q m = looked y p q c.judge_now.new.self c.judge-judged.new.steps m clear link c.requires.site c.requires.marked
-        k.state refl k.room c.judge-judged.ensures.ticks k.ticks in
+    k.state refl k.room c.judge-judged.ensures.ticks k.ticks in
     let v : Visiting y s c.args.links.now c.link.new.links.edges c.link.new.links.dirty m =
-        visiting y s c.args.links.now c.judge_now.new.self c.link.new.links m c.requires.tidy clear link c.in_default.ensures.own in
+    visiting y s c.args.links.now c.judge_now.new.self c.link.new.links m c.requires.tidy clear link c.in_default.ensures.own in
     let quiet : fires y s m ≡ false = search rules in
     quiet_arrives l v quiet c.requires.covers c.in_default.ensures.own_room
 
@@ -56,9 +56,9 @@ returns-then-not-is_due-clause-goes g c =
     let k = c.link.ensures in
     let clear : Cleared c.args.links.now c.judge_now.new.self m = record { dirty = j.dirty; edges = j.edges; relinked = j.relinked; sites = j.sites } in
     let link : Linked c.judge_now.new.self c.link.new.links m =
-        record { others = k.others; follows = k.follows; relinked = k.relinked; dirty = k.dirty; sites = k.sites } in
+    record { others = k.others; follows = k.follows; relinked = k.relinked; dirty = k.dirty; sites = k.sites } in
     let l : Looked y p q m = looked y p q c.judge_now.new.self c.judge-judged.new.steps m clear link c.requires.site c.requires.marked
-        k.state refl k.room c.judge-judged.ensures.ticks k.ticks in
+    k.state refl k.room c.judge-judged.ensures.ticks k.ticks in
     looked_goes l (fired y s m)
 
 pub returns-then-not-may_fire-clause-goes : goal.returns-then-not-may_fire-clause-goes
@@ -72,9 +72,9 @@ returns-then-not-may_fire-clause-goes g c =
     let k = c.link.ensures in
     let clear : Cleared c.args.links.now c.judge_now.new.self m = record { dirty = j.dirty; edges = j.edges; relinked = j.relinked; sites = j.sites } in
     let link : Linked c.judge_now.new.self c.link.new.links m =
-        record { others = k.others; follows = k.follows; relinked = k.relinked; dirty = k.dirty; sites = k.sites } in
+    record { others = k.others; follows = k.follows; relinked = k.relinked; dirty = k.dirty; sites = k.sites } in
     let l : Looked y p q m = looked y p q c.judge_now.new.self c.judge-judged.new.steps m clear link c.requires.site c.requires.marked
-        k.state refl k.room c.judge-judged.ensures.ticks k.ticks in
+    k.state refl k.room c.judge-judged.ensures.ticks k.ticks in
     looked_goes l (fired y s m)
 
 pub returns-then-not-may_fire-clause-stopped : goal.returns-then-not-may_fire-clause-stopped
@@ -88,9 +88,9 @@ returns-then-not-may_fire-clause-stopped g c _ =
     let k = c.link.ensures in
     let clear : Cleared c.args.links.now c.judge_now.new.self m = record { dirty = j.dirty; edges = j.edges; relinked = j.relinked; sites = j.sites } in
     let link : Linked c.judge_now.new.self c.link.new.links m =
-        record { others = k.others; follows = k.follows; relinked = k.relinked; dirty = k.dirty; sites = k.sites } in
+    record { others = k.others; follows = k.follows; relinked = k.relinked; dirty = k.dirty; sites = k.sites } in
     let l : Looked y p q m = looked y p q c.judge_now.new.self c.judge-judged.new.steps m clear link c.requires.site c.requires.marked
-        k.state refl k.room c.judge-judged.ensures.ticks k.ticks in
+    k.state refl k.room c.judge-judged.ensures.ticks k.ticks in
     looked_goes l []
 
 pub returns-in_default-fire-clause-goes : goal.returns-in_default-fire-clause-goes
@@ -104,14 +104,14 @@ returns-in_default-fire-clause-goes g c =
     let k = c.link.ensures in
     let clear : Cleared c.args.links.now c.judge_now.new.self m = record { dirty = j.dirty; edges = j.edges; relinked = j.relinked; sites = j.sites } in
     let link : Linked c.judge_now.new.self c.link.new.links m =
-        record { others = k.others; follows = k.follows; relinked = k.relinked; dirty = k.dirty; sites = k.sites } in
+    record { others = k.others; follows = k.follows; relinked = k.relinked; dirty = k.dirty; sites = k.sites } in
     let l : Looked y p q m = looked y p q c.judge_now.new.self c.judge-judged.new.steps m clear link c.requires.site c.requires.marked
-        k.state refl k.room c.judge-judged.ensures.ticks k.ticks in
+    k.state refl k.room c.judge-judged.ensures.ticks k.ticks in
     let is_due : fires y s m ≡ true = search rules in
     let may : MayFire y s m = may_fire y g.met.G.Sites.lawful s m (g.met.G.Sites.sound c.args.sites.now) is_due in
     let cost : c.fire.new.steps ≤ c.link.new.steps + y.cost s m = rw k.state at c.fire.ensures.ticks in
     failed_goes l is_due (standing y (g.G.Sites.now c.fire.new.self) c.link.new.links c.args.walk.now.totals (g.G.Sites.room c.fire.new.self) c.fire.new.steps)
-        refl c.fire.ensures.room cost
+    refl c.fire.ensures.room cost
 
 pub touch_all-requires : goal.touch_all-requires
 touch_all-requires g c =
@@ -122,13 +122,15 @@ touch_all-requires g c =
     let is_due : fires y s m ≡ true = search rules in
     let may : MayFire y s m = may_fire y g.met.G.Sites.lawful s m (g.met.G.Sites.sound c.args.sites.now) is_due in
     let list : c.deref.result.now ≡ y.changed s m =
-        c.deref.ensures.value ∙ (rw (c.clear.ensures.items, k.state) at c.in-Ok.ensures.changed) in
-    record { slots = λ n changes.
-        let below = g.met.G.Sites.lawful.changes_below s m n may (subst (λ (xs : List ℕ). Contains xs n) list changes) in
-        let a = c.requires.covers.slots in
-        let b = k.follows.slots in
-        let d : c.judge_now.new.self.edges.slots ≡ c.args.links.now.edges.slots = ap (λ (e : Edges). e.slots) c.judge_now.ensures.edges in
-        omega arith }
+    c.deref.ensures.value ∙ (rw (c.clear.ensures.items, k.state) at c.in-Ok.ensures.changed) in
+    record {
+      slots = λ n changes.
+          let below = g.met.G.Sites.lawful.changes_below s m n may (subst (λ (xs : List ℕ). Contains xs n) list changes) in
+          let a = c.requires.covers.slots in
+          let b = k.follows.slots in
+          let d : c.judge_now.new.self.edges.slots ≡ c.args.links.now.edges.slots = ap (λ (e : Edges). e.slots) c.judge_now.ensures.edges in
+          omega arith;
+    }
 
 pub returns-clause-arrives : goal.returns-clause-arrives
 returns-clause-arrives g c =
@@ -141,35 +143,35 @@ returns-clause-arrives g c =
     let k = c.link.ensures in
     let clear : Cleared c.args.links.now c.judge_now.new.self m = record { dirty = j.dirty; edges = j.edges; relinked = j.relinked; sites = j.sites } in
     let link : Linked c.judge_now.new.self c.link.new.links m =
-        record { others = k.others; follows = k.follows; relinked = k.relinked; dirty = k.dirty; sites = k.sites } in
+    record { others = k.others; follows = k.follows; relinked = k.relinked; dirty = k.dirty; sites = k.sites } in
     let l : Looked y p q m = looked y p q c.judge_now.new.self c.judge-judged.new.steps m clear link c.requires.site c.requires.marked
-        k.state refl k.room c.judge-judged.ensures.ticks k.ticks in
+    k.state refl k.room c.judge-judged.ensures.ticks k.ticks in
     let v : Visiting y s c.args.links.now c.link.new.links.edges c.link.new.links.dirty m =
-        visiting y s c.args.links.now c.judge_now.new.self c.link.new.links m c.requires.tidy clear link c.in_default.ensures.own in
+    visiting y s c.args.links.now c.judge_now.new.self c.link.new.links m c.requires.tidy clear link c.in_default.ensures.own in
     let is_due : fires y s m ≡ true = search rules in
     let may : MayFire y s m = may_fire y g.met.G.Sites.lawful s m (g.met.G.Sites.sound c.args.sites.now) is_due in
     let cost : c.fire.new.steps ≤ c.link.new.steps + y.cost s m = rw k.state at c.fire.ensures.ticks in
     let r : Standing y = standing y (g.G.Sites.now c.fire.new.self) c.touch_all.new.links c.add.new.self (g.G.Sites.room c.fire.new.self) c.fire.new.steps in
     let state : g.G.Sites.now c.fire.new.self ≡ y.after s m = rw k.state at c.in-Ok.ensures.state in
     let list : c.deref.result.now ≡ y.changed s m =
-        c.deref.ensures.value ∙ (rw (c.clear.ensures.items, k.state) at c.in-Ok.ensures.changed) in
+    c.deref.ensures.value ∙ (rw (c.clear.ensures.items, k.state) at c.in-Ok.ensures.changed) in
     let rejected : c.in-Ok.fired.rejected ≡ y.rejected s m = rw k.state at c.in-Ok.ensures.rejected in
     let sent : c.in-Ok.fired.sent ≡ y.sent s m = rw k.state at c.in-Ok.ensures.sent in
     let t = c.touch_all.ensures in
     let f : HasFired y s q r m = record {
-          after = state;
-          sums = rw (rejected, sent) at c.add.ensures;
-          marks = record {
-            keeps = t.keeps;
-            readers = λ n changes. t.readers n (subst (λ (xs : List ℕ). Contains xs n) (sym list) changes);
-            only = λ i is_in. subst (λ (xs : List ℕ). (has c.link.new.links.dirty i ≡ true) ⊎ ((n : ℕ) × Contains xs n × IsLinked c.link.new.links.edges n i)) list (t.only i is_in);
-          };
-          same_edges = t.edges;
-          same_relinked = t.relinked;
-          same_sites = t.sites;
-          room = c.fire.ensures.room;
-          steps = cost;
-        } in
+      after = state;
+      sums = rw (rejected, sent) at c.add.ensures;
+      marks = record {
+        keeps = t.keeps;
+        readers = λ n changes. t.readers n (subst (λ (xs : List ℕ). Contains xs n) (sym list) changes);
+        only = λ i is_in. subst (λ (xs : List ℕ). (has c.link.new.links.dirty i ≡ true) ⊎ ((n : ℕ) × Contains xs n × IsLinked c.link.new.links.edges n i)) list (t.only i is_in);
+      };
+      same_edges = t.edges;
+      same_relinked = t.relinked;
+      same_sites = t.sites;
+      room = c.fire.ensures.room;
+      steps = cost;
+    } in
     let a : Arrives y (fired y s m) p r = fired_arrives g.met.G.Sites.lawful may l v f c.requires.covers c.in_default.ensures.own_room in
     a
 
@@ -184,34 +186,34 @@ returns-clause-goes g c =
     let k = c.link.ensures in
     let clear : Cleared c.args.links.now c.judge_now.new.self m = record { dirty = j.dirty; edges = j.edges; relinked = j.relinked; sites = j.sites } in
     let link : Linked c.judge_now.new.self c.link.new.links m =
-        record { others = k.others; follows = k.follows; relinked = k.relinked; dirty = k.dirty; sites = k.sites } in
+    record { others = k.others; follows = k.follows; relinked = k.relinked; dirty = k.dirty; sites = k.sites } in
     let l : Looked y p q m = looked y p q c.judge_now.new.self c.judge-judged.new.steps m clear link c.requires.site c.requires.marked
-        k.state refl k.room c.judge-judged.ensures.ticks k.ticks in
+    k.state refl k.room c.judge-judged.ensures.ticks k.ticks in
     let v : Visiting y s c.args.links.now c.link.new.links.edges c.link.new.links.dirty m =
-        visiting y s c.args.links.now c.judge_now.new.self c.link.new.links m c.requires.tidy clear link c.in_default.ensures.own in
+    visiting y s c.args.links.now c.judge_now.new.self c.link.new.links m c.requires.tidy clear link c.in_default.ensures.own in
     let is_due : fires y s m ≡ true = search rules in
     let may : MayFire y s m = may_fire y g.met.G.Sites.lawful s m (g.met.G.Sites.sound c.args.sites.now) is_due in
     let cost : c.fire.new.steps ≤ c.link.new.steps + y.cost s m = rw k.state at c.fire.ensures.ticks in
     let r : Standing y = standing y (g.G.Sites.now c.fire.new.self) c.touch_all.new.links c.add.new.self (g.G.Sites.room c.fire.new.self) c.fire.new.steps in
     let state : g.G.Sites.now c.fire.new.self ≡ y.after s m = rw k.state at c.in-Ok.ensures.state in
     let list : c.deref.result.now ≡ y.changed s m =
-        c.deref.ensures.value ∙ (rw (c.clear.ensures.items, k.state) at c.in-Ok.ensures.changed) in
+    c.deref.ensures.value ∙ (rw (c.clear.ensures.items, k.state) at c.in-Ok.ensures.changed) in
     let rejected : c.in-Ok.fired.rejected ≡ y.rejected s m = rw k.state at c.in-Ok.ensures.rejected in
     let sent : c.in-Ok.fired.sent ≡ y.sent s m = rw k.state at c.in-Ok.ensures.sent in
     let t = c.touch_all.ensures in
     let f : HasFired y s q r m = record {
-          after = state;
-          sums = rw (rejected, sent) at c.add.ensures;
-          marks = record {
-            keeps = t.keeps;
-            readers = λ n changes. t.readers n (subst (λ (xs : List ℕ). Contains xs n) (sym list) changes);
-            only = λ i is_in. subst (λ (xs : List ℕ). (has c.link.new.links.dirty i ≡ true) ⊎ ((n : ℕ) × Contains xs n × IsLinked c.link.new.links.edges n i)) list (t.only i is_in);
-          };
-          same_edges = t.edges;
-          same_relinked = t.relinked;
-          same_sites = t.sites;
-          room = c.fire.ensures.room;
-          steps = cost;
-        } in
+      after = state;
+      sums = rw (rejected, sent) at c.add.ensures;
+      marks = record {
+        keeps = t.keeps;
+        readers = λ n changes. t.readers n (subst (λ (xs : List ℕ). Contains xs n) (sym list) changes);
+        only = λ i is_in. subst (λ (xs : List ℕ). (has c.link.new.links.dirty i ≡ true) ⊎ ((n : ℕ) × Contains xs n × IsLinked c.link.new.links.edges n i)) list (t.only i is_in);
+      };
+      same_edges = t.edges;
+      same_relinked = t.relinked;
+      same_sites = t.sites;
+      room = c.fire.ensures.room;
+      steps = cost;
+    } in
     let a : Arrives y (fired y s m) p r = fired_arrives g.met.G.Sites.lawful may l v f c.requires.covers c.in_default.ensures.own_room in
     a.goes
