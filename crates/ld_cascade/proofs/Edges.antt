@@ -1,9 +1,9 @@
-use Rattle.std.proofs.Common.{◌≡◌, ℕ, ◌+◌, ◌<◌, ◌≤◌, Bool, true, false, List, [], length, get_or, Contains, Some, None, refl, sym, ◌∙◌, ap, subst, arith, inl, inr, ◌⊎◌}
+use Rattle.std.proofs.Common.{◌≡◌, ℕ, ◌<◌, ◌≤◌, Bool, true, false, List, [], length, get_or, Contains, Some, refl, sym, ◌∙◌, ap, subst, arith, inl, inr, ◌⊎◌}
 use Rattle.std.proofs.lemmas.Bool.{cases_eq, cases_lt, cases_Bool}
 use Rattle.ld_graph.specs.Table.{has}
 use Rattle.ld_graph.specs.Edges.{Edges, IsLinked, edge_room}
-use Rattle.ld_cascade.specs.System.{System, fires, due, MayFire, Lawful, Agree, IsSeenAlike}
-use Rattle.ld_cascade.specs.Wiring.{Wiring, IsWith, IsWithout, HasSameRow, EdgesAre, Follows, slot_count}
+use Rattle.ld_cascade.specs.System.{System, fires, due, MayFire, Lawful, IsSeenAlike}
+use Rattle.ld_cascade.specs.Wiring.{Wiring, IsWithout, HasSameRow, EdgesAre, Follows, slot_count}
 use Rattle.ld_cascade.specs.Tidy.{IsClean, IsTidy, Tidy, Covers}
 use Rattle.ld_cascade.specs.Rooms.{read_count, HasRoomOutside}
 use Rattle.ld_cascade.proofs.Sweeps.{no_site}

@@ -1,11 +1,10 @@
-use Rattle.std.proofs.Common.{◌≡◌, ℕ, ◌+◌, ◌*◌, ◌<◌, ◌≤◌, Bool, true, false, List, [], ◌∷◌, ◌++◌, length, Contains, refl, sym, ◌∙◌, ap, subst, arith, inl, inr, ◌⊎◌, sum_by}
+use Rattle.std.proofs.Common.{◌≡◌, ℕ, ◌+◌, Bool, List, [], ◌++◌, refl, sym, ◌∙◌, ap, arith, inl, inr}
 use Rattle.std.proofs.lemmas.List.{length-append}
 use Rattle.std.proofs.lemmas.List.Sums.{sum_by-append}
 use Rattle.std.proofs.lemmas.List.Elements.{Contains-append_left, Contains-append_right}
-use Rattle.ld_graph.specs.Table.{has}
 use Rattle.ld_cascade.specs.System.{System}
 use Rattle.ld_cascade.specs.Settling.{Firing, Sums, sums_of, plus, no_sums}
-use Rattle.ld_cascade.specs.Wiring.{Wiring, Follows}
+use Rattle.ld_cascade.specs.Wiring.{Wiring}
 use Rattle.ld_cascade.specs.Tidy.{Tidy, Covers}
 use Rattle.ld_cascade.specs.Work.{work, IsVisited, IsStirred, Stirs}
 use Rattle.ld_cascade.specs.Standing.{Standing, Goes, Arrives}

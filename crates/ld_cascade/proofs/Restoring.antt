@@ -1,10 +1,9 @@
-use Rattle.std.proofs.Common.{◌≡◌, ℕ, ◌+◌, ◌-◌, ◌<◌, ◌≤◌, ◌⊎◌, inl, inr, Bool, true, false, List, [], length, get_or, refl, sym, ◌∙◌, ap, subst, arith}
+use Rattle.std.proofs.Common.{◌≡◌, ℕ, ◌+◌, ◌<◌, ◌≤◌, ◌⊎◌, inl, inr, Bool, true, false, List, [], length, get_or, refl, sym, ◌∙◌, ap, subst, arith}
 use Rattle.std.proofs.lemmas.Bool.{cases_eq, cases_lt, cases_Bool}
-use Rattle.std.proofs.lemmas.List.{get_or_past}
 use Rattle.ld_graph.specs.Table.{has}
-use Rattle.ld_graph.specs.Edges.{Edges, IsLinked, edge_room, pair_count}
+use Rattle.ld_graph.specs.Edges.{Edges, edge_room, pair_count}
 use Rattle.ld_cascade.specs.System.{System, Lawful}
-use Rattle.ld_cascade.specs.Wiring.{Wiring, IsEmpty, IsWith, IsSameTable, HasSameRow, EdgesAre, Follows}
+use Rattle.ld_cascade.specs.Wiring.{Wiring, IsWith, IsSameTable, HasSameRow, EdgesAre, Follows}
 use Rattle.ld_cascade.specs.Tidy.{Covers}
 use Rattle.ld_cascade.specs.Work.{weight, weight_of, sum_below}
 use Rattle.ld_cascade.specs.Rooms.{read_count, edges_needed, HasRoom, Restorable}

@@ -1,13 +1,13 @@
-use Rattle.std.proofs.Common.{◌≡◌, ℕ, zero, suc, ◌+◌, ◌-◌, ◌*◌, ◌<◌, ◌≤◌, Bool, true, false, cond, List, [], ◌∷◌, ◌++◌, length, refl, sym, ◌∙◌, ap, subst, arith, append-nil, inl, inr, ◌⊎◌}
+use Rattle.std.proofs.Common.{◌≡◌, ℕ, zero, suc, ◌+◌, ◌-◌, ◌<◌, ◌≤◌, Bool, true, false, List, [], ◌∷◌, ◌++◌, length, refl, sym, ◌∙◌, ap, subst, arith, append-nil, inl, inr, ◌⊎◌}
 use Rattle.std.proofs.lemmas.Bool.{cases_eq, cases_lt, cases_Bool}
 use Rattle.std.proofs.lemmas.List.{length-append}
 use Rattle.ld_graph.specs.Table.{has}
-use Rattle.ld_cascade.specs.System.{System, fires, MayFire, Lawful}
+use Rattle.ld_cascade.specs.System.{System, fires, Lawful}
 use Rattle.ld_cascade.specs.Settling.{step, fired, visited, fired_below, swept, sweep_firings, Firing, Sums, sums_of, plus}
-use Rattle.ld_cascade.specs.Wiring.{Wiring, IsEmpty, IsWithout}
+use Rattle.ld_cascade.specs.Wiring.{IsEmpty, IsWithout}
 use Rattle.ld_cascade.specs.Tidy.{Tidy, Covers}
 use Rattle.ld_cascade.specs.Standing.{Standing, Goes, Arrives}
-use Rattle.ld_cascade.proofs.Sweeps.{skip, skip_firings, visited_next, fired_next, sweep_end, sweep_firings_end, still_visited, may_fire, no_site}
+use Rattle.ld_cascade.proofs.Sweeps.{skip, skip_firings, visited_next, fired_next, sweep_end, sweep_firings_end, still_visited, may_fire}
 use Rattle.ld_cascade.proofs.Goings.{arrives_none, arrives_then, goes_then}
 use Rattle.ld_cascade.proofs.Visits.{fired_quiet, fired_due}
 

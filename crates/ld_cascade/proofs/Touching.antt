@@ -1,10 +1,9 @@
-use Rattle.std.proofs.Common.{◌≡◌, ℕ, ◌<◌, ◌≤◌, Bool, true, false, List, [], Contains, get_or, refl, sym, ◌∙◌, subst, arith, inl, inr, ◌⊎◌}
+use Rattle.std.proofs.Common.{◌≡◌, ℕ, false, List, sym, ◌∙◌, subst, arith, inl, inr}
 use Rattle.std.proofs.lemmas.Bool.{cases_lt, cases_Bool}
 use Rattle.ld_graph.specs.Table.{has}
-use Rattle.ld_graph.specs.Edges.{Edges, IsLinked}
-use Rattle.ld_cascade.specs.System.{System, fires, Lawful, Agree, IsSeenAlike}
-use Rattle.ld_cascade.specs.Wiring.{Wiring, HasSameRow, EdgesAre}
-use Rattle.ld_cascade.specs.Tidy.{IsTidy, Tidy, Changes, Touched}
+use Rattle.ld_cascade.specs.System.{System, Lawful, IsSeenAlike}
+use Rattle.ld_cascade.specs.Wiring.{Wiring, EdgesAre}
+use Rattle.ld_cascade.specs.Tidy.{Tidy, Changes, Touched}
 use Rattle.ld_cascade.proofs.Sweeps.{no_site}
 use Rattle.ld_cascade.proofs.Edges.{edges_stay}
 

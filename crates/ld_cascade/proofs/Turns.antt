@@ -1,9 +1,8 @@
-use Rattle.std.proofs.Common.{◌≡◌, ℕ, zero, suc, ◌+◌, ◌*◌, ◌<◌, ◌≤◌, Bool, true, false, List, [], ◌++◌, length, refl, sym, ◌∙◌, ap, subst, arith, append-nil, inl, inr, ◌⊎◌}
+use Rattle.std.proofs.Common.{◌≡◌, ℕ, suc, ◌+◌, ◌*◌, ◌<◌, ◌≤◌, List, [], ◌++◌, refl, sym, ◌∙◌, ap, subst, arith, append-nil, inl, inr}
 use Rattle.std.proofs.lemmas.Bool.{cases_eq}
-use Rattle.ld_graph.specs.Table.{has}
 use Rattle.ld_cascade.specs.System.{System, Lawful}
-use Rattle.ld_cascade.specs.Settling.{visited, fired_below, swept, sweep_firings, after_sweeps, all_firings, firings_to, Firing, Sums, sums_of, plus, no_sums, Moves, PassesBudget, Settles}
-use Rattle.ld_cascade.specs.Wiring.{Wiring, IsEmpty}
+use Rattle.ld_cascade.specs.Settling.{fired_below, swept, sweep_firings, after_sweeps, all_firings, firings_to, Firing, Moves, PassesBudget, Settles}
+use Rattle.ld_cascade.specs.Wiring.{IsEmpty}
 use Rattle.ld_cascade.specs.Tidy.{Tidy, Covers}
 use Rattle.ld_cascade.specs.Standing.{Standing, Goes, Arrives}
 use Rattle.ld_cascade.proofs.Sweeps.{still_visited, quiet_visits}

@@ -1,17 +1,17 @@
-use Rattle.std.proofs.Common.{◌≡◌, ℕ, ◌+◌, ◌*◌, ◌<◌, ◌≤◌, Bool, true, false, List, [], ◌∷◌, ◌++◌, Contains, refl, sym, ◌∙◌, ap, subst, arith, inl, inr, ◌⊎◌}
-use Rattle.std.proofs.lemmas.Bool.{cases_eq, cases_Bool}
+use Rattle.std.proofs.Common.{◌≡◌, ℕ, ◌+◌, ◌*◌, ◌<◌, ◌≤◌, Bool, true, false, List, [], ◌∷◌, Contains, refl, sym, ◌∙◌, ap, subst, arith, inl, inr, ◌⊎◌}
+use Rattle.std.proofs.lemmas.Bool.{cases_eq}
 use Rattle.std.proofs.lemmas.List.Elements.{Contains-push}
 use Rattle.ld_graph.specs.Table.{has}
 use Rattle.ld_graph.specs.Edges.{Edges, edge_room}
 use Rattle.ld_cascade.specs.System.{System, fires, MayFire, Lawful}
-use Rattle.ld_cascade.specs.Settling.{Firing, fired, Sums, sums_of, plus, no_sums}
-use Rattle.ld_cascade.specs.Wiring.{Wiring, IsWith, IsWithout, Follows, HasSameRow, EdgesAre}
+use Rattle.ld_cascade.specs.Settling.{Firing, fired, Sums, sums_of, plus}
+use Rattle.ld_cascade.specs.Wiring.{Wiring, IsWithout, Follows, HasSameRow, EdgesAre}
 use Rattle.ld_cascade.specs.Tidy.{Tidy, Covers}
-use Rattle.ld_cascade.specs.Work.{weight, weight_of, visits, visits_weight, work, IsVisited, IsStirred, Stirs}
+use Rattle.ld_cascade.specs.Work.{weight, weight_of, visits, visits_weight, work, IsVisited, Stirs}
 use Rattle.ld_cascade.specs.Rooms.{read_count}
-use Rattle.ld_cascade.specs.Standing.{Standing, standing, Goes, Arrives, steps_due}
+use Rattle.ld_cascade.specs.Standing.{Standing, Goes, Arrives, steps_due}
 use Rattle.ld_cascade.proofs.Edges.{Visiting, Marks, tidy_cleared, tidy_fired, rooms_cleared, rooms_fired, covers_fired, follows_same, follows_then}
-use Rattle.ld_cascade.proofs.Weights.{weight_cleared, weight_fired, weight_after, marked_reads, work_quiet, work_due}
+use Rattle.ld_cascade.proofs.Weights.{weight_cleared, weight_fired, weight_after, marked_reads, work_due}
 use Rattle.ld_cascade.proofs.Goings.{plus_none}
 
 pub fired_quiet : (y : System) (s : y.Situation) (i : ℕ) → fires y s i ≡ false → fired y s i ≡ []

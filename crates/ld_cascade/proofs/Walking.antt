@@ -1,7 +1,7 @@
-use Rattle.std.proofs.Common.{◌≡◌, ℕ, suc, ◌+◌, ◌*◌, ◌<◌, ◌≤◌, Bool, true, false, List, [], ◌∷◌, ◌++◌, length, refl, sym, ◌∙◌, ap, subst, arith, append-nil, inl, inr}
+use Rattle.std.proofs.Common.{◌≡◌, ℕ, suc, ◌+◌, ◌*◌, ◌<◌, ◌≤◌, Bool, true, false, List, [], ◌++◌, length, refl, sym, ◌∙◌, ap, arith, inl, inr}
 use Rattle.std.proofs.lemmas.Bool.{cases_Bool, cases_eq}
 use Rattle.ld_cascade.specs.System.{System, fires, Lawful}
-use Rattle.ld_cascade.specs.Settling.{step, fired, visited, fired_below, swept, sweep_firings, after_sweeps, all_firings, Moves, Firing, Sums, sums_of, plus, no_sums, PassesBudget, Settles}
+use Rattle.ld_cascade.specs.Settling.{step, fired, visited, fired_below, swept, sweep_firings, after_sweeps, all_firings, Moves, Firing, Sums, sums_of, plus, no_sums}
 use Rattle.ld_cascade.proofs.Sweeps.{visited_next, fired_next, sweep_end, sweep_firings_end, still_visited, no_site, quiet_visits}
 use Rattle.ld_cascade.proofs.Goings.{sums_append, plus_assoc, plus_none}
 use Rattle.ld_cascade.proofs.Visits.{fired_quiet}

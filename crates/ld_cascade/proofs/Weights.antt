@@ -1,4 +1,4 @@
-use Rattle.std.proofs.Common.{◌≡◌, ℕ, zero, suc, ◌+◌, ◌-◌, ◌*◌, ◌<◌, ◌≤◌, Bool, true, false, cond, List, [], ◌∷◌, ◌++◌, length, get_or, Contains, nat_eq, refl, sym, ◌∙◌, ap, subst, arith, inl, inr, ◌⊎◌, eq-eqb, sum_by}
+use Rattle.std.proofs.Common.{◌≡◌, ℕ, zero, suc, ◌+◌, ◌-◌, ◌*◌, ◌<◌, ◌≤◌, Bool, true, false, cond, List, [], ◌∷◌, ◌++◌, length, get_or, Contains, nat_eq, refl, sym, ◌∙◌, subst, arith, inl, inr, ◌⊎◌, eq-eqb}
 use Rattle.std.specs.List.{list_any}
 use Rattle.std.proofs.lemmas.List.Sums.{sum_by-append}
 use Rattle.std.proofs.lemmas.Bool.{cases_eq, cases_Bool}
@@ -6,8 +6,7 @@ use Rattle.ld_graph.specs.Table.{has}
 use Rattle.ld_graph.specs.Edges.{Edges, IsLinked}
 use Rattle.ld_cascade.specs.System.{System, fires, MayFire, Lawful}
 use Rattle.ld_cascade.specs.Settling.{Firing, fired}
-use Rattle.ld_cascade.specs.Wiring.{Wiring, IsWithout, HasSameRow, EdgesAre}
-use Rattle.ld_cascade.specs.Tidy.{Tidy}
+use Rattle.ld_cascade.specs.Wiring.{Wiring, IsWithout}
 use Rattle.ld_cascade.specs.Work.{meets, sum_below, weight, weight_of, visits, visits_weight, work}
 use Rattle.ld_cascade.proofs.Sums.{sum_below_le, sum_below_add, sum_below_less, sum_below_more, sum_below_to}
 use Rattle.ld_cascade.proofs.Edges.{Visiting, Marks, edges_stay}

@@ -1,4 +1,4 @@
-use Rattle.std.specs.Prelude.{◌≡◌, ℕ, zero, suc, ◌+◌, ◌*◌, ◌≤◌, ◌⊎◌, Bool, true, false, cond, List, length, sum_by, nat_eq, Contains}
+use Rattle.std.specs.Prelude.{◌≡◌, ℕ, zero, suc, ◌+◌, ◌*◌, ◌≤◌, ◌⊎◌, Bool, true, cond, List, sum_by, nat_eq, Contains}
 use Rattle.std.specs.List.{list_any}
 use Rattle.ld_graph.specs.Table.{has}
 use Rattle.ld_cascade.specs.System.{System}

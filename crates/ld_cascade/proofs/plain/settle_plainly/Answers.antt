@@ -1,7 +1,6 @@
-use Rattle.std.proofs.Common.{rules, arith, ◌≡◌, ℕ, ◌+◌, ◌<◌, ◌≤◌, Bool, true, false, List, [], length, Ok, Err, refl, sym, ◌∙◌, ap, subst, nat_lt}
-use borrow.Author.Tests.{ltb-true, ltb-false}
-use Rattle.ld_cascade.specs.Settling.{Sums, swept, sweep_firings, after_sweeps}
-use Rattle.ld_cascade.proofs.Walking.{Taking, taking_first, taking_next, taking_still}
+use Rattle.std.proofs.Common.{arith, ◌≡◌, ◌<◌, true, false, Ok}
+use borrow.Author.Tests.{ltb-true}
+use Rattle.ld_cascade.proofs.Walking.{taking_first, taking_next, taking_still}
 use Rattle.ld_cascade.proofs.plain.settle_plainly.Goals as goal
 
 pub sweeps-init : goal.sweeps-init

@@ -1,9 +1,9 @@
-use Rattle.std.proofs.Common.{rules, arith, ◌≡◌, ℕ, ◌+◌, ◌<◌, ◌≤◌, Bool, true, false, List, [], length, Ok, Err, refl, sym, ◌∙◌, ap, subst, nat_lt}
+use Rattle.std.proofs.Common.{arith, ◌≡◌, ◌<◌, ◌≤◌, true, false, List, [], sym, ◌∙◌, subst, nat_lt}
 use borrow.Author.Tests.{ltb-true, ltb-false}
-use Rattle.ld_cascade.specs.System.{System, fires}
-use Rattle.ld_cascade.specs.Settling.{Firing, Sums, sums_of, plus, swept, sweep_firings, fired_below, after_sweeps}
+use Rattle.ld_cascade.specs.System.{fires}
+use Rattle.ld_cascade.specs.Settling.{Firing, sums_of, plus, fired_below}
 use Rattle.ld_cascade.proofs.Sweeping.{sweep_moves_at, sums_move, sums_quiet}
-use Rattle.ld_cascade.proofs.Walking.{Walking, walking_first, walking_next, walking_end, walking_few}
+use Rattle.ld_cascade.proofs.Walking.{walking_first, walking_next, walking_end, walking_few}
 use Rattle.ld_cascade.proofs.plain.sweep.Goals as goal
 
 pub loop-site-init : goal.loop-site-init

@@ -1,5 +1,4 @@
-use Rattle.std.proofs.Common.{rules, arith, ◌≡◌, ℕ, ◌+◌, ◌<◌, ◌≤◌, List, length, Contains, sym, ◌∙◌}
-use Rattle.ld_cascade.specs.Wiring.{slot_count}
+use Rattle.std.proofs.Common.{arith}
 use Rattle.ld_cascade.proofs.Sets.{count_of_same}
 use Rattle.ld_cascade.proofs.Linking.{edges_linked}
 use Rattle.ld_cascade.proofs.restore.link_in_room.Goals as goal

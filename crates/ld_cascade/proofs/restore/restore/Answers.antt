@@ -1,8 +1,7 @@
-use Rattle.std.proofs.Common.{rules, arith, ◌≡◌, ℕ, ◌+◌, ◌<◌, ◌≤◌, List, length, sym, ◌∙◌, subst}
+use Rattle.std.proofs.Common.{sym, subst}
 use Rattle.ld_graph.specs.Edges.{Edges}
 use Rattle.ld_cascade.specs.Wiring.{EdgesAre}
-use Rattle.ld_cascade.specs.Work.{weight_of}
-use Rattle.ld_cascade.proofs.Restoring.{Restoring, Unlinked, LinkedInRoom, restoring_first, restoring_next, restoring_spare, restoring_room, restoring_edges, restoring_ticks}
+use Rattle.ld_cascade.proofs.Restoring.{LinkedInRoom, restoring_first, restoring_next, restoring_spare, restoring_edges, restoring_ticks}
 use Rattle.ld_cascade.proofs.restore.restore.Goals as goal
 
 pub loop-site-init : goal.loop-site-init

@@ -1,6 +1,4 @@
-use Rattle.std.proofs.Common.{rules, arith, ◌≡◌, ℕ, ◌+◌, ◌<◌, ◌≤◌, List, length, Contains, nat_eq, sym, ◌∙◌, ap, subst}
-use Rattle.ld_cascade.specs.System.{System}
-use Rattle.ld_cascade.specs.Wiring.{slot_count}
+use Rattle.std.proofs.Common.{arith, ◌≤◌, length}
 use Rattle.ld_cascade.proofs.Sets.{count_of_same}
 use Rattle.ld_cascade.proofs.Linking.{edges_linked}
 use Rattle.ld_cascade.proofs.settle.link.Goals as goal

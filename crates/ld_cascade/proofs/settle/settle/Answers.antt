@@ -1,9 +1,7 @@
-use Rattle.std.proofs.Common.{rules, arith, ◌≡◌, ℕ, ◌+◌, ◌<◌, ◌≤◌, ◌++◌, Bool, true, false, List, [], length, Ok, Err, refl, sym, ◌∙◌, ap, subst, nat_lt}
+use Rattle.std.proofs.Common.{arith, ◌≡◌, ◌<◌, ◌≤◌, true, false, [], Ok}
 use borrow.Author.Tests.{ltb-true, ltb-false}
-use Rattle.ld_cascade.specs.System.{System, fires}
-use Rattle.ld_cascade.specs.Settling.{Firing, Sums, no_sums, swept, sweep_firings, after_sweeps, all_firings, fired_below, firings_to}
+use Rattle.ld_cascade.specs.Settling.{no_sums, sweep_firings, all_firings, fired_below, firings_to}
 use Rattle.ld_cascade.specs.Wiring.{IsEmpty}
-use Rattle.ld_cascade.specs.Work.{Spends}
 use Rattle.ld_cascade.specs.Standing.{Standing, standing, Goes, Arrives}
 use Rattle.ld_cascade.proofs.Turns.{Turning, turning_first, turning_next, turning_still, turning_end, turning_stops, turning_spent}
 use Rattle.ld_cascade.proofs.settle.settle.Goals as goal

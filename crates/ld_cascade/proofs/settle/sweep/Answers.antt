@@ -1,10 +1,8 @@
-use Rattle.std.proofs.Common.{rules, arith, ◌≡◌, ℕ, ◌+◌, ◌<◌, ◌≤◌, Bool, true, false, List, [], length, Ok, Err, refl, sym, ◌∙◌, ap, subst, nat_lt, inl, inr, ◌⊎◌}
+use Rattle.std.proofs.Common.{arith, ◌≡◌, ◌+◌, ◌<◌, ◌≤◌, Bool, true, false, List, [], length, refl, sym, ◌∙◌, ap, subst, nat_lt, inl, inr}
 use Rattle.std.proofs.lemmas.Bool.{le-ltb, cases_lt}
 use borrow.Author.Tests.{ltb-true, ltb-false}
-use Rattle.ld_graph.specs.Table.{has}
-use Rattle.ld_cascade.specs.System.{System, fires}
-use Rattle.ld_cascade.specs.Settling.{Firing, Sums, sums_of, plus, swept, sweep_firings, fired_below, fired}
-use Rattle.ld_cascade.specs.Wiring.{IsEmpty}
+use Rattle.ld_cascade.specs.System.{fires}
+use Rattle.ld_cascade.specs.Settling.{Firing, Sums, fired_below, fired}
 use Rattle.ld_cascade.specs.Standing.{Standing, standing, Goes, Arrives}
 use Rattle.ld_cascade.proofs.Goings.{goes_then}
 use Rattle.ld_cascade.proofs.Sweeping.{Sweeping, sweeping_first, sweeping_next, sweeping_end, sweeping_few, sweeping_stops, more_fired, to_site, sweep_moves_at, sums_move, sums_quiet}

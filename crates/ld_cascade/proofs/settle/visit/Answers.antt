@@ -1,12 +1,11 @@
-use Rattle.std.proofs.Common.{rules, arith, ◌≡◌, ℕ, ◌+◌, ◌*◌, ◌<◌, ◌≤◌, ◌⊎◌, inl, inr, Bool, true, false, List, [], length, refl, sym, ◌∙◌, ap, subst, Contains}
+use Rattle.std.proofs.Common.{rules, arith, ◌≡◌, ℕ, ◌+◌, ◌≤◌, ◌⊎◌, true, false, List, [], refl, sym, ◌∙◌, ap, subst, Contains}
 use Rattle.ld_graph.specs.Table.{has}
 use Rattle.ld_graph.specs.Edges.{Edges, IsLinked}
-use Rattle.ld_cascade.specs.System.{System, Lawful, MayFire, due, fires}
-use Rattle.ld_cascade.specs.Settling.{fired, Sums, plus}
-use Rattle.ld_cascade.specs.Wiring.{Wiring}
-use Rattle.ld_cascade.specs.Standing.{Standing, standing, Goes, Arrives}
+use Rattle.ld_cascade.specs.System.{MayFire, fires}
+use Rattle.ld_cascade.specs.Settling.{fired}
+use Rattle.ld_cascade.specs.Standing.{Standing, standing, Arrives}
 use Rattle.ld_cascade.proofs.Sweeps.{may_fire}
-use Rattle.ld_cascade.proofs.Edges.{Visiting, Marks}
+use Rattle.ld_cascade.proofs.Edges.{Visiting}
 use Rattle.ld_cascade.proofs.Visits.{Cleared, Linked, Looked, HasFired, looked, visiting, looked_goes, quiet_arrives, failed_goes, fired_arrives}
 use Rattle.ld_cascade.proofs.settle.visit.Goals as goal
 

@@ -1,4 +1,4 @@
-use Rattle.std.proofs.Common.{◌≡◌, ℕ, ◌<◌, sym, ap, arith}
+use Rattle.std.proofs.Common.{◌≡◌, sym, ap, arith}
 use Rattle.ld_cascade.specs.Wiring.{Wiring}
 use Rattle.ld_cascade.proofs.links.Links.relink.Goals as goal
 
