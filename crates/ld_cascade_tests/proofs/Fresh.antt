@@ -1,6 +1,6 @@
 use Rattle.std.proofs.Common.{◌≡◌, ℕ, ◌<◌, ◌≤◌, Bool, true, false, List, [], length, get_or, Contains, refl, sym, ◌∙◌, ap, arith}
 use Rattle.ld_graph.specs.Edges.{Edges, IsLinked}
-use Rattle.ld_cascade.specs.System.{System, fires}
+use Rattle.ld_cascade.specs.System.{System, Lawful, fires}
 use Rattle.ld_cascade.specs.Wiring.{slot_count, EdgesAre}
 use Rattle.ld_cascade.specs.Tidy.{IsTidy}
 
@@ -14,3 +14,7 @@ tidy_alone y s edges i quiet none row = record {
       once = rw (row, none) refl;
     };
   }
+
+-- a number that is no site does not fire
+pub quiet_beyond : (y : System) → Lawful y → (s : y.Situation) (i : ℕ) → y.IsSound s → y.count s ≤ i → fires y s i ≡ false
+quiet_beyond y w s i sound past = rw (w.no_test s i sound past, w.no_mark s i sound past) refl

@@ -1,4 +1,4 @@
-use Rattle.std.proofs.Common.{◌≡◌, ℕ, ◌+◌, ◌-◌, ◌^◌, ◌<◌, ◌≤◌, Bool, true, false, cond, List, [], ◌∷◌, length, set, get_or, Option, Some, None, nat_lt, refl, sym, ◌∙◌, ap, arith, Contains}
+use Rattle.std.proofs.Common.{◌≡◌, ℕ, ◌+◌, ◌-◌, ◌^◌, ◌<◌, ◌≤◌, Bool, true, false, cond, List, [], ◌∷◌, length, set, get_or, Option, Some, None, nat_lt, refl, sym, ◌∙◌, ap, arith, Contains, zero, suc, inl, inr, ◌⊎◌}
 use Rattle.std.proofs.lemmas.List.{length-set, get_or-set_other, get_or-set_same, get_or_past}
 use Rattle.std.proofs.lemmas.List.Elements.{Contains-push}
 use Rattle.std.proofs.lemmas.Bool.{le-ltb, lt-ltb, cases_lt}
@@ -38,14 +38,15 @@ pub is_sound : (t : Lamps) → length (row_of t).lit ≡ length (row_of t).marks
 is_sound t = t.even
 
 one_below : (i k n : ℕ) → i < n → Contains (i ∷ []) k → k < n
-one_below i k n lt (zero, within, e) = let f : i ≡ k = e in omega arith
-one_below i k n lt (suc m, within, e) = absurd (omega arith)
+one_below i k n lt member =
+    let first : member.0 ≡ 0 = let a = member.1 in omega arith in
+    let same : i ≡ k = rw first at member.2 in
+    omega arith
 
 reads_one : (n i k : ℕ) → Contains (cond (nat_lt i n) (i ∷ []) []) k → k < n
-reads_one n i k member = ⊎_elim
-    (λ lt. one_below i k n lt (rw (lt-ltb i n lt) at member))
-    (λ past. let none : Contains [] k = rw (le-ltb i n past) at member in absurd (let lt = none.1 in omega arith))
-    (cases_lt i n)
+reads_one n i k member = elim (cases_lt i n) [
+      inl lt ↦ one_below i k n lt (rw (lt-ltb i n lt) at member)
+    | inr past ↦ let none : Contains {X = ℕ} [] k = rw (le-ltb i n past) at member in absurd (let lt = none.1 in omega arith) ]
 
 -- rows of lamps keep the laws
 pub is_lawful : Lawful lamps
