@@ -13,8 +13,7 @@ use std::alloc::Global;
 use std::marker::Model;
 
 /// The edges between sites and the slots that they read, the dirty sites, and the table of the
-/// sites
-/// linked anew since `begin`.
+/// sites linked anew since `begin`.
 #[derive(Drop)]
 pub struct Links {
     graph: Graph,
@@ -30,7 +29,8 @@ impl Model for Links {
 
     ghost view = { λ l. wired l.graph l.dirty_sites l.relinked_sites l.site_count };
 
-    ghost invariant = { λ l. IsInRange (wired l.graph l.dirty_sites l.relinked_sites l.site_count) };
+    ghost invariant = { λ l.
+        IsInRange (wired l.graph l.dirty_sites l.relinked_sites l.site_count) };
 }
 
 impl Links {
@@ -58,8 +58,7 @@ impl Links {
     }
 
     /// Brings the slots and sites below these numbers into range, and changes nothing else,
-    /// whatever
-    /// it answers.
+    /// whatever it answers.
     pub fn grow(&mut self, slots: u32, sites: u32) -> Result<(), NoMemory>
         ensures slots { IfOk result (λ _. slots ≤ self.new.edges.slots) }
         ensures sites { IfOk result (λ _. sites ≤ self.new.sites) }

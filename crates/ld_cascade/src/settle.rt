@@ -178,13 +178,11 @@ fn sweep<G: Sites, L: Ledger>(
 }
 
 /// Settles the sites: sweeps over them in order until one fires nothing. It judges only dirty
-/// sites,
-/// and those that a firing may concern.
+/// sites, and those that a firing may concern.
 ///
 /// It answers `TurnBudget` exactly where one sweep more than `turns` fires, and `NoMemory` only
-/// where
-/// some site is dirty. After either the state and the links are between two visits or in one: take
-/// the state back to where `begin` was called, and then call `restore`.
+/// where some site is dirty. After either the state and the links are between two visits or in one:
+/// take the state back to where `begin` was called, and then call `restore`.
 pub fn settle<G: Sites, L: Ledger>(
     alloc: Global,
     sites: &mut G,

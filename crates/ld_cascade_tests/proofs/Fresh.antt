@@ -7,13 +7,13 @@ use Rattle.ld_cascade.specs.Tidy.{IsTidy}
 -- a site that does not fire, reads nothing and has no edge
 pub tidy_alone : (y : System) (s : y.Situation) (edges : Edges) (i : ℕ) → fires y s i ≡ false → y.reads s i ≡ [] → get_or edges.rows i [] ≡ [] → IsTidy y s edges i
 tidy_alone y s edges i quiet none row = record {
-    marked = quiet;
-    edges_are = record {
-      named = λ k h. let a : Contains [] k = rw row at h in absurd (let lt = a.1 in omega arith);
-      linked = λ k h. let a : Contains [] k = rw none at h in absurd (let lt = a.1 in omega arith);
-      once = rw (row, none) refl;
-    };
-  }
+  marked = quiet;
+  edges_are = record {
+    named = λ k h. let a : Contains [] k = rw row at h in absurd (let lt = a.1 in omega arith);
+    linked = λ k h. let a : Contains [] k = rw none at h in absurd (let lt = a.1 in omega arith);
+    once = rw (row, none) refl;
+  };
+}
 
 -- a number that is no site does not fire
 pub quiet_beyond : (y : System) → Lawful y → (s : y.Situation) (i : ℕ) → y.IsSound s → y.count s ≤ i → fires y s i ≡ false

@@ -1,4 +1,6 @@
 //! A row of lamps: a site hands its lamp on to the one before it.
+ghost use Rattle.std.specs.Prelude.{◌≡◌, ℕ, ◌+◌, ◌-◌, ◌^◌, ◌<◌, ◌≤◌, false, length, replicate, set, IfOk};
+
 use ld_base::fired::Fired;
 use ld_base::memory::NoMemory;
 use ld_base::steps::Steps;
@@ -7,8 +9,6 @@ use ld_cascade::sites::Sites;
 use ld_graph::slots::SlotList;
 use std::alloc::Global;
 use std::sync::ledger::Ledger;
-
-ghost use Rattle.std.specs.Prelude.{◌≡◌, ℕ, ◌+◌, ◌-◌, ◌^◌, ◌<◌, ◌≤◌, false, length, replicate, set, IfOk};
 
 /// Lamps, the marks of their sites, and the list that lends a site's reads.
 #[derive(Drop)]
@@ -28,13 +28,19 @@ impl Lamps {
         ensures marks { IfOk result (λ l. l.marks.items ≡ replicate count false) }
     {
         let mut lit = Vec::new(alloc);
-        let Ok(()) = lit.resize(count as usize, false) else { return Err(NoMemory) };
+        let Ok(()) = lit.resize(count as usize, false) else {
+            return Err(NoMemory)
+        };
         let mut marks = Vec::new(alloc);
-        let Ok(()) = marks.resize(count as usize, false) else { return Err(NoMemory) };
+        let Ok(()) = marks.resize(count as usize, false) else {
+            return Err(NoMemory)
+        };
         if let Some(last) = lit.last_mut() {
             *last = true;
         }
-        let Ok(list) = SlotList::with_room(alloc, 1) else { return Err(NoMemory) };
+        let Ok(list) = SlotList::with_room(alloc, 1) else {
+            return Err(NoMemory)
+        };
         Ok(Lamps { lit, marks, list })
     }
 }
@@ -51,9 +57,15 @@ impl Sites for Lamps {
     fn judge<L: Ledger>(&self, site: u32, steps: &mut Steps<L>) -> Judged {
         steps.tick();
         if site as usize >= self.lit.len() {
-            return Judged { test: false, mark: Some(false) };
+            return Judged {
+                test: false,
+                mark: Some(false),
+            };
         }
-        Judged { test: self.lit[site as usize], mark: Some(self.marks[site as usize]) }
+        Judged {
+            test: self.lit[site as usize],
+            mark: Some(self.marks[site as usize]),
+        }
     }
 
     fn reads<L: Ledger>(&mut self, site: u32, steps: &mut Steps<L>) -> Result<&SlotList, NoMemory> {
@@ -79,7 +91,10 @@ impl Sites for Lamps {
         if let Err(_) = changed.push(before) {
             return Err(NoMemory);
         }
-        Ok(Fired { rejected: 0, sent: 0 })
+        Ok(Fired {
+            rejected: 0,
+            sent: 0,
+        })
     }
 
     ghost lawful = { is_lawful };

@@ -1,4 +1,6 @@
 //! Sites that never fire, and that count how often they are judged.
+ghost use Rattle.std.specs.Prelude.{◌≡◌, ℕ, ◌+◌, ◌^◌, ◌<◌, ◌≤◌, [], IfOk};
+
 use ld_base::fired::Fired;
 use ld_base::memory::NoMemory;
 use ld_base::steps::Steps;
@@ -8,8 +10,6 @@ use ld_graph::slots::SlotList;
 use std::alloc::Global;
 use std::cell::Cell;
 use std::sync::ledger::Ledger;
-
-ghost use Rattle.std.specs.Prelude.{◌≡◌, ℕ, ◌+◌, ◌^◌, ◌<◌, ◌≤◌, [], IfOk};
 
 /// So many sites, and how often one of them was judged.
 #[derive(Drop)]
@@ -25,8 +25,14 @@ impl Still {
     pub fn new(alloc: Global, count: u32) -> Result<Still, NoMemory>
         ensures count { IfOk result (λ s. s.count ≡ count) }
     {
-        let Ok(none) = SlotList::with_room(alloc, 0) else { return Err(NoMemory) };
-        Ok(Still { count, judged: Cell::new(0), none })
+        let Ok(none) = SlotList::with_room(alloc, 0) else {
+            return Err(NoMemory)
+        };
+        Ok(Still {
+            count,
+            judged: Cell::new(0),
+            none,
+        })
     }
 
     /// How often a site was judged.
@@ -47,10 +53,17 @@ impl Sites for Still {
     fn judge<L: Ledger>(&self, _site: u32, steps: &mut Steps<L>) -> Judged {
         steps.tick();
         self.judged.set(self.judged.get().wrapping_add(1));
-        Judged { test: false, mark: Some(false) }
+        Judged {
+            test: false,
+            mark: Some(false),
+        }
     }
 
-    fn reads<L: Ledger>(&mut self, _site: u32, steps: &mut Steps<L>) -> Result<&SlotList, NoMemory> {
+    fn reads<L: Ledger>(
+        &mut self,
+        _site: u32,
+        steps: &mut Steps<L>,
+    ) -> Result<&SlotList, NoMemory> {
         steps.tick();
         Ok(&self.none)
     }
@@ -62,7 +75,10 @@ impl Sites for Still {
         _changed: &mut Vec<u32>,
         _steps: &mut Steps<L>,
     ) -> Result<Fired, NoMemory> {
-        Ok(Fired { rejected: 0, sent: 0 })
+        Ok(Fired {
+            rejected: 0,
+            sent: 0,
+        })
     }
 
     ghost lawful = { is_lawful };

@@ -1,3 +1,5 @@
+ghost use Rattle.std.specs.Prelude.{◌≡◌, ℕ, ◌<◌, ◌≤◌, length};
+
 use crate::lamps::Lamps;
 use crate::still::Still;
 use ld_base::steps::Steps;
@@ -9,8 +11,6 @@ use std::alloc::Global;
 use std::marker::Brand;
 use std::sync::ledger::{Blank, Ledger};
 use std::test::Fail;
-
-ghost use Rattle.std.specs.Prelude.{◌≡◌, ℕ, ◌<◌, ◌≤◌, length};
 
 /// One site of 1,000 is dirty and does not fire: no other site is judged.
 #[test]
@@ -36,8 +36,8 @@ fn settle_still<L: Ledger>(alloc: Global, blank: Blank) -> Result<u32, Fail>
     Ok(sites.judged())
 }
 
-/// Of five lamps the last is lit. Each sweep hands the light on to one lamp more, so five sweeps fire
-/// one site each, and the sixth fires none.
+/// Of five lamps the last is lit. Each sweep hands the light on to one lamp more, so five sweeps
+/// fire one site each, and the sixth fires none.
 #[test]
 fn both_settlings_give_the_same(rt: HostRuntime) -> Result<(), Fail> {
     let alloc = rt.alloc();
@@ -49,7 +49,12 @@ fn both_settlings_give_the_same(rt: HostRuntime) -> Result<(), Fail> {
         let wanted = if turns < 5 {
             Err(Stop::TurnBudget)
         } else {
-            Ok(Settled { turns: 5, fired: 5, rejected: 0, sent: 0 })
+            Ok(Settled {
+                turns: 5,
+                fired: 5,
+                rejected: 0,
+                sent: 0,
+            })
         };
         assert_eq!(rt; first, wanted, "within {turns} turns");
         assert_eq!(rt; second, wanted, "plainly, within {turns} turns");
@@ -57,14 +62,27 @@ fn both_settlings_give_the_same(rt: HostRuntime) -> Result<(), Fail> {
             assert_eq!(rt; one.lit.as_slice(), [true; 5].as_slice());
             assert_eq!(rt; one.marks.as_slice(), [true; 5].as_slice());
         }
-        assert_eq!(rt; one.lit.as_slice(), other.lit.as_slice(), "within {turns} turns");
-        assert_eq!(rt; one.marks.as_slice(), other.marks.as_slice(), "within {turns} turns");
+        assert_eq!(rt;
+            one.lit.as_slice(),
+            other.lit.as_slice(),
+            "within {turns} turns"
+        );
+        assert_eq!(rt;
+            one.marks.as_slice(),
+            other.marks.as_slice(),
+            "within {turns} turns"
+        );
     }
     Ok(())
 }
 
 /// Settles the lamps, each of whose sites is new.
-fn settle_lamps<L: Ledger>(alloc: Global, lamps: &mut Lamps, turns: u32, blank: Blank) -> Result<Result<Settled, Stop>, Fail>
+fn settle_lamps<L: Ledger>(
+    alloc: Global,
+    lamps: &mut Lamps,
+    turns: u32,
+    blank: Blank,
+) -> Result<Result<Settled, Stop>, Fail>
     requires name { blank.name ≡ L.name }
     requires parts { blank.parts ≡ L.parts }
     requires some { 0 < L.parts }
@@ -82,7 +100,12 @@ fn settle_lamps<L: Ledger>(alloc: Global, lamps: &mut Lamps, turns: u32, blank: 
 }
 
 /// Settles the lamps by plain sweeps.
-fn settle_lamps_plainly<L: Ledger>(alloc: Global, lamps: &mut Lamps, turns: u32, blank: Blank) -> Result<Settled, Stop>
+fn settle_lamps_plainly<L: Ledger>(
+    alloc: Global,
+    lamps: &mut Lamps,
+    turns: u32,
+    blank: Blank,
+) -> Result<Settled, Stop>
     requires name { blank.name ≡ L.name }
     requires parts { blank.parts ≡ L.parts }
     requires some { 0 < L.parts }

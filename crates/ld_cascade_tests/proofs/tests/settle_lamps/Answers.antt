@@ -11,7 +11,8 @@ settle-requires-clause-tidy g c i out =
     let s = row_of c.args.lamps.now in
     let sound = is_sound c.args.lamps.now in
     let past : length s.lit ≤ i = elim (cases_lt i (length s.lit)) [
-          inl lt ↦ let is_in = c.loop-site.invariant.3 i (search rules) in absurd (cc)
-        | inr ge ↦ ge ] in
+      | inl lt ↦ let is_in = c.loop-site.invariant.3 i (search rules) in absurd (cc)
+      | inr ge ↦ ge
+    ] in
     let quiet : fires lamps s i ≡ false = quiet_beyond lamps is_lawful s i sound past in
     tidy_alone lamps s c.loop-site.links.edges i quiet (is_lawful.no_reads s i sound past) (c.loop-site.invariant.0 i)
