@@ -6,6 +6,7 @@
 pub mod bytes;
 mod calls;
 pub mod file;
+pub mod fired;
 pub mod folder_shelf;
 pub mod id;
 pub mod items;

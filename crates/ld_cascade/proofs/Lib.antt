@@ -1,0 +1,13 @@
+mod Sets
+mod Sums
+mod Sweeps
+mod Edges
+mod Weights
+mod Goings
+mod Visits
+mod Linking
+mod Sweeping
+mod Turns
+mod Restoring
+mod Touching
+mod Walking

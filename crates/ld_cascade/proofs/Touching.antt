@@ -1,0 +1,41 @@
+use Rattle.std.proofs.Common.{◌≡◌, ℕ, false, List, sym, ◌∙◌, subst, arith, inl, inr}
+use Rattle.std.proofs.lemmas.Bool.{cases_lt, cases_Bool}
+use Rattle.ld_graph.specs.Table.{has}
+use Rattle.ld_cascade.specs.System.{System, Lawful, IsSeenAlike}
+use Rattle.ld_cascade.specs.Wiring.{Wiring, EdgesAre}
+use Rattle.ld_cascade.specs.Tidy.{Tidy, Changes, Touched}
+use Rattle.ld_cascade.proofs.Sweeps.{no_site}
+use Rattle.ld_cascade.proofs.Edges.{edges_stay}
+
+-- writes that are no firing: their slots are touched and new sites are set fresh
+pub tidy_touched : (y : System) → Lawful y → (s t : y.Situation) (slots : List ℕ) (old now : Wiring)
+    → Tidy y s old → Changes y s t slots → Touched y s t slots old now → Tidy y t now
+tidy_touched y w s t slots old now tidy ch touched i out =
+    let was_out : has old.dirty i ≡ false = elim (cases_Bool (has old.dirty i)) [
+      | inl is_in ↦ absurd (let still = touched.keeps i is_in in cc)
+      | inr is_out ↦ is_out
+    ] in
+    let was = tidy i was_out in
+    elim (cases_lt i (y.count s)) [
+      | inl lt ↦
+          let alike : IsSeenAlike y s t i = record {
+            sound = ch.sound_before;
+            sound_other = ch.sound_after;
+            same_course = ch.same_course;
+            there = lt;
+            there_other = let g = ch.grows in omega arith;
+            agree = λ k member. ch.others k (λ changes. absurd (let is_in = touched.readers k changes i (was.edges_are.linked k member) in cc));
+          } in
+          record {
+            marked = rw (sym (w.same_test s t i alike), ch.same_marks i lt) was.marked;
+            edges_are = edges_stay (touched.same_rows i) (subst (λ (x : List ℕ). EdgesAre old.edges i x) (w.same_reads s t i alike) was.edges_are);
+          }
+      | inr ge ↦ elim (cases_lt i (y.count t)) [
+        | inl new_site ↦ absurd (let is_in = touched.fresh i ge new_site in cc)
+        | inr past ↦ record {
+          marked = no_site y w t i ch.sound_after past;
+          edges_are = edges_stay (touched.same_rows i)
+              (subst (λ (x : List ℕ). EdgesAre old.edges i x) (w.no_reads s i ch.sound_before ge ∙ sym (w.no_reads t i ch.sound_after past)) was.edges_are);
+        }
+      ]
+    ]

@@ -1,0 +1,39 @@
+use Rattle.std.specs.Prelude.{◌≡◌, ℕ, ◌<◌, ◌≤◌, Bool, true, false, List, Contains}
+use Rattle.ld_graph.specs.Table.{has}
+use Rattle.ld_graph.specs.Edges.{Edges, IsLinked}
+use Rattle.ld_cascade.specs.System.{System, fires}
+use Rattle.ld_cascade.specs.Wiring.{Wiring, EdgesAre, HasSameRow}
+
+-- every site outside the table has the mark that its test gives
+abbrev pub IsClean : (y : System) → y.Situation → List Bool → Type 0
+IsClean y s table = (i : ℕ) → has table i ≡ false → fires y s i ≡ false
+
+-- the site has the mark that its test gives, and its edges are its reads
+pub record IsTidy (y : System) (s : y.Situation) (edges : Edges) (i : ℕ) : Type 0 where
+  pub marked : fires y s i ≡ false
+  pub edges_are : EdgesAre edges i (y.reads s i)
+
+-- every site that is not dirty has the mark that its test gives, and edges equal to its reads
+abbrev pub Tidy : (y : System) → y.Situation → Wiring → Type 0
+Tidy y s wiring = (i : ℕ) → has wiring.dirty i ≡ false → IsTidy y s wiring.edges i
+
+-- all sites and all slots of the situation are in range of the links
+pub record Covers (y : System) (s : y.Situation) (wiring : Wiring) : Type 0 where
+  pub sites : y.count s ≤ wiring.sites
+  pub slots : y.slots s ≤ wiring.edges.slots
+
+-- a change by writes that are no firing: but in these slots and at new sites nothing differs
+pub record Changes (y : System) (s t : y.Situation) (slots : List ℕ) : Type 0 where
+  pub sound_before : y.IsSound s
+  pub sound_after : y.IsSound t
+  pub same_course : y.course s ≡ y.course t
+  pub grows : y.count s ≤ y.count t
+  pub same_marks : (i : ℕ) → i < y.count s → y.mark t i ≡ y.mark s i
+  pub others : (k : ℕ) → (Contains slots k → ⊥) → y.content s k ≡ y.content t k
+
+-- the edges stay, what was dirty is dirty, the readers of these slots are, and the new sites are
+pub record Touched (y : System) (s t : y.Situation) (slots : List ℕ) (old now : Wiring) : Type 0 where
+  pub same_rows : (i : ℕ) → HasSameRow old.edges now.edges i
+  pub keeps : (i : ℕ) → has old.dirty i ≡ true → has now.dirty i ≡ true
+  pub readers : (k : ℕ) → Contains slots k → (i : ℕ) → IsLinked old.edges k i → has now.dirty i ≡ true
+  pub fresh : (i : ℕ) → y.count s ≤ i → i < y.count t → has now.dirty i ≡ true

@@ -1,0 +1,20 @@
+use Rattle.std.proofs.Common.{◌≡◌, ℕ, ◌<◌, ◌≤◌, Bool, true, false, List, [], length, get_or, Contains, refl, sym, ◌∙◌, ap, arith}
+use Rattle.ld_graph.specs.Edges.{Edges, IsLinked}
+use Rattle.ld_cascade.specs.System.{System, Lawful, fires}
+use Rattle.ld_cascade.specs.Wiring.{slot_count, EdgesAre}
+use Rattle.ld_cascade.specs.Tidy.{IsTidy}
+
+-- a site that does not fire, reads nothing and has no edge
+pub tidy_alone : (y : System) (s : y.Situation) (edges : Edges) (i : ℕ) → fires y s i ≡ false → y.reads s i ≡ [] → get_or edges.rows i [] ≡ [] → IsTidy y s edges i
+tidy_alone y s edges i quiet none row = record {
+  marked = quiet;
+  edges_are = record {
+    named = λ k h. let a : Contains [] k = rw row at h in absurd (let lt = a.1 in omega arith);
+    linked = λ k h. let a : Contains [] k = rw none at h in absurd (let lt = a.1 in omega arith);
+    once = rw (row, none) refl;
+  };
+}
+
+-- a number that is no site does not fire
+pub quiet_beyond : (y : System) → Lawful y → (s : y.Situation) (i : ℕ) → y.IsSound s → y.count s ≤ i → fires y s i ≡ false
+quiet_beyond y w s i sound past = rw (w.no_test s i sound past, w.no_mark s i sound past) refl

@@ -1,0 +1,6 @@
+use Rattle.std.specs.Prelude.{◌≡◌, ℕ, Bool, List}
+
+-- a row of lamps and the marks of their sites
+pub record Row : Type 0 where
+  pub lit : List Bool
+  pub marks : List Bool

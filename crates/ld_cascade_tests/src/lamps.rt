@@ -1,0 +1,103 @@
+//! A row of lamps: a site hands its lamp on to the one before it.
+ghost use Rattle.std.specs.Prelude.{◌≡◌, ℕ, ◌+◌, ◌-◌, ◌^◌, ◌<◌, ◌≤◌, false, length, replicate, set, IfOk};
+
+use ld_base::fired::Fired;
+use ld_base::memory::NoMemory;
+use ld_base::steps::Steps;
+use ld_cascade::judged::Judged;
+use ld_cascade::sites::Sites;
+use ld_graph::slots::SlotList;
+use std::alloc::Global;
+use std::sync::ledger::Ledger;
+
+/// Lamps, the marks of their sites, and the list that lends a site's reads.
+#[derive(Drop)]
+pub struct Lamps {
+    pub lit: Vec<bool>,
+    pub marks: Vec<bool>,
+    list: SlotList,
+    ghost even: { length lit.items ≡ length marks.items },
+    ghost small: { length lit.items < 2 ^ 32 },
+    ghost spacious: { 0 < list.room },
+}
+
+impl Lamps {
+    /// So many lamps, of which the last one alone is lit, and no mark.
+    pub fn new(alloc: Global, count: u32) -> Result<Lamps, NoMemory>
+        ensures count { IfOk result (λ l. length l.lit.items ≡ count) }
+        ensures marks { IfOk result (λ l. l.marks.items ≡ replicate count false) }
+    {
+        let mut lit = Vec::new(alloc);
+        let Ok(()) = lit.resize(count as usize, false) else {
+            return Err(NoMemory)
+        };
+        let mut marks = Vec::new(alloc);
+        let Ok(()) = marks.resize(count as usize, false) else {
+            return Err(NoMemory)
+        };
+        if let Some(last) = lit.last_mut() {
+            *last = true;
+        }
+        let Ok(list) = SlotList::with_room(alloc, 1) else {
+            return Err(NoMemory)
+        };
+        Ok(Lamps { lit, marks, list })
+    }
+}
+
+impl Sites for Lamps {
+    ghost use Rattle.ld_cascade_tests.specs.Lamps.{lamps, row_of, is_lawful, is_sound};
+
+    ghost system = { lamps };
+
+    ghost now = { row_of };
+
+    ghost room = { λ l. l.list.room };
+
+    fn judge<L: Ledger>(&self, site: u32, steps: &mut Steps<L>) -> Judged {
+        steps.tick();
+        if site as usize >= self.lit.len() {
+            return Judged {
+                test: false,
+                mark: Some(false),
+            };
+        }
+        Judged {
+            test: self.lit[site as usize],
+            mark: Some(self.marks[site as usize]),
+        }
+    }
+
+    fn reads<L: Ledger>(&mut self, site: u32, steps: &mut Steps<L>) -> Result<&SlotList, NoMemory> {
+        steps.tick();
+        self.list.clear();
+        if (site as usize) < self.lit.len() {
+            self.list.put(site);
+        }
+        Ok(&self.list)
+    }
+
+    fn fire<L: Ledger>(
+        &mut self,
+        site: u32,
+        verdict: bool,
+        changed: &mut Vec<u32>,
+        steps: &mut Steps<L>,
+    ) -> Result<Fired, NoMemory> {
+        steps.tick();
+        let before = site.saturating_sub(1);
+        self.marks[site as usize] = verdict;
+        self.lit[before as usize] = verdict;
+        if let Err(_) = changed.push(before) {
+            return Err(NoMemory);
+        }
+        Ok(Fired {
+            rejected: 0,
+            sent: 0,
+        })
+    }
+
+    ghost lawful = { is_lawful };
+
+    ghost sound = { is_sound };
+}

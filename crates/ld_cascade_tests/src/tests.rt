@@ -1,0 +1,118 @@
+ghost use Rattle.std.specs.Prelude.{◌≡◌, ℕ, ◌<◌, ◌≤◌, length};
+
+use crate::lamps::Lamps;
+use crate::still::Still;
+use ld_base::steps::Steps;
+use ld_cascade::links::Links;
+use ld_cascade::plain::settle_plainly;
+use ld_cascade::settle::settle;
+use ld_cascade::settled::{Settled, Stop};
+use std::alloc::Global;
+use std::marker::Brand;
+use std::sync::ledger::{Blank, Ledger};
+use std::test::Fail;
+
+/// One site of 1,000 is dirty and does not fire: no other site is judged.
+#[test]
+fn quiet_sites_are_not_judged(rt: HostRuntime) -> Result<(), Fail> {
+    let judged = settle_still::<Brand>(rt.alloc(), Blank::new(1))?;
+    assert!(rt; judged <= 3, "a site was judged {judged} times");
+    assert!(rt; judged >= 1, "no site was judged");
+    Ok(())
+}
+
+/// How often a site was judged when 1,000 still sites were settled, of which one is dirty.
+fn settle_still<L: Ledger>(alloc: Global, blank: Blank) -> Result<u32, Fail>
+    requires name { blank.name ≡ L.name }
+    requires parts { blank.parts ≡ L.parts }
+    requires some { 0 < L.parts }
+{
+    let mut steps = Steps::<L>::new(blank);
+    let mut sites = Still::new(alloc, 1000)?;
+    let mut links = Links::new(alloc);
+    links.grow(0, 1000)?;
+    links.fresh(500);
+    let _settled = settle(alloc, &mut sites, &mut links, 256, &mut steps)?;
+    Ok(sites.judged())
+}
+
+/// Of five lamps the last is lit. Each sweep hands the light on to one lamp more, so five sweeps
+/// fire one site each, and the sixth fires none.
+#[test]
+fn both_settlings_give_the_same(rt: HostRuntime) -> Result<(), Fail> {
+    let alloc = rt.alloc();
+    for turns in [0, 4, 5, 256] {
+        let mut one = Lamps::new(alloc, 5)?;
+        let mut other = Lamps::new(alloc, 5)?;
+        let first = settle_lamps::<Brand>(alloc, &mut one, turns, Blank::new(1))?;
+        let second = settle_lamps_plainly::<Brand>(alloc, &mut other, turns, Blank::new(1));
+        let wanted = if turns < 5 {
+            Err(Stop::TurnBudget)
+        } else {
+            Ok(Settled {
+                turns: 5,
+                fired: 5,
+                rejected: 0,
+                sent: 0,
+            })
+        };
+        assert_eq!(rt; first, wanted, "within {turns} turns");
+        assert_eq!(rt; second, wanted, "plainly, within {turns} turns");
+        if turns >= 5 {
+            assert_eq!(rt; one.lit.as_slice(), [true; 5].as_slice());
+            assert_eq!(rt; one.marks.as_slice(), [true; 5].as_slice());
+        }
+        assert_eq!(rt;
+            one.lit.as_slice(),
+            other.lit.as_slice(),
+            "within {turns} turns"
+        );
+        assert_eq!(rt;
+            one.marks.as_slice(),
+            other.marks.as_slice(),
+            "within {turns} turns"
+        );
+    }
+    Ok(())
+}
+
+/// Settles the lamps, each of whose sites is new.
+fn settle_lamps<L: Ledger>(
+    alloc: Global,
+    lamps: &mut Lamps,
+    turns: u32,
+    blank: Blank,
+) -> Result<Result<Settled, Stop>, Fail>
+    requires name { blank.name ≡ L.name }
+    requires parts { blank.parts ≡ L.parts }
+    requires some { 0 < L.parts }
+    requires few { length lamps.old.lit.items ≤ 4000000 }
+    requires turns { turns ≤ 256 }
+{
+    let mut steps = Steps::<L>::new(blank);
+    let mut links = Links::new(alloc);
+    let count = lamps.lit.len() as u32;
+    links.grow(count, count)?;
+    for site in 0..count {
+        links.fresh(site);
+    }
+    Ok(settle(alloc, lamps, &mut links, turns, &mut steps))
+}
+
+/// Settles the lamps by plain sweeps.
+fn settle_lamps_plainly<L: Ledger>(
+    alloc: Global,
+    lamps: &mut Lamps,
+    turns: u32,
+    blank: Blank,
+) -> Result<Settled, Stop>
+    requires name { blank.name ≡ L.name }
+    requires parts { blank.parts ≡ L.parts }
+    requires some { 0 < L.parts }
+    requires few { length lamps.old.lit.items ≤ 4000000 }
+    requires turns { turns ≤ 256 }
+{
+    let mut steps = Steps::<L>::new(blank);
+    let count = lamps.lit.len() as u32;
+    settle_plainly(alloc, lamps, count, turns, &mut steps)
+}

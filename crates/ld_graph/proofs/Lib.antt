@@ -1,0 +1,13 @@
+pub mod Bits
+pub mod Marking
+pub mod Bucketed
+pub mod Chains
+pub mod Moves
+pub mod Rowed
+pub mod Linking
+pub mod Written
+pub mod Graphs
+pub mod Changing
+pub mod Meeting
+pub mod Tables
+pub mod Growing

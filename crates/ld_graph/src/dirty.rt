@@ -1,0 +1,118 @@
+//! A set of sites.
+ghost use Rattle.std.specs.Prelude.{◌≡◌, ℕ, ◌^◌, ◌<◌, ◌≤◌, max, true, false, length, slice_set, replicate, IfOk, IsOk, OnErr, IfSome, IfNone};
+ghost use Rattle.ld_graph.specs.Table.{has};
+
+use crate::level::Level;
+use crate::levels::{clear_at, grow, next_at, set_at};
+use ld_base::memory::NoMemory;
+use std::alloc::Global;
+use std::marker::Model;
+
+// Each level has a bit for each word of 64 bits of the one below it. For 4,000,000 sites the highest
+// level has one word, and for as many as a u32 can count it has 256.
+const LEVELS: usize = 4;
+
+/// A set of sites below a number, its range, seen by contracts as a table with one entry for each
+/// number of the range.
+///
+/// The bits of the sites stand in words of 64. Above them stand smaller levels, in which a bit says
+/// that a word of the level below is not zero. So `next_from` passes over the empty words without a
+/// look at them.
+#[derive(Drop)]
+pub struct Dirty {
+    levels: [Level; LEVELS],
+    range: u32,
+}
+
+impl Model for Dirty {
+    ghost use Rattle.std.specs.Prelude.{◌≡◌, ℕ, ◌*◌, ◌^◌, ◌<◌, ◌≤◌, List, Bool, false, length};
+    ghost use Rattle.ld_graph.specs.Words.{bit, bits_of, lowest, AreLevels, IsTable};
+
+    ghost Value = { List Bool };
+
+    ghost view = { λ d. bits_of (lowest d.levels) d.range };
+
+    ghost invariant = { λ d. IsTable d.levels d.range };
+}
+
+impl Dirty {
+    /// The empty set, for sites below the number. Where that is 0, it takes no memory.
+    pub fn new(alloc: Global, sites: u32) -> Result<Dirty, NoMemory>
+        ensures none { sites ≡ 0 → IsOk result }
+        ensures fresh { IfOk result (λ d. d ≡ replicate sites false) }
+    {
+        let mut dirty = Dirty {
+            levels: [
+                Level::new(alloc),
+                Level::new(alloc),
+                Level::new(alloc),
+                Level::new(alloc),
+            ],
+            range: 0,
+        };
+        dirty.grow(sites)?;
+        Ok(dirty)
+    }
+
+    /// Puts a site of the range into the set.
+    pub fn set(&mut self, site: u32)
+        requires { site < length self.old }
+        ensures { self.new ≡ slice_set self.old site true }
+    {
+        set_at(&mut self.levels, site as usize);
+    }
+
+    /// Takes a site of the range out of the set.
+    pub fn clear(&mut self, site: u32)
+        requires { site < length self.old }
+        ensures { self.new ≡ slice_set self.old site false }
+    {
+        clear_at(&mut self.levels, site as usize);
+    }
+
+    /// The least site of the set that is at least this one, which may be out of range.
+    pub fn next_from(&self, site: u32) -> Option<u32>
+        ensures found { IfSome result (λ n. (site ≤ n) × (n < length self.now) × (has self.now n ≡ true)) }
+        ensures least { IfSome result (λ n. (k : ℕ) → site ≤ k → k < n → has self.now k ≡ false) }
+        ensures none { IfNone result ((k : ℕ) → site ≤ k → has self.now k ≡ false) }
+        ensures fits { length self.now < 2 ^ 32 }
+    {
+        let Some(next) = next_at(&self.levels, site as usize) else {
+            return None;
+        };
+        Some(next as u32)
+    }
+
+    /// Brings the sites below the number into range. The set stays the same, also where memory is
+    /// wanting, and the range never falls.
+    pub fn grow(&mut self, sites: u32) -> Result<(), NoMemory>
+        ensures ok { IfOk result (λ _. length self.new ≡ max (length self.old) sites) }
+        ensures err { OnErr result (self.new ≡ self.old) }
+        ensures same { (n : ℕ) → has self.new n ≡ has self.old n }
+        ensures within { sites ≤ length self.old → IsOk result }
+    {
+        if sites > self.range {
+            grow(&mut self.levels, sites as usize / 64 + 1)?;
+            self.range = sites;
+        }
+        Ok(())
+    }
+
+    /// Takes every site out of the set, in time that grows with their number and not with the range.
+    pub fn empty(&mut self)
+        ensures { self.new ≡ replicate (length self.old) false }
+    {
+        let mut from = 0;
+        'sites: while let Some(site) = self.next_from(from) {
+            self.clear(site);
+            from = site + 1;
+        }
+    }
+
+    /// The number below which sites are in range.
+    pub fn range(&self) -> u32
+        ensures { result ≡ length self.now }
+    {
+        self.range
+    }
+}

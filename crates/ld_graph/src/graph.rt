@@ -1,0 +1,278 @@
+//! A set of pairs of a slot and a site.
+ghost use Rattle.std.specs.Prelude.{◌≡◌, ◌≢◌, ℕ, ◌+◌, ◌<◌, ◌≤◌, ◌⊎◌, ◌↔◌, true, false, [], List, length, get_or, Contains, All, IfOk, OnErr};
+ghost use Rattle.ld_graph.specs.Slots.{AreDistinct};
+ghost use Rattle.ld_graph.specs.Edges.{Edges, IsLinked, Changes, Grows, edge_room};
+ghost use Rattle.ld_graph.specs.Readings.{rest};
+ghost use Rattle.ld_graph.specs.Table.{has};
+
+use crate::dirty::Dirty;
+use crate::edge::{Edge, NONE, set_before, set_edge, set_free, set_next};
+use crate::part::part;
+use crate::readers::{Readers, set_all};
+use crate::slots::SlotList;
+use ld_base::memory::NoMemory;
+use std::alloc::Global;
+use std::marker::Model;
+
+/// A set of edges, each a pair of a slot and a site, with room for more.
+///
+/// One vector holds the edges. Each stands in the list of its slot, linked both ways, and in the list
+/// of its site; the free ones stand in a list of their own. So to relink a site costs what its old and
+/// new edges are, whatever the others are, and takes no memory.
+#[derive(Drop)]
+pub struct Graph {
+    edges: Vec<Edge>,
+    // the first edge of each slot
+    firsts: Vec<u32>,
+    // the first edge of each site
+    site_firsts: Vec<u32>,
+    // the first free edge
+    free: u32,
+    // how many edges are free
+    spare: u32,
+}
+
+impl Model for Graph {
+    ghost use Rattle.std.specs.Prelude.{length};
+    ghost use Rattle.ld_graph.specs.Edges.{Edges};
+    ghost use Rattle.ld_graph.specs.Linked.{rows_of};
+
+    ghost Value = { Edges };
+
+    ghost use Rattle.ld_graph.specs.Columns.{slots_of, sites_of, IsGraph};
+
+    ghost view = { λ g. record { rows = rows_of (slots_of g.edges.items) (sites_of g.edges.items) (length g.site_firsts.items); slots = length g.firsts.items; spare = g.spare } };
+
+    ghost invariant = { λ g. IsGraph g.edges.items g.firsts.items g.site_firsts.items g.free g.spare };
+}
+
+impl Graph {
+    /// No edge, no slot and no site in range, which takes no memory.
+    pub fn new(alloc: Global) -> Graph
+        ensures rows { result.rows ≡ [] }
+        ensures slots { result.slots ≡ 0 }
+        ensures spare { result.spare ≡ 0 }
+    {
+        Graph {
+            edges: Vec::new(alloc),
+            firsts: Vec::new(alloc),
+            site_firsts: Vec::new(alloc),
+            free: NONE,
+            spare: 0,
+        }
+    }
+
+    /// Brings the slots and the sites below these numbers into range, and makes room for so many more
+    /// edges. The edges stay, also where memory is wanting, and neither ranges nor room fall.
+    pub fn reserve(&mut self, slots: u32, sites: u32, edges: u32) -> Result<(), NoMemory>
+        ensures ok { IfOk result (λ _. (slots ≤ self.new.slots) × (sites ≤ length self.new.rows) × (edges ≤ self.new.spare)) }
+        ensures rows { (i : ℕ) → get_or self.new.rows i [] ≡ get_or self.old.rows i [] }
+        ensures range { (length self.old.rows ≤ length self.new.rows) × (self.old.slots ≤ self.new.slots) }
+        ensures room { edge_room self.old ≤ edge_room self.new }
+        ensures grows { Grows self.old self.new }
+    {
+        self.grow_slots(slots)?;
+        self.grow_sites(sites)?;
+        self.grow_edges(edges)
+    }
+
+    /// The site's edges are afterwards those of these slots. It takes no memory, and costs what the
+    /// site's old edges and these slots are, whatever else the graph holds.
+    pub fn relink(&mut self, site: u32, slots: &SlotList)
+        requires site { site < length self.old.rows }
+        requires slots { (k : ℕ) → Contains slots.now.items k → k < self.old.slots }
+        requires spare { length slots.now.items ≤ self.old.spare + length (get_or self.old.rows site []) }
+        ensures own { (k : ℕ) → IsLinked self.new k site ↔ Contains slots.now.items k }
+        ensures others { (i : ℕ) → i ≢ site → get_or self.new.rows i [] ≡ get_or self.old.rows i [] }
+        ensures count { length (get_or self.new.rows site []) ≡ length slots.now.items }
+        ensures range { (length self.new.rows ≡ length self.old.rows) × (self.new.slots ≡ self.old.slots) }
+        ensures room { edge_room self.new ≡ edge_room self.old }
+        ensures changes { Changes self.old self.new site }
+    {
+        self.unlink(site);
+        self.put_all(site, slots.as_slice());
+    }
+
+    /// The site has no edge afterwards, and all other edges are as before.
+    pub fn unlink(&mut self, site: u32)
+        requires { site < length self.old.rows }
+        ensures own { get_or self.new.rows site [] ≡ [] }
+        ensures others { (i : ℕ) → i ≢ site → get_or self.new.rows i [] ≡ get_or self.old.rows i [] }
+        ensures range { (length self.new.rows ≡ length self.old.rows) × (self.new.slots ≡ self.old.slots) }
+        ensures room { edge_room self.new ≡ edge_room self.old }
+        ensures changes { Changes self.old self.new site }
+    {
+        'edges: while self.take_off(site) {}
+    }
+
+    /// The sites that have an edge to the slot. It costs what it gives.
+    pub fn readers(&self, slot: u32) -> Readers<'_>
+        requires { slot < self.now.slots }
+        ensures sites { (i : ℕ) → Contains (rest result) i ↔ IsLinked self.now slot i }
+        ensures once { AreDistinct (rest result) }
+        ensures range { All (λ i. i < length self.now.rows) (rest result) }
+    {
+        Readers {
+            edges: &self.edges,
+            at: self.firsts[slot as usize],
+            left: self.edges.len() as u32,
+        }
+    }
+
+    /// Puts each site that has an edge to the slot into the set.
+    pub fn set_readers(&self, slot: u32, dirty: &mut Dirty)
+        requires slot { slot < self.now.slots }
+        requires range { (i : ℕ) → IsLinked self.now slot i → i < length dirty.old }
+        ensures range { length dirty.new ≡ length dirty.old }
+        ensures keeps { (i : ℕ) → has dirty.old i ≡ true → has dirty.new i ≡ true }
+        ensures readers { (i : ℕ) → IsLinked self.now slot i → has dirty.new i ≡ true }
+        ensures only { (i : ℕ) → has dirty.new i ≡ true → (has dirty.old i ≡ true) ⊎ IsLinked self.now slot i }
+    {
+        set_all(self.readers(slot), dirty);
+    }
+
+    /// Leaves no edge. The ranges and the room stay.
+    pub fn clear(&mut self)
+        ensures none { (i : ℕ) → get_or self.new.rows i [] ≡ [] }
+        ensures range { (length self.new.rows ≡ length self.old.rows) × (self.new.slots ≡ self.old.slots) }
+        ensures room { edge_room self.new ≡ edge_room self.old }
+    {
+        for site in 0..self.sites() {
+            self.unlink(site);
+        }
+    }
+
+    /// The number below which sites are in range.
+    pub fn sites(&self) -> u32
+        ensures { result ≡ length self.now.rows }
+    {
+        self.site_firsts.len() as u32
+    }
+
+    /// Brings the slots below the number into range.
+    fn grow_slots(&mut self, slots: u32) -> Result<(), NoMemory>
+        ensures ok { IfOk result (λ _. slots ≤ self.new.slots) }
+        ensures grows { Grows self.old self.new }
+    {
+        if slots as usize > self.firsts.len() {
+            self.firsts.resize(slots as usize, NONE)?;
+        }
+        Ok(())
+    }
+
+    /// Brings the sites below the number into range.
+    fn grow_sites(&mut self, sites: u32) -> Result<(), NoMemory>
+        ensures ok { IfOk result (λ _. sites ≤ length self.new.rows) }
+        ensures grows { Grows self.old self.new }
+    {
+        if sites as usize > self.site_firsts.len() {
+            self.site_firsts.resize(sites as usize, NONE)?;
+        }
+        Ok(())
+    }
+
+    /// Makes room for so many more edges.
+    fn grow_edges(&mut self, edges: u32) -> Result<(), NoMemory>
+        ensures ok { IfOk result (λ _. edges ≤ self.new.spare) }
+        ensures grows { Grows self.old self.new }
+    {
+        'edges: while self.spare() < edges {
+            self.add_free()?;
+        }
+        Ok(())
+    }
+
+    /// How many more edges there is room for.
+    pub fn spare(&self) -> u32
+        ensures { result ≡ self.now.spare }
+    {
+        self.spare
+    }
+
+    /// Makes room for one more edge. Where memory is wanting nothing changes.
+    fn add_free(&mut self) -> Result<(), NoMemory>
+        ensures ok { IfOk result (λ _. self.new.spare ≡ self.old.spare + 1) }
+        ensures err { OnErr result (self.new ≡ self.old) }
+        ensures grows { Grows self.old self.new }
+    {
+        let count = self.edges.len();
+        if count >= NONE as usize {
+            return Err(NoMemory);
+        }
+        let edge = Edge {
+            slot: NONE,
+            site: NONE,
+            next: NONE,
+            before: NONE,
+            site_next: self.free,
+        };
+        self.edges.push(edge)?;
+        self.free = count as u32;
+        self.spare += 1;
+        Ok(())
+    }
+
+    /// Puts an edge for each of these slots to a site that has none.
+    fn put_all(&mut self, site: u32, slots: &[u32])
+        requires site { site < length self.old.rows }
+        requires empty { get_or self.old.rows site [] ≡ [] }
+        requires slots { (k : ℕ) → Contains slots.now k → k < self.old.slots }
+        requires once { AreDistinct slots.now }
+        requires spare { length slots.now ≤ self.old.spare }
+        ensures own { (k : ℕ) → IsLinked self.new k site ↔ Contains slots.now k }
+        ensures count { length (get_or self.new.rows site []) ≡ length slots.now }
+        ensures changes { Changes self.old self.new site }
+    {
+        for slot in slots {
+            self.put_on(*slot, site);
+        }
+    }
+
+    /// Takes away one edge of the site, if it has one.
+    fn take_off(&mut self, site: u32) -> bool
+        requires { site < length self.old.rows }
+        ensures none { result ≡ false → (get_or self.new.rows site [] ≡ []) × (self.new ≡ self.old) }
+        ensures some { result ≡ true → Changes self.old self.new site }
+        ensures less { result ≡ true → length (get_or self.new.rows site []) + 1 ≡ length (get_or self.old.rows site []) }
+    {
+        let first = self.site_firsts[site as usize];
+        if first == NONE {
+            return false;
+        }
+        let edge = self.edges[first as usize];
+        part(&mut self.edges, &mut self.firsts, edge);
+        self.site_firsts[site as usize] = edge.site_next;
+        set_free(&mut self.edges, first, self.free);
+        self.free = first;
+        self.spare += 1;
+        true
+    }
+
+    /// Puts an edge that is not there.
+    fn put_on(&mut self, slot: u32, site: u32)
+        requires slot { slot < self.old.slots }
+        requires site { site < length self.old.rows }
+        requires spare { 0 < self.old.spare }
+        requires new { IsLinked self.old slot site → ⊥ }
+        ensures changes { Changes self.old self.new site }
+        ensures more { length (get_or self.new.rows site []) ≡ length (get_or self.old.rows site []) + 1 }
+        ensures own { (k : ℕ) → IsLinked self.new k site ↔ ((k ≡ slot) ⊎ IsLinked self.old k site) }
+    {
+        let free = self.free;
+        let next = self.firsts[slot as usize];
+        let site_next = self.site_firsts[site as usize];
+        self.free = self.edges[free as usize].site_next;
+        let edge = Edge {
+            slot,
+            site,
+            next,
+            before: NONE,
+            site_next,
+        };
+        set_edge(&mut self.edges, free, edge);
+        set_before(&mut self.edges, next, free);
+        self.firsts[slot as usize] = free;
+        self.site_firsts[site as usize] = free;
+        self.spare -= 1;
+    }
+}

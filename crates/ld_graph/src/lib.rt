@@ -1,0 +1,11 @@
+//! A set of sites, a list of distinct slots, and a set of pairs of a slot and a site.
+#![tactic(auto)]
+
+pub mod dirty;
+mod edge;
+pub mod graph;
+mod level;
+mod levels;
+mod part;
+pub mod readers;
+pub mod slots;

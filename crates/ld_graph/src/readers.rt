@@ -1,0 +1,49 @@
+//! The sites that have an edge to a slot.
+ghost use Rattle.std.specs.Prelude.{◌≡◌, ℕ, ◌<◌, ◌⊎◌, true, length, All, Contains};
+ghost use Rattle.std.specs.Iterator.{YieldsFirst, item_count};
+ghost use Rattle.ld_graph.specs.Readings.{rest};
+ghost use Rattle.ld_graph.specs.Table.{has};
+
+use crate::dirty::Dirty;
+use crate::edge::Edge;
+
+/// The sites that have an edge to a slot, each once, in no stated order.
+#[derive(Drop)]
+pub struct Readers<'a> {
+    pub(crate) edges: &'a [Edge],
+    // the next edge of the slot
+    pub(crate) at: u32,
+    // a number of edges that those to come don't exceed
+    pub(crate) left: u32,
+}
+
+impl<'a> Iterator for Readers<'a> {
+    type Item = u32;
+
+    ghost next_gives = { YieldsFirst rest };
+
+    ghost remaining = { item_count rest };
+
+    fn next(&mut self) -> Option<u32> {
+        if self.left == 0 {
+            return None;
+        }
+        let edge = self.edges.get(self.at as usize)?;
+        self.at = edge.next;
+        self.left -= 1;
+        Some(edge.site)
+    }
+}
+
+/// Puts each of the sites into the set.
+pub(crate) fn set_all(sites: Readers<'_>, dirty: &mut Dirty)
+    requires { All (λ i. i < length dirty.old) (rest sites) }
+    ensures range { length dirty.new ≡ length dirty.old }
+    ensures keeps { (i : ℕ) → has dirty.old i ≡ true → has dirty.new i ≡ true }
+    ensures all { (i : ℕ) → Contains (rest sites.entry) i → has dirty.new i ≡ true }
+    ensures only { (i : ℕ) → has dirty.new i ≡ true → (has dirty.old i ≡ true) ⊎ Contains (rest sites.entry) i }
+{
+    for site in sites {
+        dirty.set(site);
+    }
+}
