@@ -1,0 +1,9 @@
+//! The store of the values of global properties: which uris are declared and how, the value of each
+//! key, and for each key the write that was its last, by a count of all writes.
+#![tactic(auto)]
+
+pub mod declared;
+pub mod faults;
+pub mod globals;
+mod key_number;
+mod recency;
