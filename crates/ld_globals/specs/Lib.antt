@@ -1,1 +1,4 @@
 pub mod Declarations
+pub mod Kept
+pub mod Recent
+pub mod Store

@@ -2,6 +2,8 @@
 //! key, and for each key the write that was its last, by a count of all writes.
 #![tactic(auto)]
 
+mod cell;
+pub mod changes;
 pub mod declared;
 pub mod faults;
 pub mod globals;

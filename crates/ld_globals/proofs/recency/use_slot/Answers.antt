@@ -1,0 +1,8 @@
+use Rattle.std.proofs.Common.{nat_eq, take, ◌∷◌, ◌-◌}
+use Rattle.std.specs.Map.{remove_entry}
+use Rattle.ld_globals.proofs.Recent.{put-there}
+use Rattle.ld_globals.proofs.recency.use_slot.Goals as goal
+
+pub returns-clause-slots : goal.returns-clause-slots
+returns-clause-slots c = let there = put-there c.args.slot c.args.number c.args.cache.now.entries ((c.args.slot, c.args.number) ∷ take (c.args.cache.now.cap - 1) c.args.cache.now.entries) (remove_entry (nat_eq c.args.slot) c.args.cache.now.entries) c.requires in
+    rw (c.in-Ok.ensures.entries) there
