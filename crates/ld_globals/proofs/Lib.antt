@@ -1,1 +1,3 @@
+pub mod Looked
+pub mod Numbers
 pub mod Recent

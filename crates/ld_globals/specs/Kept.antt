@@ -1,7 +1,8 @@
 -- How the program keeps the store: keys by numbers, and what holds of them.
-use Rattle.std.specs.Prelude.{◌≡◌, ◌≤◌, ◌<◌, ◌+◌, ℕ, List, [], length, map, slice_get, is_some, IsTrue, IfSome, Option, Some, None, option_map}
-use Rattle.std.specs.List.{AllByRecursion, slice_index_or}
-use Rattle.std.specs.Map.{values_of}
+use Rattle.std.specs.Prelude.{◌≡◌, ◌≤◌, ◌<◌, ◌+◌, ℕ, List, [], length, map, slice_get, is_some, true, false, IsTrue, IfSome, Option, Some, None, option_map}
+use Rattle.std.specs.List.{AllByRecursion, IsDistinct}
+use Rattle.std.specs.Map.{keys_of}
+use Rattle.std.specs.Str.{bytes_eq}
 use Rattle.ld_base.specs.Roomy.{Roomy}
 use Rattle.ld_value.specs.Datum.{datum_of}
 use Rattle.ld_globals.specs.Declarations.{Declaration, declaration_of, fits_declared, suits}
@@ -14,9 +15,18 @@ use Rattle.ld_globals.specs.declared.key_number.KeyNumber.{KeyNumber}
 abbrev pub pair_of : Roomy × Declared → List ℕ × Declaration
 pair_of e = (e.0.bytes, declaration_of e.1)
 
+-- The uri of an entry, and the text of a person; nothing where there is none.
+abbrev pub uri_in : Option (Roomy × Declared) → List ℕ
+uri_in None = []
+uri_in (Some e) = e.0.bytes
+
+abbrev pub text_in : Option (List ℕ) → List ℕ
+text_in None = []
+text_in (Some text) = text
+
 -- The key of these numbers, over the lists of declarations and of persons.
 abbrev pub key_of : List (Roomy × Declared) → List (List ℕ) → KeyNumber → Key
-key_of declared persons k = record { uri = slice_index_or (map (λ d. d.0.bytes) declared) k.uri []; person = option_map (λ p. slice_index_or persons p []) k.person }
+key_of declared persons k = record { uri = uri_in (slice_get declared k.uri); person = option_map (λ p. text_in (slice_get persons p)) k.person }
 
 -- The last write that the cell keeps.
 abbrev pub write_of : Cell → Write
@@ -30,15 +40,44 @@ written_of declared persons e = (key_of declared persons e.0, write_of e.1)
 abbrev pub IsWhole : Roomy × Declared → Type 0
 IsWhole e = IsTrue (fits_declared (declaration_of e.1) (option_map datum_of e.1.initial))
 
--- The key's numbers are of a declaration and of a person, as its kind wants; its value fits; and its write is one of the
--- store's.
-pub record IsCell (declared : List (Roomy × Declared)) (persons : List (List ℕ)) (stamp : ℕ) (e : KeyNumber × Cell) : Type 0 where
+-- The number, where there is one, is of a person.
+abbrev pub IsNumbered : List (List ℕ) → Option ℕ → Type 0
+IsNumbered persons None = Unit {0}
+IsNumbered persons (Some p) = (text : List ℕ) × (slice_get persons p ≡ Some text)
+
+-- The number is that of the person.
+abbrev pub IsPersonNumber : List (List ℕ) → Option (List ℕ) → Option ℕ → Type 0
+IsPersonNumber persons None None = Unit {0}
+IsPersonNumber persons (Some text) (Some p) = slice_get persons p ≡ Some text
+IsPersonNumber persons _ _ = ⊥
+
+-- The person is given, and has no number.
+abbrev pub IsUnknown : List (List ℕ) → Option (List ℕ) → Type 0
+IsUnknown persons None = ⊥
+IsUnknown persons (Some text) = AllByRecursion (λ other. bytes_eq text other ≡ false) persons
+
+-- The numbers are those of the key.
+pub record IsNumberOf (declared : List (Roomy × Declared)) (persons : List (List ℕ)) (key : Key) (k : KeyNumber) : Type 0 where
+  pub entry : Roomy × Declared
+  pub there : slice_get declared k.uri ≡ Some entry
+  pub same : bytes_eq key.uri entry.0.bytes ≡ true
+  pub person : IsPersonNumber persons key.person k.person
+
+-- No uri is declared twice, and no person has two numbers.
+abbrev pub IsNumbering : List (Roomy × Declared) → List (List ℕ) → Type 0
+IsNumbering declared persons = IsDistinct (λ a b. bytes_eq a.bytes b.bytes) (keys_of declared) × IsDistinct bytes_eq persons
+
+-- The key's numbers are of a declaration and of a person, as its kind wants, and its value fits.
+pub record IsCell (declared : List (Roomy × Declared)) (persons : List (List ℕ)) (e : KeyNumber × Cell) : Type 0 where
   pub entry : Roomy × Declared
   pub there : slice_get declared e.0.uri ≡ Some entry
-  pub person : IfSome e.0.person (λ p. p < length persons)
+  pub person : IsNumbered persons e.0.person
   pub suited : IsTrue (suits entry.1.kind (is_some e.0.person))
   pub fitting : IsTrue (fits_declared (declaration_of entry.1) (option_map datum_of e.1.value))
-  pub counted : (0 < e.1.number) × (e.1.number ≤ stamp)
+
+-- The cell's write is one of the store's.
+abbrev pub IsCounted : ℕ → KeyNumber × Cell → Type 0
+IsCounted stamp e = (0 < e.1.number) × (e.1.number ≤ stamp)
 
 -- The number of the write in the cell of the slot, 0 where there is no such cell.
 abbrev pub number_in : Option (KeyNumber × Cell) → ℕ

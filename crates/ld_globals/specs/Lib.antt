@@ -1,3 +1,4 @@
+pub mod Answers
 pub mod Declarations
 pub mod Kept
 pub mod Recent

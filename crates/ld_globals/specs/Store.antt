@@ -18,6 +18,9 @@ pub record Key : Type 0 where
   pub uri : List ℕ
   pub person : Option (List ℕ)
 
+abbrev pub key_at : List ℕ → Option (List ℕ) → Key
+key_at uri person = record { uri = uri; person = person }
+
 -- Whether the two are one key.
 abbrev pub same_key : Key → Key → Bool
 same_key a b = bytes_eq a.uri b.uri && option_eq bytes_eq a.person b.person

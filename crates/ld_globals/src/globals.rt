@@ -1,12 +1,13 @@
 //! The store of global values.
-ghost use Rattle.std.specs.Prelude.{◌≡◌, ◌≤◌, ◌<◌, [], ℕ, option_map, option_copied, Some, None};
+ghost use Rattle.std.specs.Prelude.{◌≡◌, ◌≤◌, ◌<◌, ◌+◌, [], ℕ, option_map, option_copied, Some, None};
 ghost use Rattle.ld_value.specs.Datum.{datum_of};
-ghost use Rattle.ld_globals.specs.Store.{get_answer};
+ghost use Rattle.ld_globals.specs.Answers.{got};
+ghost use Rattle.ld_globals.specs.Store.{get_answer, key_at};
 
 use crate::cell::Cell;
 use crate::declared::{Declared, DeclaredList, suits};
 use crate::faults::{DeclareFault, GlobalFault, SetFault};
-use crate::key_number::KeyNumber;
+use crate::key_number::{KeyNumber, find_cell};
 use crate::recency::Recency;
 use indexmap::{IndexMap, IndexSet};
 use ld_base::id::Id;
@@ -39,15 +40,16 @@ impl Model for Globals {
     ghost use Rattle.std.specs.List.{AllByRecursion};
     ghost use Rattle.indexmap.specs.IndexMap as by_key;
     ghost use Rattle.indexmap.specs.IndexSet as members;
-    ghost use Rattle.ld_globals.specs.Kept.{pair_of, written_of, IsWhole, IsCell, IsTied};
-    ghost use Rattle.ld_globals.specs.Store.{Store};
+    ghost use Rattle.ld_globals.specs.Kept.{pair_of, written_of, IsWhole, IsCell, IsCounted, IsTied, IsNumbering};
+    ghost use Rattle.ld_globals.specs.Answers.{got};
+ghost use Rattle.ld_globals.specs.Store.{Store};
 
     ghost Value = { Store };
 
     ghost view = { λ s. record { declared = map pair_of s.declared.entries; written = map (written_of s.declared.entries s.persons.keys) s.cells.entries; stamp = s.stamp; spare = s.spare } };
 
-    ghost invariant = { λ s. AllByRecursion IsWhole s.declared.entries
-        × AllByRecursion (IsCell s.declared.entries s.persons.keys s.stamp) s.cells.entries
+    ghost invariant = { λ s. IsNumbering s.declared.entries s.persons.keys × AllByRecursion IsWhole s.declared.entries
+        × AllByRecursion (IsCell s.declared.entries s.persons.keys) s.cells.entries × AllByRecursion (IsCounted s.stamp) s.cells.entries
         × AllByRecursion (IsTied s.cells.entries) s.recency
         × (s.spare ≤ members.spare s.persons) × (s.spare ≤ by_key.spare s.cells) × (length s.cells.entries + s.spare ≤ length s.recency) };
 }
@@ -73,5 +75,28 @@ impl Globals {
         ensures { result ≡ self.now.stamp }
     {
         self.stamp
+    }
+
+    /// The value of a key; None where it has none. It takes no memory, and counts as one step.
+    pub fn get<L: Ledger>(
+        &self,
+        uri: &Text,
+        person: Option<&Id>,
+        steps: &mut Steps<L>,
+    ) -> Result<Option<&Value>, GlobalFault>
+        ensures answer { got result ≡ get_answer self.now (key_at uri.now.bytes (option_copied person.entry)) }
+        ensures cost { steps.new ≡ steps.old + 1 }
+    {
+        steps.tick();
+        let Some(declared) = self.declared.get(uri) else {
+            return Err(GlobalFault::UnknownGlobal);
+        };
+        if !suits(declared.kind, person) {
+            return Err(GlobalFault::NotAllowed);
+        }
+        match find_cell(&self.declared, &self.persons, &self.cells, uri, person) {
+            Some(cell) => Ok(cell.value.as_ref()),
+            None => Ok(declared.initial.as_ref()),
+        }
     }
 }
