@@ -1,3 +1,4 @@
+pub mod Getting
 pub mod Looked
 pub mod Numbers
 pub mod Recent

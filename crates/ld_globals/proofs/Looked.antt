@@ -1,5 +1,5 @@
 -- Look-ups in a list whose entries are mapped, and in a list with distinct keys.
-use Rattle.std.proofs.Common.{◌≡◌, ℕ, zero, suc, List, [], ◌∷◌, map, slice_get, Bool, true, false, cond, nat_eq, ◌||◌, Option, Some, None, option_map, option_copied, Bor, subst, refl, sym, ap, ◌∙◌}
+use Rattle.std.proofs.Common.{◌≡◌, ℕ, zero, suc, List, [], ◌∷◌, map, slice_get, Bool, true, false, cond, nat_eq, ◌||◌, Option, Some, None, option_map, option_copied, is_some, Bor, subst, refl, sym, ap, ◌∙◌}
 use Rattle.std.proofs.lemmas.Bool.{eqb-true, eq-eqb, true≢false}
 use Rattle.std.specs.Cmp.Lexicographic.{bytes_decides}
 use Rattle.std.specs.List.{AllByRecursion, IsDistinct, find, list_any}
@@ -88,3 +88,7 @@ declared-found es uri = lookup-mapped (λ e. e.0.bytes) declaration_of (bytes_eq
 pub copied : {X Y : Type 0} (g : X → Y) (r : Option (Bor X)) → option_map (λ b. g b.now) r ≡ option_map g (option_copied r)
 copied g None = refl
 copied g (Some b) = refl
+
+pub some-copied : {X : Type 0} (r : Option (Bor X)) → is_some (option_copied r) ≡ is_some r
+some-copied None = refl
+some-copied (Some b) = refl

@@ -6,7 +6,7 @@ use Rattle.std.specs.Str.{bytes_eq}
 use Rattle.ld_base.specs.Roomy.{Roomy}
 use Rattle.ld_value.specs.Datum.{datum_of}
 use Rattle.ld_globals.specs.Declarations.{Declaration, declaration_of, fits_declared, suits}
-use Rattle.ld_globals.specs.Store.{Key, Write}
+use Rattle.ld_globals.specs.Store.{Key, Store, Write}
 use Rattle.ld_globals.specs.declared.cell.Cell.{Cell}
 use Rattle.ld_globals.specs.declared.declared.Declared.{Declared}
 use Rattle.ld_globals.specs.declared.key_number.KeyNumber.{KeyNumber}
@@ -35,6 +35,10 @@ write_of c = record { value = option_map datum_of c.value; number = c.number }
 -- The key and its last write.
 abbrev pub written_of : List (Roomy × Declared) → List (List ℕ) → KeyNumber × Cell → Key × Write
 written_of declared persons e = (key_of declared persons e.0, write_of e.1)
+
+-- The store that is kept so.
+abbrev pub store_of : List (Roomy × Declared) → List (List ℕ) → List (KeyNumber × Cell) → ℕ → ℕ → Store
+store_of declared persons cells stamp spare = record { declared = map pair_of declared; written = map (written_of declared persons) cells; stamp = stamp; spare = spare }
 
 -- The initial value fits.
 abbrev pub IsWhole : Roomy × Declared → Type 0

@@ -36,17 +36,17 @@ pub struct Globals {
 }
 
 impl Model for Globals {
-    ghost use Rattle.std.specs.Prelude.{◌≡◌, ◌≤◌, ◌+◌, map, length};
+    ghost use Rattle.std.specs.Prelude.{◌≡◌, ◌≤◌, ◌+◌, length};
     ghost use Rattle.std.specs.List.{AllByRecursion};
     ghost use Rattle.indexmap.specs.IndexMap as by_key;
     ghost use Rattle.indexmap.specs.IndexSet as members;
-    ghost use Rattle.ld_globals.specs.Kept.{pair_of, written_of, IsWhole, IsCell, IsCounted, IsTied, IsNumbering};
+    ghost use Rattle.ld_globals.specs.Kept.{store_of, IsWhole, IsCell, IsCounted, IsTied, IsNumbering};
     ghost use Rattle.ld_globals.specs.Answers.{got};
 ghost use Rattle.ld_globals.specs.Store.{Store};
 
     ghost Value = { Store };
 
-    ghost view = { λ s. record { declared = map pair_of s.declared.entries; written = map (written_of s.declared.entries s.persons.keys) s.cells.entries; stamp = s.stamp; spare = s.spare } };
+    ghost view = { λ s. store_of s.declared.entries s.persons.keys s.cells.entries s.stamp s.spare };
 
     ghost invariant = { λ s. IsNumbering s.declared.entries s.persons.keys × AllByRecursion IsWhole s.declared.entries
         × AllByRecursion (IsCell s.declared.entries s.persons.keys) s.cells.entries × AllByRecursion (IsCounted s.stamp) s.cells.entries
