@@ -2,3 +2,4 @@ pub mod Getting
 pub mod Looked
 pub mod Numbers
 pub mod Recent
+pub mod Written

@@ -8,16 +8,12 @@ use Rattle.std.specs.Map.{lookup, keys_of}
 use Rattle.std.specs.Option.{option_eq}
 use Rattle.std.specs.Str.{bytes_eq}
 use Rattle.ld_base.specs.Roomy.{Roomy}
-use Rattle.ld_globals.specs.Kept.{IsCell, IsNumbered, IsNumbering, IsNumberOf, IsPersonNumber, IsUnknown, key_of, write_of, written_of}
+use Rattle.ld_globals.specs.Kept.{IsCell, IsNumbered, IsNumbering, IsNumberOf, IsPersonNumber, IsUnknown, key_of, same_number, write_of, written_of}
 use Rattle.ld_globals.specs.Store.{Key, same_key}
 use Rattle.ld_globals.specs.declared.cell.Cell.{Cell}
 use Rattle.ld_globals.specs.declared.declared.Declared.{Declared}
 use Rattle.ld_globals.specs.declared.key_number.KeyNumber.{KeyNumber}
 use Rattle.ld_globals.proofs.Looked.{all-there, lookup-mapped, place-tells}
-
--- Whether the two are numbers of one key.
-abbrev pub same_number : KeyNumber → KeyNumber → Bool
-same_number a b = nat_eq a.uri b.uri && option_eq nat_eq a.person b.person
 
 module _ (declared : List (Roomy × Declared)) (persons : List (List ℕ)) (distinct : IsNumbering declared persons) where
   person-tells : (person : Option (List ℕ)) (p q : Option ℕ) → IsPersonNumber persons person p → IsNumbered persons q → option_eq nat_eq p q ≡ option_eq bytes_eq person (key_of declared persons (record { uri = 0; person = q })).person

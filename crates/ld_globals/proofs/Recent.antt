@@ -2,11 +2,15 @@
 use Rattle.std.proofs.Common.{◌≡◌, ℕ, zero, suc, ◌+◌, ◌-◌, ◌^◌, ◌<◌, ◌≤◌, List, [], ◌∷◌, ◌++◌, take, length, Bool, true, false, cond, nat_eq, IsSome, Option, Some, None, refl, sym, ap, subst, ◌∙◌, inl, inr, arith, length-append, add-one}
 use Rattle.std.proofs.lemmas.Bool.{cases_eq, eqb-true, eq-eqb, true≢false}
 use Rattle.std.proofs.lemmas.List.{take_all}
-use Rattle.std.specs.List.{AllByRecursion}
-use Rattle.std.specs.Map.{lookup, lookup_entry, remove_entry}
+use Rattle.std.specs.List.{AllByRecursion, IsDistinct}
+use Rattle.std.specs.Map.{keys_of, lookup, lookup_entry, remove_entry}
 use Rattle.std.specs.Option.{option_map_or}
-use Rattle.lru.proofs.Splits.{all_both}
+use Rattle.std.proofs.lemmas.Option.{slice_get_past}
+use Rattle.lru.proofs.Splits.{all_both, all_unmap}
 use Rattle.lru.specs.LruCache.{demoted}
+use Rattle.ld_globals.specs.Kept.{IsTied, number_in}
+use Rattle.ld_globals.specs.declared.cell.Cell.{Cell}
+use Rattle.ld_globals.specs.declared.key_number.KeyNumber.{KeyNumber}
 use Rattle.ld_globals.specs.Recent.{Falls, IsRecency, Grows}
 
 module _ {X : Type 0} where
@@ -112,3 +116,17 @@ slot-put n cap es below room = rw (put-absent n es below) (ap (λ l. (n, 0) ∷ 
 
 pub slot-last : (n : ℕ) (es : List (ℕ × ℕ)) → demoted (nat_eq n) ((n, 0) ∷ es) ≡ es ++ (n, 0) ∷ []
 slot-last n es = rw (eq-eqb n n refl) refl
+
+-- Without the slot no entry has it, where no slot stands twice.
+pub others-left : (slot : ℕ) (es : List (ℕ × ℕ)) → IsDistinct nat_eq (keys_of es) → AllByRecursion (λ e. nat_eq slot e.0 ≡ false) (remove_entry (nat_eq slot) es)
+unfolding IsDistinct
+others-left slot [] distinct = tt
+others-left slot (e ∷ es) distinct = by (others-left slot es distinct.1) (nat_eq slot e.0) refl
+  where
+    by : AllByRecursion (λ f. nat_eq slot f.0 ≡ false) (remove_entry (nat_eq slot) es) → (b : Bool) → nat_eq slot e.0 ≡ b → AllByRecursion (λ f. nat_eq slot f.0 ≡ false) (cond b es (e ∷ remove_entry (nat_eq slot) es))
+    by on true same = subst (λ s. AllByRecursion (λ f. nat_eq s f.0 ≡ false) es) (sym (eqb-true slot e.0 same)) (all_unmap (λ f. f.0) (λ s. nat_eq e.0 s ≡ false) es distinct.0)
+    by on false other = (other, on)
+
+-- Slots that were never used have no cell.
+pub tied-grown : (cells : List (KeyNumber × Cell)) (old new : List (ℕ × ℕ)) → length cells ≤ length old → AllByRecursion (IsTied cells) old → Grows old new → AllByRecursion (IsTied cells) new
+tied-grown cells old new fewer tied grows = subst (AllByRecursion (IsTied cells)) (sym grows.all) (all_both (IsTied cells) old grows.added tied (all-weaker grows.added (λ e unused. let far = unused.1 in unused.0 ∙ sym (ap number_in (slice_get_past cells e.0 (omega (arith, far, fewer))))) grows.unused))

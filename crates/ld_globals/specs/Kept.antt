@@ -1,7 +1,8 @@
 -- How the program keeps the store: keys by numbers, and what holds of them.
-use Rattle.std.specs.Prelude.{◌≡◌, ◌≤◌, ◌<◌, ◌+◌, ℕ, List, [], length, map, slice_get, is_some, true, false, IsTrue, IfSome, Option, Some, None, option_map}
+use Rattle.std.specs.Prelude.{◌≡◌, ◌≤◌, ◌<◌, ◌+◌, ℕ, List, [], length, map, slice_get, is_some, Bool, true, false, ◌&&◌, nat_eq, IsTrue, IfSome, Option, Some, None, option_map}
 use Rattle.std.specs.List.{AllByRecursion, IsDistinct}
 use Rattle.std.specs.Map.{keys_of}
+use Rattle.std.specs.Option.{option_eq}
 use Rattle.std.specs.Str.{bytes_eq}
 use Rattle.ld_base.specs.Roomy.{Roomy}
 use Rattle.ld_value.specs.Datum.{datum_of}
@@ -43,6 +44,10 @@ store_of declared persons cells stamp spare = record { declared = map pair_of de
 -- The initial value fits.
 abbrev pub IsWhole : Roomy × Declared → Type 0
 IsWhole e = IsTrue (fits_declared (declaration_of e.1) (option_map datum_of e.1.initial))
+
+-- Whether the two are numbers of one key.
+abbrev pub same_number : KeyNumber → KeyNumber → Bool
+same_number a b = nat_eq a.uri b.uri && option_eq nat_eq a.person b.person
 
 -- The number, where there is one, is of a person.
 abbrev pub IsNumbered : List (List ℕ) → Option ℕ → Type 0

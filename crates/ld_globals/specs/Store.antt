@@ -1,5 +1,5 @@
 -- The store of global values, as contracts see it.
-use Rattle.std.specs.Prelude.{◌≡◌, ◌≢◌, ◌≤◌, ℕ, ◌+◌, ◌-◌, ◌^◌, min, List, ◌∷◌, ◌++◌, [], take, slice_get, Bool, true, false, ◌&&◌, ◌||◌, ◌==◌, nat_lt, is_some, if◌then◌else◌, IsTrue, Option, Some, None, option_map, Result, Ok, Err}
+use Rattle.std.specs.Prelude.{◌≡◌, ◌≢◌, ◌≤◌, ℕ, ◌+◌, ◌-◌, ◌^◌, min, max, List, ◌∷◌, ◌++◌, [], take, slice_get, Bool, true, false, ◌&&◌, ◌||◌, ◌==◌, nat_lt, is_some, if◌then◌else◌, IsTrue, Option, Some, None, option_map, Result, Ok, Err}
 use Rattle.std.specs.List.{fold, AllByRecursion}
 use Rattle.std.specs.Map.{lookup}
 use Rattle.std.specs.Option.{option_and_then, option_eq}
@@ -7,7 +7,7 @@ use Rattle.std.specs.Str.{bytes_eq}
 use Rattle.indexmap.specs.IndexMap.{insert_entry}
 use Rattle.ld_value.specs.Datum.{Datum, same_datum}
 use Rattle.ld_value.specs.Values.{value_of, fits_in}
-use Rattle.ld_globals.specs.Declarations.{Declaration, suits}
+use Rattle.ld_globals.specs.Declarations.{Declaration, fits_declared, suits}
 use Rattle.ld_globals.specs.declared.faults.GlobalFault.{GlobalFault}
 use Rattle.ld_globals.specs.declared.faults.GlobalFault.TheVariants as getting
 use Rattle.ld_globals.specs.declared.faults.SetFault.{SetFault}
@@ -119,6 +119,17 @@ put_in store key value =
 -- The store with one write less to spare.
 abbrev pub spend : Store → Store
 spend store = record store { spare = store.spare - 1 }
+
+-- The store with so many writes to spare, or more where it had more.
+abbrev pub reserve_in : Store → ℕ → Store
+reserve_in store writes = record store { spare = max store.spare writes }
+
+-- The key may be given the value: its uri is declared, a person is given as the kind wants, and the value fits.
+pub record IsWritable (store : Store) (key : Key) (value : Option Datum) : Type 0 where
+  pub declaration : Declaration
+  pub declared : declared_at store key.uri ≡ Some declaration
+  pub suited : IsTrue (suits declaration.kind (is_some key.person))
+  pub fitting : IsTrue (fits_declared declaration value)
 
 -- The text's value, if it has one of the datatype that meets the restrictions.
 unfoldable pub value_in : Declaration → List ℕ → Option Datum

@@ -1,6 +1,7 @@
 //! How a global property is declared.
 ghost use Rattle.std.specs.Prelude.{◌≡◌, ◌↔◌, IsTrue, option_map, is_some, map};
-ghost use Rattle.ld_value.specs.Datum.{datum_of};
+ghost use Rattle.std.specs.Option.{option_eq};
+ghost use Rattle.ld_value.specs.Datum.{datum_of, same_datum};
 ghost use Rattle.ld_value.specs.Values.{restrictions_of};
 ghost use Rattle.ld_globals.specs.Declarations.{declaration_of, suits as is_suited};
 
@@ -66,7 +67,8 @@ fn same_limits(first: &Limits, second: &Limits) -> bool
 
 /// Whether both are absent or are one value.
 pub(crate) fn same_optional(first: &Option<Value>, second: &Option<Value>) -> bool
-    ensures { IsTrue result ↔ (option_map datum_of first.now ≡ option_map datum_of second.now) }
+    ensures test { result ≡ option_eq same_datum (option_map datum_of first.now) (option_map datum_of second.now) }
+    ensures same { IsTrue result ↔ (option_map datum_of first.now ≡ option_map datum_of second.now) }
 {
     match (first, second) {
         (Some(a), Some(b)) => same_value(a, b),

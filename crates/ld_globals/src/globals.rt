@@ -1,14 +1,15 @@
 //! The store of global values.
-ghost use Rattle.std.specs.Prelude.{◌≡◌, ◌≤◌, ◌<◌, ◌+◌, [], ℕ, option_map, option_copied, Some, None};
+ghost use Rattle.std.specs.Prelude.{◌≡◌, ◌≤◌, ◌<◌, ◌+◌, [], ℕ, option_map, option_copied, Some, None, OnOk, OnErr};
 ghost use Rattle.ld_value.specs.Datum.{datum_of};
 ghost use Rattle.ld_globals.specs.Answers.{got};
-ghost use Rattle.ld_globals.specs.Store.{get_answer, key_at};
+ghost use Rattle.ld_globals.specs.Store.{IsWritable, get_answer, key_at, put_in, reserve_in, spend};
 
 use crate::cell::Cell;
 use crate::declared::{Declared, DeclaredList, suits};
 use crate::faults::{DeclareFault, GlobalFault, SetFault};
 use crate::key_number::{KeyNumber, find_cell};
 use crate::recency::Recency;
+use crate::writing::{has_value, number_person, write_cell};
 use indexmap::{IndexMap, IndexSet};
 use ld_base::id::Id;
 use ld_base::memory::NoMemory;
@@ -98,5 +99,62 @@ impl Globals {
             Some(cell) => Ok(cell.value.as_ref()),
             None => Ok(declared.initial.as_ref()),
         }
+    }
+
+    /// Makes sure that so many writes need no memory. Where memory is wanting the store stays as it was.
+    pub fn reserve(&mut self, writes: u32) -> Result<(), NoMemory>
+        ensures ok { OnOk result (self.new ≡ reserve_in self.old writes) }
+        ensures err { OnErr result (self.new ≡ self.old) }
+    {
+        self.make_room(writes as usize)
+    }
+
+    /// Gives the key the value. It takes no memory, and one of the writes that are to spare.
+    pub fn put(&mut self, uri: Text, person: Option<Id>, value: Option<Value>)
+        requires spare { 0 < self.old.spare }
+        requires writable { IsWritable self.old (key_at uri.bytes person) (option_map datum_of value) }
+        ensures { self.new ≡ spend (put_in self.old (key_at uri.bytes person) (option_map datum_of value)) }
+    {
+        self.spare -= 1;
+        if has_value(
+            &self.declared,
+            &self.persons,
+            &self.cells,
+            &uri,
+            person.as_ref(),
+            &value,
+        ) {
+            return;
+        }
+        let Some((uri, _, _)) = self.declared.get_full(&uri) else {
+            unreachable!();
+        };
+        let person = number_person(&mut self.persons, person);
+        let number = self.stamp.saturating_add(1);
+        let slot = write_cell(
+            &mut self.cells,
+            KeyNumber { uri, person },
+            Cell { value, number },
+        );
+        self.recency.touch(slot, number);
+        self.stamp = number;
+    }
+
+    /// Makes room for so many writes, as `reserve` does.
+    fn make_room(&mut self, room: usize) -> Result<(), NoMemory>
+        ensures ok { OnOk result (self.new ≡ reserve_in self.old room) }
+        ensures err { OnErr result (self.new ≡ self.old) }
+    {
+        if room <= self.spare {
+            return Ok(());
+        }
+        let Some(slots) = self.cells.len().checked_add(room) else {
+            return Err(NoMemory);
+        };
+        self.persons.reserve(room)?;
+        self.cells.reserve(room)?;
+        self.recency.grow_to(slots)?;
+        self.spare = room;
+        Ok(())
     }
 }

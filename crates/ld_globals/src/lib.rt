@@ -9,3 +9,4 @@ pub mod faults;
 pub mod globals;
 mod key_number;
 mod recency;
+mod writing;

@@ -1,5 +1,5 @@
 //! Slots in the order of their last use.
-ghost use Rattle.std.specs.Prelude.{◌≡◌, ◌≤◌, ◌<◌, ◌-◌, ◌^◌, [], ◌∷◌, ◌++◌, length, nat_eq, OnOk, OnErr, IsSome};
+ghost use Rattle.std.specs.Prelude.{◌≡◌, ◌≤◌, ◌<◌, ◌-◌, ◌^◌, [], ◌∷◌, ◌++◌, length, nat_eq, false, OnOk, OnErr, IsSome};
 ghost use Rattle.std.specs.List.{AllByRecursion};
 ghost use Rattle.std.specs.Map.{lookup, remove_entry};
 ghost use Rattle.ld_globals.specs.Recent.{Grows, IsRecency};
@@ -61,7 +61,9 @@ impl Recency {
     pub(crate) fn touch(&mut self, slot: usize, number: u64)
         requires slot { slot < length self.old }
         requires latest { AllByRecursion (λ e. e.1 ≤ number) self.old }
-        ensures { self.new ≡ (slot, number) ∷ remove_entry (nat_eq slot) self.old }
+        ensures slots { self.new ≡ (slot, number) ∷ remove_entry (nat_eq slot) self.old }
+        ensures others { AllByRecursion (λ e. nat_eq slot e.0 ≡ false) (remove_entry (nat_eq slot) self.old) }
+        ensures count { length self.new ≡ length self.old }
     {
         let Some(cache) = &mut self.cache else {
             unreachable!();
@@ -88,8 +90,12 @@ impl Recency {
 fn use_slot(cache: &mut LruCache<usize, u64>, slot: usize, number: u64)
     requires { IsSome (lookup (nat_eq slot) cache.old.entries) }
     ensures slots { cache.new.entries ≡ (slot, number) ∷ remove_entry (nat_eq slot) cache.old.entries }
+    ensures others { AllByRecursion (λ e. nat_eq slot e.0 ≡ false) (remove_entry (nat_eq slot) cache.old.entries) }
+    ensures count { length cache.new.entries ≡ length cache.old.entries }
     ensures cap { cache.new.cap ≡ cache.old.cap }
 {
+    // No slot stands twice, as the call of `len` says.
+    let _count = cache.len();
     let Ok(_) = cache.put(slot, number) else {
         unreachable!();
     };
