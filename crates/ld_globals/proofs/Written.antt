@@ -1,19 +1,21 @@
 -- What a write leaves, part by part.
-use Rattle.std.proofs.Common.{◌≡◌, ◌≢◌, ℕ, zero, suc, ◌+◌, ◌<◌, ◌≤◌, List, [], ◌∷◌, ◌++◌, map, slice_get, length, Bool, true, false, cond, not, ◌&&◌, nat_eq, Option, Some, None, option_map, refl, sym, ap, subst, ◌∙◌, arith}
+use Rattle.std.proofs.Common.{◌≡◌, ◌≢◌, ℕ, zero, suc, ◌+◌, ◌<◌, ◌≤◌, List, [], ◌∷◌, ◌++◌, map, slice_get, length, Bool, true, false, cond, not, ◌&&◌, nat_eq, is_some, IsTrue, Option, Some, None, option_map, refl, sym, ap, subst, ◌∙◌, arith}
 use Rattle.std.proofs.lemmas.Bool.{and_parts, eqb-true, eq-eqb, true≢false}
 use Rattle.std.specs.Cmp.Lexicographic.{bytes_decides}
 use Rattle.std.specs.List.{AllByRecursion, position_or_len}
-use Rattle.std.specs.Map.{keys_of, remove_entry}
+use Rattle.std.specs.Map.{keys_of, lookup}
 use Rattle.std.specs.Option.{option_eq}
 use Rattle.std.specs.Str.{bytes_eq}
 use Rattle.indexmap.specs.IndexMap.{insert_entry}
 use Rattle.ld_base.specs.Roomy.{Roomy}
-use Rattle.ld_globals.specs.Kept.{IsCell, IsCounted, IsNumbered, IsNumbering, IsNumberOf, IsPersonNumber, IsTied, key_of, number_in, same_number, write_of, written_of}
-use Rattle.ld_globals.specs.Store.{Key, same_key}
+use Rattle.ld_value.specs.Datum.{Datum, datum_of, same_datum}
+use Rattle.ld_globals.specs.Declarations.{Declaration, declaration_of, fits_declared, suits}
+use Rattle.ld_globals.specs.Kept.{pair_of, IsCell, IsCounted, IsNumbered, IsNumbering, IsNumberOf, IsPersonNumber, IsTied, key_of, number_in, same_number, write_of, written_of}
+use Rattle.ld_globals.specs.Store.{Key, Store, declared_in, next_stamp, put_in, same_key, value_at}
 use Rattle.ld_globals.specs.declared.cell.Cell.{Cell}
 use Rattle.ld_globals.specs.declared.declared.Declared.{Declared}
 use Rattle.ld_globals.specs.declared.key_number.KeyNumber.{KeyNumber}
-use Rattle.ld_globals.proofs.Looked.{all-there}
+use Rattle.ld_globals.proofs.Looked.{all-there, declared-found}
 use Rattle.ld_globals.proofs.Numbers.{numbers-tell}
 use Rattle.ld_globals.proofs.Recent.{all-weaker}
 
@@ -152,3 +154,41 @@ numbers-counted cells stamp next more counted (e ∷ es) tied = (subst (λ n. n 
     below : (c : Option (KeyNumber × Cell)) → ((d : KeyNumber × Cell) → c ≡ Some d → IsCounted stamp d) → number_in c ≤ next
     below None each = omega arith
     below (Some d) each = let less = (each d refl).1 in omega (arith, less, more)
+
+-- ---- the cell of a writable key
+
+module _ (declared : List (Roomy × Declared)) (persons : List (List ℕ)) (key : Key) (k : KeyNumber) (number : IsNumberOf declared persons key k) where
+  numbered : (person : Option (List ℕ)) (p : Option ℕ) → IsPersonNumber persons person p → IsNumbered persons p × (is_some p ≡ is_some person)
+  numbered None None is = (tt, refl)
+  numbered (Some text) (Some p) is = ((text, is), refl)
+  numbered None (Some p) is = elim is [ ]
+  numbered (Some text) None is = elim is [ ]
+
+  pub new-cell : (c : Cell) (d : Declaration) → declaration_of number.entry.1 ≡ d → IsTrue (suits d.kind (is_some key.person)) → IsTrue (fits_declared d (option_map datum_of c.value)) → IsCell declared persons (k, c)
+  new-cell c d is suited fitting =
+      let person = numbered key.person k.person number.person in
+      record { entry = number.entry; there = number.there; person = person.0; suited = subst (λ b. IsTrue (suits number.entry.1.kind b)) (sym person.1) (subst (λ t. IsTrue (suits t.kind (is_some key.person))) (sym is) suited); fitting = subst (λ t. IsTrue (fits_declared t (option_map datum_of c.value))) (sym is) fitting }
+
+-- How a uri is declared tells the entry that declares it.
+pub declaring : (es : List (Roomy × Declared)) (uri : List ℕ) (d : Declaration) → declared_in (map pair_of es) uri ≡ Some d → (e : Declared) × (lookup (λ k. bytes_eq uri k.bytes) es ≡ Some e)
+declaring es uri d is = by (lookup (λ k. bytes_eq uri k.bytes) es) refl (sym (declared-found es uri) ∙ is)
+  where
+    by : (o : Option Declared) → lookup (λ k. bytes_eq uri k.bytes) es ≡ o → option_map declaration_of (lookup (λ k. bytes_eq uri k.bytes) es) ≡ Some d → (e : Declared) × (lookup (λ k. bytes_eq uri k.bytes) es ≡ Some e)
+    by None found is = let none : None ≡ Some d = sym (ap (option_map declaration_of) found) ∙ is in cc
+    by (Some e) found is = (e, found)
+
+pub declaration-is : (es : List (Roomy × Declared)) (uri : List ℕ) (d : Declaration) (e : Declared) → declared_in (map pair_of es) uri ≡ Some d → lookup (λ k. bytes_eq uri k.bytes) es ≡ Some e → declaration_of e ≡ d
+declaration-is es uri d e is found =
+    let same : Some (declaration_of e) ≡ Some d = sym (ap (option_map declaration_of) found) ∙ sym (declared-found es uri) ∙ is in
+    cc
+
+-- ---- putting a value
+
+pub put-same : (store : Store) (key : Key) (value : Option Datum) → option_eq same_datum (value_at store key) value ≡ true → put_in store key value ≡ store
+unfolding put_in
+put-same store key value same = rw (same) refl
+
+pub put-other : (store : Store) (key : Key) (value : Option Datum) → option_eq same_datum (value_at store key) value ≡ false
+    → put_in store key value ≡ record store { written = insert_entry same_key store.written key (record { value = value; number = next_stamp store.stamp }); stamp = next_stamp store.stamp }
+unfolding put_in
+put-other store key value other = rw (other) refl

@@ -9,7 +9,7 @@ use crate::declared::{Declared, DeclaredList, suits};
 use crate::faults::{DeclareFault, GlobalFault, SetFault};
 use crate::key_number::{KeyNumber, find_cell};
 use crate::recency::Recency;
-use crate::writing::{has_value, number_person, write_cell};
+use crate::writing::{has_value, next_number, number_person, write_cell};
 use indexmap::{IndexMap, IndexSet};
 use ld_base::id::Id;
 use ld_base::memory::NoMemory;
@@ -130,7 +130,7 @@ impl Globals {
             unreachable!();
         };
         let person = number_person(&mut self.persons, person);
-        let number = self.stamp.saturating_add(1);
+        let number = next_number(self.stamp);
         let slot = write_cell(
             &mut self.cells,
             KeyNumber { uri, person },

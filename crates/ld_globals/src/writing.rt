@@ -9,7 +9,7 @@ ghost use Rattle.indexmap.specs.IndexSet as members;
 ghost use Rattle.ld_value.specs.Datum.{datum_of, same_datum};
 ghost use Rattle.ld_globals.specs.Declarations.{declaration_of, fits_declared, suits};
 ghost use Rattle.ld_globals.specs.Kept.{IsCell, IsNumbering, IsPersonNumber, same_number, store_of};
-ghost use Rattle.ld_globals.specs.Store.{key_at, same_key, value_at};
+ghost use Rattle.ld_globals.specs.Store.{key_at, next_stamp, value_at};
 ghost use Rattle.ld_globals.specs.declared.declared.Declared.{Declared};
 
 use crate::cell::Cell;
@@ -77,4 +77,13 @@ pub(crate) fn write_cell(
         unreachable!();
     };
     slot
+}
+
+/// The number of one write more, up to the last number, which stays.
+pub(crate) fn next_number(stamp: u64) -> u64
+    ensures next { result ≡ next_stamp stamp }
+    ensures some { 0 < result }
+    ensures more { stamp ≤ result }
+{
+    stamp.saturating_add(1)
 }
