@@ -1,5 +1,7 @@
+pub mod Pairs
 pub mod Getting
 pub mod Looked
 pub mod Numbers
+pub mod Texts
 pub mod Recent
 pub mod Written

@@ -1,5 +1,5 @@
 -- How the program keeps the store: keys by numbers, and what holds of them.
-use Rattle.std.specs.Prelude.{◌≡◌, ◌≤◌, ◌<◌, ◌+◌, ℕ, List, [], length, map, slice_get, is_some, Bool, true, false, ◌&&◌, nat_eq, IsTrue, IfSome, Option, Some, None, option_map}
+use Rattle.std.specs.Prelude.{◌≡◌, ◌≤◌, ◌<◌, ◌++◌, ℕ, List, [], length, map, slice_get, is_some, Bool, true, false, ◌&&◌, nat_eq, IsTrue, IfSome, Option, Some, None, option_map}
 use Rattle.std.specs.List.{AllByRecursion, IsDistinct}
 use Rattle.std.specs.Map.{keys_of}
 use Rattle.std.specs.Option.{option_eq}
@@ -48,6 +48,10 @@ IsWhole e = IsTrue (fits_declared (declaration_of e.1) (option_map datum_of e.1.
 -- Whether the two are numbers of one key.
 abbrev pub same_number : KeyNumber → KeyNumber → Bool
 same_number a b = nat_eq a.uri b.uri && option_eq nat_eq a.person b.person
+
+-- Whole entries were put at the end.
+abbrev pub Extends : List (Roomy × Declared) → List (Roomy × Declared) → Type 0
+Extends old new = (added : List (Roomy × Declared)) × (new ≡ old ++ added) × AllByRecursion IsWhole added
 
 -- The number, where there is one, is of a person.
 abbrev pub IsNumbered : List (List ℕ) → Option ℕ → Type 0

@@ -150,6 +150,12 @@ set_declared (Some d) key text = set_value (suits d.kind (is_some key.person)) (
 abbrev pub set_answer : Store → Key → List ℕ → Result Datum SetFault
 set_answer store key text = set_declared (declared_at store key.uri) key text
 
+-- The key was given the value that the text has.
+pub record IsSet (old new : Store) (key : Key) (text : List ℕ) : Type 0 where
+  pub value : Datum
+  pub answer : set_answer old key text ≡ Ok value
+  pub put : new ≡ put_in old key (Some value)
+
 -- ---- what was written since
 
 -- The write came after the stamp; after the last stamp every write counts.

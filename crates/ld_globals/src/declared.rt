@@ -22,13 +22,23 @@ pub enum GlobalKind {
 }
 
 /// How a global property is declared.
-#[derive(Drop)]
 pub struct Declared {
     pub kind: GlobalKind,
     pub datatype: Kind,
     pub limits: Limits,
     /// The value of a key that was never written.
     pub initial: Option<Value>,
+}
+
+impl Drop for Declared {
+    fn drop(self) {
+        let Declared {
+            kind: _,
+            datatype: _,
+            limits: _,
+            initial: _,
+        } = self;
+    }
 }
 
 /// A list of uris, each with how it is declared.

@@ -1,13 +1,19 @@
 //! The store of global values.
-ghost use Rattle.std.specs.Prelude.{◌≡◌, ◌≤◌, ◌<◌, ◌+◌, [], ℕ, option_map, option_copied, Some, None, OnOk, OnErr};
+ghost use Rattle.std.specs.Prelude.{◌≡◌, ◌≤◌, ◌<◌, ◌+◌, [], ℕ, option_map, option_copied, Some, None, Ok, Err, OnOk, OnErr, IfOk, IfErr, ◌≢◌, map};
+ghost use Rattle.std.specs.List.{AllByRecursion, IsDistinct};
+ghost use Rattle.std.specs.Map.{keys_of};
+ghost use Rattle.std.specs.Str.{bytes_eq};
 ghost use Rattle.ld_value.specs.Datum.{datum_of};
 ghost use Rattle.ld_globals.specs.Answers.{got};
-ghost use Rattle.ld_globals.specs.Store.{IsWritable, get_answer, key_at, put_in, reserve_in, spend};
+ghost use Rattle.ld_globals.specs.Kept.{IsWhole, pair_of};
+ghost use Rattle.ld_globals.specs.Store.{Agrees, IsFirstToDiffer, IsSet, IsWritable, declare_in, get_answer, key_at, put_in, reserve_in, set_answer, spend};
 
 use crate::cell::Cell;
+use crate::declaring::{declare_pairs, first_to_differ};
 use crate::declared::{Declared, DeclaredList, suits};
 use crate::faults::{DeclareFault, GlobalFault, SetFault};
 use crate::key_number::{KeyNumber, find_cell};
+use crate::reading::{copy_person, read_declared};
 use crate::recency::Recency;
 use crate::writing::{has_value, next_number, number_person, write_cell};
 use indexmap::{IndexMap, IndexSet};
@@ -138,6 +144,59 @@ impl Globals {
         );
         self.recency.touch(slot, number);
         self.stamp = number;
+    }
+
+    /// Gives the key the text's value. It may take memory, and leaves as many writes to spare as before.
+    /// Every refusal leaves the store as it was.
+    pub fn set(&mut self, uri: &Text, person: Option<&Id>, text: &str) -> Result<(), SetFault>
+        ensures ok { OnOk result (IsSet self.old self.new (key_at uri.now.bytes (option_copied person.entry)) text.now) }
+        ensures refused { IfErr result (λ fault. fault ≢ SetFault.NoMemory → set_answer self.old (key_at uri.now.bytes (option_copied person.entry)) text.now ≡ Err fault) }
+        ensures err { OnErr result (self.new ≡ self.old) }
+    {
+        let value = self.read(uri, person, text)?;
+        let person = copy_person(person)?;
+        let uri = Text::of(self.alloc, uri.as_str())?;
+        let Some(room) = self.spare.checked_add(1) else {
+            return Err(SetFault::NoMemory);
+        };
+        self.make_room(room)?;
+        self.put(uri, person, Some(value));
+        Ok(())
+    }
+
+    /// The value that the key may be set to by the text.
+    fn read(&self, uri: &Text, person: Option<&Id>, text: &str) -> Result<Value, SetFault>
+        ensures ok { IfOk result (λ v. set_answer self.now (key_at uri.now.bytes (option_copied person.entry)) text.now ≡ Ok (datum_of v)) }
+        ensures refused { IfErr result (λ fault. fault ≢ SetFault.NoMemory → set_answer self.now (key_at uri.now.bytes (option_copied person.entry)) text.now ≡ Err fault) }
+    {
+        let Some(declared) = self.declared.get(uri) else {
+            return Err(SetFault::UnknownGlobal);
+        };
+        read_declared(self.alloc, declared, person, text)
+    }
+
+    /// Declares all uris of the list, or none. A uri that is declared already stays as it is; where one of
+    /// them is declared with other contents the list is refused. The values of the store stay.
+    pub fn declare(&mut self, list: DeclaredList) -> Result<(), DeclareFault>
+        requires differ { IsDistinct bytes_eq (keys_of (map pair_of list)) }
+        requires whole { AllByRecursion IsWhole list }
+        ensures ok { OnOk result (self.new ≡ declare_in self.old (map pair_of list)) }
+        ensures agree { OnOk result (AllByRecursion (Agrees self.old) (map pair_of list)) }
+        ensures differs { (place : ℕ) → result ≡ Err (DeclareFault.Differs place) → IsFirstToDiffer self.old (map pair_of list) place }
+        ensures err { OnErr result (self.new ≡ self.old) }
+    {
+        let pairs = list.into_vec();
+        if let Some(place) = first_to_differ(&self.declared, &pairs) {
+            let Ok(place) = u32::try_from(place) else {
+                return Err(DeclareFault::NoMemory);
+            };
+            return Err(DeclareFault::Differs(place));
+        }
+        if let Err(_) = self.declared.reserve(pairs.len()) {
+            return Err(DeclareFault::NoMemory);
+        }
+        declare_pairs(&mut self.declared, pairs);
+        Ok(())
     }
 
     /// Makes room for so many writes, as `reserve` does.

@@ -3,10 +3,12 @@
 #![tactic(auto)]
 
 mod cell;
+mod declaring;
 pub mod changes;
 pub mod declared;
 pub mod faults;
 pub mod globals;
 mod key_number;
+mod reading;
 mod recency;
 mod writing;
