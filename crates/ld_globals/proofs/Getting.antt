@@ -6,10 +6,11 @@ use Rattle.ld_base.specs.Roomy.{Roomy}
 use Rattle.ld_value.specs.Datum.{datum_of}
 use Rattle.ld_globals.specs.Declarations.{declaration_of, suits}
 use Rattle.ld_globals.specs.Kept.{store_of, written_of}
-use Rattle.ld_globals.specs.Store.{Write, declared_at, get_answer, get_declared, key_at, same_key, value_at}
+use Rattle.ld_globals.specs.Store.{Write, declared_at, get_answer, get_declared, key_at, same_key, set_answer, set_declared, set_value, value_at, value_in}
 use Rattle.ld_globals.specs.declared.cell.Cell.{Cell}
 use Rattle.ld_globals.specs.declared.declared.Declared.{Declared}
 use Rattle.ld_globals.specs.declared.faults.GlobalFault.TheVariants.{UnknownGlobal, NotAllowed}
+use Rattle.ld_globals.specs.declared.faults.SetFault.TheVariants as setting
 use Rattle.ld_globals.specs.declared.key_number.KeyNumber.{KeyNumber}
 use Rattle.ld_globals.proofs.Looked.{declared-found}
 
@@ -32,3 +33,9 @@ module _ (declared : List (Roomy × Declared)) (persons : List (List ℕ)) (cell
 
     pub get-allowed : suits d.kind (is_some person) ≡ true → get_answer (store_of declared persons cells stamp spare) (key_at uri person) ≡ Ok (value_at (store_of declared persons cells stamp spare) (key_at uri person))
     get-allowed right = ap (λ r. get_declared r (store_of declared persons cells stamp spare) (key_at uri person)) declared-at ∙ rw (right) refl
+
+  pub set-unknown : (text : List ℕ) → lookup (λ k. bytes_eq uri k.bytes) declared ≡ None → set_answer (store_of declared persons cells stamp spare) (key_at uri person) text ≡ Err setting.UnknownGlobal
+  set-unknown text none = rw (declared-found declared uri, none) refl
+
+  pub set-known : (text : List ℕ) (d : Declared) → lookup (λ k. bytes_eq uri k.bytes) declared ≡ Some d → set_answer (store_of declared persons cells stamp spare) (key_at uri person) text ≡ set_value (suits d.kind (is_some person)) (value_in (declaration_of d) text)
+  set-known text d found = ap (λ r. set_declared r (key_at uri person) text) (declared-found declared uri ∙ ap (option_map declaration_of) found)
