@@ -1,5 +1,5 @@
 -- How the program keeps the store: keys by numbers, and what holds of them.
-use Rattle.std.specs.Prelude.{◌≡◌, ◌≤◌, ◌<◌, ◌++◌, ℕ, List, [], length, map, slice_get, is_some, Bool, true, false, ◌&&◌, nat_eq, IsTrue, IfSome, Option, Some, None, option_map}
+use Rattle.std.specs.Prelude.{◌≡◌, ◌≤◌, ◌<◌, ◌++◌, ℕ, List, [], length, map, slice_get, is_some, Bool, true, false, ◌&&◌, nat_eq, nat_lt, IsTrue, IfSome, Option, Some, None, option_map}
 use Rattle.std.specs.List.{AllByRecursion, IsDistinct}
 use Rattle.std.specs.Map.{keys_of}
 use Rattle.std.specs.Option.{option_eq}
@@ -100,3 +100,27 @@ number_in (Some e) = e.1.number
 -- The slot stands with the number of its cell's write.
 abbrev pub IsTied : List (KeyNumber × Cell) → ℕ × ℕ → Type 0
 IsTied cells e = e.1 ≡ number_in (slice_get cells e.0)
+
+-- ---- what was written since
+
+-- The key of the cell; where there is none, nothing.
+abbrev pub key_in : List (Roomy × Declared) → List (List ℕ) → Option (KeyNumber × Cell) → Key
+key_in declared persons None = record { uri = []; person = None }
+key_in declared persons (Some e) = key_of declared persons e.0
+
+-- The key of the cell at the slot.
+abbrev pub key_at_slot : List (Roomy × Declared) → List (List ℕ) → List (KeyNumber × Cell) → ℕ × ℕ → Key
+key_at_slot declared persons cells e = key_in declared persons (slice_get cells e.0)
+
+-- The slot has a cell.
+abbrev pub IsFilled : List (Roomy × Declared) → List (List ℕ) → List (KeyNumber × Cell) → ℕ × ℕ → Type 0
+IsFilled declared persons cells e = (c : KeyNumber × Cell) × (slice_get cells e.0 ≡ Some c) × IsCell declared persons c
+
+-- The number came after the bound.
+abbrev pub is_later : ℕ → ℕ × ℕ → Bool
+is_later bound e = nat_lt bound e.1
+
+-- What is left of a walk over slots; where there is no walk, nothing.
+abbrev pub walk_left : Option (List (ℕ × ℕ)) → List (ℕ × ℕ)
+walk_left None = []
+walk_left (Some es) = es

@@ -162,6 +162,10 @@ pub record IsSet (old new : Store) (key : Key) (text : List ℕ) : Type 0 where
 abbrev pub comes_after : ℕ → Write → Bool
 comes_after stamp write = (stamp == last_stamp) || nat_lt stamp write.number
 
+-- The number after which writes come after the stamp.
+abbrev pub bound_of : ℕ → ℕ
+bound_of stamp = if stamp == last_stamp then 0 else stamp
+
 -- The key was written since the stamp.
 abbrev pub is_since : ℕ → Option Write → Bool
 is_since stamp None = false

@@ -1,14 +1,15 @@
 //! The store of global values.
-ghost use Rattle.std.specs.Prelude.{◌≡◌, ◌≤◌, ◌<◌, ◌+◌, [], ℕ, option_map, option_copied, Some, None, Ok, Err, OnOk, OnErr, IfOk, IfErr, ◌≢◌, map};
+ghost use Rattle.std.specs.Prelude.{◌≡◌, ◌≤◌, ◌<◌, ◌+◌, [], ℕ, option_map, option_copied, Some, None, Ok, Err, OnOk, OnErr, IfOk, IfErr, ◌≢◌, ◌↔◌, Contains, IsTrue, length, map};
 ghost use Rattle.std.specs.List.{AllByRecursion, IsDistinct};
 ghost use Rattle.std.specs.Map.{keys_of};
 ghost use Rattle.std.specs.Str.{bytes_eq};
 ghost use Rattle.ld_value.specs.Datum.{datum_of};
 ghost use Rattle.ld_globals.specs.Answers.{got};
 ghost use Rattle.ld_globals.specs.Kept.{IsWhole, pair_of};
-ghost use Rattle.ld_globals.specs.Store.{Agrees, IsFirstToDiffer, IsSet, IsWritable, declare_in, get_answer, key_at, put_in, reserve_in, set_answer, spend};
+ghost use Rattle.ld_globals.specs.Store.{Key, Agrees, IsFirstToDiffer, IsSet, IsWritable, bound_of as bound_after, declare_in, get_answer, key_at, put_in, reserve_in, same_key, set_answer, spend, written_since};
 
 use crate::cell::Cell;
+use crate::changes::Changes;
 use crate::declaring::{declare_pairs, first_to_differ};
 use crate::declared::{Declared, DeclaredList, suits};
 use crate::faults::{DeclareFault, GlobalFault, SetFault};
@@ -82,6 +83,24 @@ impl Globals {
         ensures { result ≡ self.now.stamp }
     {
         self.stamp
+    }
+
+    /// The keys that were written after the stamp, each once, the latest write first; after the last stamp
+    /// all that were ever written. Each key that the iterator can give is a step.
+    pub fn changed_since<L: Ledger>(&self, stamp: u64, steps: &mut Steps<L>) -> Changes<'_>
+        ensures exactly { (key : Key) → Contains result key ↔ IsTrue (written_since self.now stamp key) }
+        ensures once { IsDistinct same_key result }
+        ensures cost { steps.new ≡ steps.old + length result }
+    {
+        // No key has two cells, as the call of `len` says.
+        let _count = self.cells.len();
+        Changes {
+            declared: &self.declared,
+            persons: &self.persons,
+            cells: &self.cells,
+            left: self.recency.count_since(bound_of(stamp), steps),
+            slots: self.recency.iter(),
+        }
     }
 
     /// The value of a key; None where it has none. It takes no memory, and counts as one step.
@@ -216,4 +235,14 @@ impl Globals {
         self.spare = room;
         Ok(())
     }
+}
+
+/// The number after which writes come after the stamp: all come after the last stamp.
+fn bound_of(stamp: u64) -> u64
+    ensures { result ≡ bound_after stamp }
+{
+    if stamp == u64::MAX {
+        return 0;
+    }
+    stamp
 }

@@ -1,13 +1,17 @@
 //! Slots in the order of their last use.
-ghost use Rattle.std.specs.Prelude.{◌≡◌, ◌≤◌, ◌<◌, ◌-◌, ◌^◌, [], ◌∷◌, ◌++◌, length, nat_eq, false, OnOk, OnErr, IsSome};
-ghost use Rattle.std.specs.List.{AllByRecursion};
-ghost use Rattle.std.specs.Map.{lookup, remove_entry};
+ghost use Rattle.std.specs.Prelude.{◌≡◌, ◌≤◌, ◌<◌, ◌-◌, ◌^◌, [], ◌∷◌, ◌++◌, ◌+◌, length, nat_eq, false, OnOk, OnErr, IsSome};
+ghost use Rattle.std.specs.List.{AllByRecursion, IsDistinct, prefix_len};
+ghost use Rattle.std.specs.Map.{keys_of, lookup, remove_entry};
+ghost use Rattle.ld_globals.specs.Kept.{is_later, walk_left};
 ghost use Rattle.ld_globals.specs.Recent.{Grows, IsRecency};
 
 use ld_base::memory::NoMemory;
-use lru::LruCache;
+use ld_base::steps::Steps;
+
+use lru::{Iter, LruCache};
 use std::alloc::Global;
 use std::marker::Model;
+use std::sync::ledger::Ledger;
 
 /// The slots below some number, each with the number of its last use, the latest use first. A slot that
 /// was never used has 0. To use a slot takes no memory.
@@ -44,6 +48,33 @@ impl Recency {
             Some(cache) => cache.len(),
             None => 0,
         }
+    }
+
+    /// A walk over the slots, the latest use first; none where there is no slot.
+    pub(crate) fn iter(&self) -> Option<Iter<'_, usize, u64>>
+        ensures walk { walk_left result ≡ self.now }
+        ensures slots { IsRecency self.now }
+        ensures distinct { IsDistinct nat_eq (keys_of self.now) }
+    {
+        let Some(cache) = &self.cache else {
+            return None;
+        };
+        // No slot stands twice, as the call of `len` says.
+        let _count = cache.len();
+        Some(cache.iter())
+    }
+
+    /// How many slots come first in a walk, as long as their uses came after the bound. Each is a step.
+    pub(crate) fn count_since<L: Ledger>(&self, bound: u64, steps: &mut Steps<L>) -> usize
+        ensures count { result ≡ prefix_len (is_later bound) self.now }
+        ensures cost { steps.new ≡ steps.old + result }
+    {
+        let Some(cache) = &self.cache else {
+            return 0;
+        };
+        // There are fewer than 2^63, as the call of `len` says.
+        let _count = cache.len();
+        count_later(cache.iter(), bound, steps)
     }
 
     /// Has at least so many slots. What is added was never used; where memory is wanting only some may be.
@@ -114,4 +145,21 @@ fn add_slot(cache: &mut LruCache<usize, u64>) -> Result<(), NoMemory>
     cache.put(slot, 0)?;
     cache.demote(&slot);
     Ok(())
+}
+
+/// How many slots come first in the walk, as long as their uses came after the bound. Each is a step.
+fn count_later<L: Ledger>(slots: Iter<'_, usize, u64>, bound: u64, steps: &mut Steps<L>) -> usize
+    requires { length slots < 2 ^ 63 }
+    ensures count { result ≡ prefix_len (is_later bound) slots.entry }
+    ensures cost { steps.new ≡ steps.old + result }
+{
+    let mut count = 0;
+    for (_, number) in slots {
+        if *number <= bound {
+            return count;
+        }
+        steps.tick();
+        count += 1;
+    }
+    count
 }
