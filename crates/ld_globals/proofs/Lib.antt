@@ -1,5 +1,6 @@
 pub mod Pairs
 pub mod Getting
+pub mod Keeping
 pub mod Looked
 pub mod Numbers
 pub mod Since
