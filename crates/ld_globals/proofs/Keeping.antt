@@ -96,3 +96,6 @@ keeps-declared store pairs = record {
   written = λ since key before was. was;
   changed = λ since key before declared other. absurd (other (ap (λ d. value_after d (lookup (same_key key) store.written)) (declared-on key.uri pairs store.declared declared)));
 }
+
+pub keeps-reserved : (old new : Store) (n : ℕ) → new ≡ reserve_in old n → KeepsWrites old new
+keeps-reserved old new n is = subst (KeepsWrites old) (sym is) (record { stamp = omega arith; written = λ since key before was. was; changed = λ since key before declared other. absurd (other refl) })

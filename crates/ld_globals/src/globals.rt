@@ -6,7 +6,7 @@ ghost use Rattle.std.specs.Str.{bytes_eq};
 ghost use Rattle.ld_value.specs.Datum.{datum_of};
 ghost use Rattle.ld_globals.specs.Answers.{got};
 ghost use Rattle.ld_globals.specs.Kept.{IsWhole, pair_of};
-ghost use Rattle.ld_globals.specs.Store.{Key, Agrees, IsFirstToDiffer, IsSet, IsWritable, bound_of as bound_after, declare_in, get_answer, key_at, put_in, reserve_in, same_key, set_answer, spend, written_since};
+ghost use Rattle.ld_globals.specs.Store.{Key, Agrees, KeepsWrites, IsFirstToDiffer, IsSet, IsWritable, bound_of as bound_after, declare_in, get_answer, key_at, put_in, reserve_in, same_key, set_answer, spend, written_since};
 
 use crate::cell::Cell;
 use crate::changes::Changes;
@@ -129,6 +129,7 @@ impl Globals {
     /// Makes sure that so many writes need no memory. Where memory is wanting the store stays as it was.
     pub fn reserve(&mut self, writes: u32) -> Result<(), NoMemory>
         ensures ok { OnOk result (self.new ≡ reserve_in self.old writes) }
+        ensures kept { OnOk result (KeepsWrites self.old self.new) }
         ensures err { OnErr result (self.new ≡ self.old) }
     {
         self.make_room(writes as usize)
@@ -138,8 +139,10 @@ impl Globals {
     pub fn put(&mut self, uri: Text, person: Option<Id>, value: Option<Value>)
         requires spare { 0 < self.old.spare }
         requires writable { IsWritable self.old (key_at uri.bytes person) (option_map datum_of value) }
-        ensures { self.new ≡ spend (put_in self.old (key_at uri.bytes person) (option_map datum_of value)) }
+        ensures put { self.new ≡ spend (put_in self.old (key_at uri.bytes person) (option_map datum_of value)) }
+        ensures kept { KeepsWrites self.old self.new }
     {
+        let number = next_number(self.stamp);
         self.spare -= 1;
         if has_value(
             &self.declared,
@@ -155,7 +158,6 @@ impl Globals {
             unreachable!();
         };
         let person = number_person(&mut self.persons, person);
-        let number = next_number(self.stamp);
         let slot = write_cell(
             &mut self.cells,
             KeyNumber { uri, person },
@@ -170,6 +172,7 @@ impl Globals {
     pub fn set(&mut self, uri: &Text, person: Option<&Id>, text: &str) -> Result<(), SetFault>
         ensures ok { OnOk result (IsSet self.old self.new (key_at uri.now.bytes (option_copied person.entry)) text.now) }
         ensures refused { IfErr result (λ fault. fault ≢ SetFault.NoMemory → set_answer self.old (key_at uri.now.bytes (option_copied person.entry)) text.now ≡ Err fault) }
+        ensures kept { OnOk result (KeepsWrites self.old self.new) }
         ensures err { OnErr result (self.new ≡ self.old) }
     {
         let value = self.read(uri, person, text)?;
@@ -200,6 +203,7 @@ impl Globals {
         requires differ { IsDistinct bytes_eq (keys_of (map pair_of list)) }
         requires whole { AllByRecursion IsWhole list }
         ensures ok { OnOk result (self.new ≡ declare_in self.old (map pair_of list)) }
+        ensures kept { OnOk result (KeepsWrites self.old self.new) }
         ensures agree { OnOk result (AllByRecursion (Agrees self.old) (map pair_of list)) }
         ensures differs { (place : ℕ) → result ≡ Err (DeclareFault.Differs place) → IsFirstToDiffer self.old (map pair_of list) place }
         ensures err { OnErr result (self.new ≡ self.old) }

@@ -9,7 +9,7 @@ ghost use Rattle.indexmap.specs.IndexSet as members;
 ghost use Rattle.ld_value.specs.Datum.{datum_of, same_datum};
 ghost use Rattle.ld_globals.specs.Declarations.{declaration_of, fits_declared, suits};
 ghost use Rattle.ld_globals.specs.Kept.{IsCell, IsNumbering, IsPersonNumber, same_number, store_of};
-ghost use Rattle.ld_globals.specs.Store.{key_at, next_stamp, value_at};
+ghost use Rattle.ld_globals.specs.Store.{key_at, last_stamp, next_stamp, value_at};
 ghost use Rattle.ld_globals.specs.declared.declared.Declared.{Declared};
 
 use crate::cell::Cell;
@@ -84,6 +84,7 @@ pub(crate) fn next_number(stamp: u64) -> u64
     ensures next { result ≡ next_stamp stamp }
     ensures some { 0 < result }
     ensures more { stamp ≤ result }
+    ensures most { stamp ≤ last_stamp }
 {
     stamp.saturating_add(1)
 }

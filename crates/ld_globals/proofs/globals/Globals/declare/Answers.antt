@@ -2,7 +2,8 @@ use Rattle.std.proofs.Common.{◌≡◌, ◌∙◌, ◌++◌, sym, ap, subst, ma
 use Rattle.std.specs.List.{AllByRecursion, fold}
 use Rattle.ld_globals.specs.Declarations.{Declaration}
 use Rattle.ld_globals.specs.Kept.{pair_of, store_of, written_of}
-use Rattle.ld_globals.specs.Store.{Agrees, Store, Key, Write, declare_in, declared_at, with_declared}
+use Rattle.ld_globals.specs.Store.{Agrees, KeepsWrites, Store, Key, Write, declare_in, declared_at, with_declared}
+use Rattle.ld_globals.proofs.Keeping.{keeps-declared}
 use Rattle.ld_globals.proofs.Pairs.{written-declared}
 use Rattle.ld_globals.proofs.globals.Globals.declare.Goals as goal
 
@@ -24,3 +25,6 @@ returns-clause-agree c =
     let agree = c.first_to_differ.ensures.none c.in_default.is in
     let pairs = c.deref.ensures.value ∙ c.into_vec-pairs.ensures in
     subst (λ st. AllByRecursion (Agrees st) (map pair_of c.args.list)) c.self.view_is (subst (λ l. AllByRecursion (Agrees (store_of s.declared.entries s.persons.keys s.cells.entries s.stamp s.spare)) (map pair_of l)) pairs agree)
+
+pub returns-clause-kept : goal.returns-clause-kept
+returns-clause-kept c = subst (KeepsWrites c.args.self.now) (sym (returns-clause-ok c)) (keeps-declared c.args.self.now (map pair_of c.args.list))

@@ -8,9 +8,10 @@ use Rattle.indexmap.specs.IndexMap.{insert_entry}
 use Rattle.ld_value.specs.Datum.{datum_of, same_datum}
 use Rattle.ld_globals.specs.Declarations.{Declaration, declaration_of}
 use Rattle.ld_globals.specs.Kept.{pair_of, IsCell, IsCounted, IsNumbering, IsNumberOf, IsTied, same_number, store_of, write_of, written_of}
-use Rattle.ld_globals.specs.Store.{Key, Store, Write, declared_at, declared_in, key_at, next_stamp, put_in, same_key, spend, value_at}
+use Rattle.ld_globals.specs.Store.{Key, KeepsWrites, Store, Write, last_stamp, declared_at, declared_in, key_at, next_stamp, put_in, same_key, spend, value_at}
 use Rattle.ld_globals.specs.declared.cell.Cell.{Cell}
 use Rattle.ld_globals.specs.declared.key_number.KeyNumber.{KeyNumber}
+use Rattle.ld_globals.proofs.Keeping.{keeps-put}
 use Rattle.ld_globals.proofs.Recent.{all-remove}
 use Rattle.ld_globals.proofs.Written.{declaring, declaration-is, new-cell, numbers-counted, put-same, put-other, written-after, cells-after, counted-after, tied-after, tied-first}
 use Rattle.ld_globals.proofs.globals.Globals.put.Goals as goal
@@ -18,8 +19,8 @@ use Rattle.ld_globals.proofs.globals.Globals.put.Goals as goal
 pub has_value-requires-clause-declared : goal.has_value-requires-clause-declared
 has_value-requires-clause-declared c = declaring c.self.inside.declared.entries c.args.uri.bytes c.requires.writable.declaration (ap (λ store. declared_at store c.args.uri.bytes) c.self.view_is ∙ c.requires.writable.declared)
 
-pub returns-then-has_value : goal.returns-then-has_value
-returns-then-has_value c =
+pub returns-then-has_value-clause-put : goal.returns-then-has_value-clause-put
+returns-then-has_value-clause-put c =
     let s = c.self.inside in
     let key = key_at c.args.uri.bytes c.args.person in
     let value = option_map datum_of c.args.value in
@@ -73,8 +74,8 @@ invariant_of-self-2 c =
     let slots = c.touch.ensures.count in
     ((c.self.invariant.0.0, c.number_person-person.ensures.unique c.self.invariant.0.1), c.self.invariant.1, subst (λ ps. AllByRecursion (IsCell declared ps) c.write_cell-slot.new.cells.entries) (sym is) (subst (AllByRecursion (IsCell declared (persons ++ added))) (sym entries) all-cells), subst (AllByRecursion (IsCounted c.next_number-number.result)) (sym entries) counted, subst (λ es. AllByRecursion (IsTied es) c.touch.new.self) (sym entries) (subst (AllByRecursion (IsTied (insert_entry same_number cells k cell))) (sym (c.touch.ensures.slots ∙ ap (λ n. (n, c.next_number-number.result) ∷ remove_entry (nat_eq n) s.recency) slot)) (first, tied)), omega (arith, inv5, persons-spare), omega (arith, inv6, cells-spare), omega (arith, inv7, count, slots, spare, view))
 
-pub returns : goal.returns
-returns c =
+pub returns-clause-put : goal.returns-clause-put
+returns-clause-put c =
     let s = c.self.inside in
     let declared = s.declared.entries in
     let persons = s.persons.keys in
@@ -98,3 +99,18 @@ returns c =
     let stored : List (Key × Write) = insert_entry same_key (map (written_of declared persons) cells) key (record { value = value; number = next_stamp s.stamp }) in
     let numbered : map (written_of declared now) c.write_cell-slot.new.cells.entries ≡ stored = written ∙ ap (λ n. insert_entry same_key (map (written_of declared persons) cells) key (record { value = value; number = n })) next in
     (λ i. record { declared = map pair_of declared; written = numbered i; stamp = next i; spare = s.spare - 1 }) ∙ sym (ap spend put) ∙ made
+
+spent : (old new : Store) → KeepsWrites old new → KeepsWrites old (spend new)
+spent old new keeps = record { stamp = keeps.stamp; written = keeps.written; changed = keeps.changed }
+
+pub returns-then-has_value-clause-kept : goal.returns-then-has_value-clause-kept
+returns-then-has_value-clause-kept c =
+    let key = key_at c.args.uri.bytes c.args.person in
+    let value = option_map datum_of c.args.value in
+    subst (KeepsWrites c.args.self.now) (sym (returns-then-has_value-clause-put c)) (spent c.args.self.now (put_in c.args.self.now key value) (keeps-put c.args.self.now key value (subst (λ store. store.stamp ≤ last_stamp) c.self.view_is c.next_number-number.ensures.most)))
+
+pub returns-clause-kept : goal.returns-clause-kept
+returns-clause-kept c =
+    let key = key_at c.args.uri.bytes c.args.person in
+    let value = option_map datum_of c.args.value in
+    subst (KeepsWrites c.args.self.now) (sym (returns-clause-put c)) (spent c.args.self.now (put_in c.args.self.now key value) (keeps-put c.args.self.now key value (subst (λ store. store.stamp ≤ last_stamp) c.self.view_is c.next_number-number.ensures.most)))

@@ -1,6 +1,6 @@
 use Rattle.std.proofs.Common.{◌≡◌, ◌∙◌, sym, ap, subst, Some, option_copied, ℕ, ◌+◌}
 use Rattle.ld_value.specs.Datum.{datum_of}
-use Rattle.ld_globals.specs.Store.{IsWritable, Key, Store, key_at, put_in, reserve_in, spend}
+use Rattle.ld_globals.specs.Store.{IsWritable, KeepsWrites, Key, Store, key_at, put_in, reserve_in, spend}
 use Rattle.ld_globals.proofs.Texts.{put-reserved, settable}
 use Rattle.ld_globals.proofs.globals.Globals.set.Goals as goal
 
@@ -23,5 +23,11 @@ returns-clause-ok c =
     let person : c.in_ok-person.person ≡ option_copied c.args.person = c.in_ok-person.ensures in
     let key : key_at c.in_ok-uri.uri.bytes c.in_ok-person.person ≡ key_at c.args.uri.now.bytes (option_copied c.args.person) = λ i. key_at (uri i) (person i) in
     let room : c.in-Some.room ≡ c.args.self.now.spare + 1 = c.in-Some.ensures.1 ∙ ap (λ store. store.spare + 1) c.self.view_is in
-    let put : c.put.new.self ≡ spend (put_in (reserve_in c.args.self.now (c.args.self.now.spare + 1)) (key_at c.args.uri.now.bytes (option_copied c.args.person)) value) = c.put.ensures ∙ ap (λ store. spend (put_in store (key_at c.in_ok-uri.uri.bytes c.in_ok-person.person) value)) (c.in_ok-make_room.ensures.ok ∙ ap (reserve_in c.args.self.now) room) ∙ ap (λ k. spend (put_in (reserve_in c.args.self.now (c.args.self.now.spare + 1)) k value)) key in
+    let put : c.put.new.self ≡ spend (put_in (reserve_in c.args.self.now (c.args.self.now.spare + 1)) (key_at c.args.uri.now.bytes (option_copied c.args.person)) value) = c.put.ensures.put ∙ ap (λ store. spend (put_in store (key_at c.in_ok-uri.uri.bytes c.in_ok-person.person) value)) (c.in_ok-make_room.ensures.ok ∙ ap (reserve_in c.args.self.now) room) ∙ ap (λ k. spend (put_in (reserve_in c.args.self.now (c.args.self.now.spare + 1)) k value)) key in
     record { value = datum_of c.in_ok-value.value; answer = c.in_ok-value.ensures.ok; put = put ∙ put-reserved c.args.self.now (key_at c.args.uri.now.bytes (option_copied c.args.person)) value }
+
+unreserved : (old new : Store) (n : ℕ) → KeepsWrites (reserve_in old n) new → KeepsWrites old new
+unreserved old new n keeps = record { stamp = keeps.stamp; written = keeps.written; changed = keeps.changed }
+
+pub returns-clause-kept : goal.returns-clause-kept
+returns-clause-kept c = unreserved c.args.self.now c.put.new.self c.in-Some.room (subst (λ store. KeepsWrites store c.put.new.self) c.in_ok-make_room.ensures.ok c.put.ensures.kept)
