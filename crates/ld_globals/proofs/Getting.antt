@@ -1,5 +1,5 @@
 -- What `get` answers, by what was found.
-use Rattle.std.proofs.Common.{◌≡◌, ℕ, List, map, Bool, true, false, is_some, Option, Some, None, Ok, Err, option_map, refl, sym, ap, ◌∙◌}
+use Rattle.std.proofs.Common.{◌≡◌, ℕ, List, map, true, false, is_some, Option, Some, None, Ok, Err, option_map, refl, ap, ◌∙◌}
 use Rattle.std.specs.Map.{lookup}
 use Rattle.std.specs.Str.{bytes_eq}
 use Rattle.ld_base.specs.Roomy.{Roomy}

@@ -1,6 +1,6 @@
 -- Whoever kept a stamp learns of each later write.
-use Rattle.std.proofs.Common.{◌≡◌, ◌≢◌, ℕ, ◌+◌, ◌<◌, ◌≤◌, List, [], ◌∷◌, ◌++◌, Bool, true, false, cond, ◌||◌, ◌==◌, nat_lt, is_some, if◌then◌else◌, IsTrue, Option, Some, None, refl, sym, ap, subst, ◌∙◌, arith}
-use Rattle.std.proofs.lemmas.Bool.{eqb-true, eq-eqb, lt-ltb, true≢false}
+use Rattle.std.proofs.Common.{◌≡◌, ◌≢◌, ℕ, ◌<◌, ◌≤◌, List, [], ◌∷◌, ◌++◌, Bool, true, false, cond, ◌||◌, ◌==◌, nat_lt, is_some, if◌then◌else◌, Option, Some, refl, sym, ap, subst, ◌∙◌, arith}
+use Rattle.std.proofs.lemmas.Bool.{eq-eqb, lt-ltb, true≢false}
 use Rattle.std.specs.List.{fold}
 use Rattle.std.specs.Map.{lookup}
 use Rattle.std.specs.Option.{option_eq}
@@ -8,7 +8,7 @@ use Rattle.std.specs.Str.{bytes_eq}
 use Rattle.indexmap.specs.IndexMap.{insert_entry}
 use Rattle.ld_value.specs.Datum.{Datum, same_datum}
 use Rattle.ld_globals.specs.Declarations.{Declaration}
-use Rattle.ld_globals.specs.Store.{Key, KeepsWrites, Store, Write, comes_after, declare_in, declared_in, is_since, last_stamp, next_stamp, put_in, reserve_in, same_key, spend, value_after, value_at, with_declared, written_since}
+use Rattle.ld_globals.specs.Store.{Key, KeepsWrites, Store, Write, comes_after, declare_in, declared_in, is_since, last_stamp, next_stamp, put_in, reserve_in, same_key, value_after, value_at, with_declared}
 use Rattle.ld_globals.proofs.Since.{keys-equal}
 
 module _ (q k : Key) (v : Write) where
@@ -49,22 +49,28 @@ module _ (store : Store) where
     where
       write : Write
       write = record { value = value; number = next_stamp store.stamp }
+
       after : Store
       after = record store { written = insert_entry same_key store.written key write; stamp = next_stamp store.stamp }
+
       comes : (since : ℕ) → since ≤ store.stamp → comes_after since write ≡ true
       comes since before = next-comes since store.stamp write most before refl
+
       kept : (since : ℕ) (q : Key) → since ≤ store.stamp → (b : Bool) → is_since since (lookup (same_key q) store.written) ≡ true → is_since since (cond b (Some write) (lookup (same_key q) store.written)) ≡ true
       kept since q before true was = comes since before
       kept since q before false was = was
+
       new : (since : ℕ) (q : Key) → since ≤ store.stamp → (b : Bool) → value_after (declared_in store.declared q.uri) (cond b (Some write) (lookup (same_key q) store.written)) ≢ value_at store q → is_since since (cond b (Some write) (lookup (same_key q) store.written)) ≡ true
       new since q before true other = comes since before
       new since q before false other = absurd (other refl)
+
       keeps : KeepsWrites store after
       keeps = record {
         stamp = omega (arith, most);
         written = λ since q before was. ap (is_since since) (found-inserted q key write store.written) ∙ kept since q before (same_key q key) was;
-        changed = λ since q before declared other. ap (is_since since) (found-inserted q key write store.written) ∙ new since q before (same_key q key) (λ same. other (ap (value_after (declared_in store.declared q.uri)) (found-inserted q key write store.written) ∙ same))
+        changed = λ since q before declared other. ap (is_since since) (found-inserted q key write store.written) ∙ new since q before (same_key q key) (λ same. other (ap (value_after (declared_in store.declared q.uri)) (found-inserted q key write store.written) ∙ same));
       }
+
       by : (b : Bool) → KeepsWrites store store → KeepsWrites store (if b then store else after)
       by true same = same
       by false same = keeps

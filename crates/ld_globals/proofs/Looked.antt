@@ -5,7 +5,6 @@ use Rattle.std.specs.Cmp.Lexicographic.{bytes_decides}
 use Rattle.std.specs.List.{AllByRecursion, IsDistinct, find, list_any}
 use Rattle.std.specs.Map.{lookup}
 use Rattle.std.specs.Str.{bytes_eq}
-use Rattle.indexmap.specs.IndexMap.{insert_entry}
 use Rattle.ld_base.specs.Roomy.{Roomy}
 use Rattle.ld_globals.specs.Declarations.{declaration_of}
 use Rattle.ld_globals.specs.Kept.{pair_of}

@@ -1,5 +1,5 @@
 -- What is declared, pair by pair.
-use Rattle.std.proofs.Common.{◌≡◌, ℕ, zero, suc, ◌+◌, ◌<◌, ◌≤◌, List, [], ◌∷◌, ◌++◌, map, take, length, slice_get, get_or, Bool, true, false, is_some, Option, Some, None, option_map, refl, sym, ap, subst, ◌∙◌, arith, append-nil, append_assoc}
+use Rattle.std.proofs.Common.{◌≡◌, ℕ, zero, suc, ◌+◌, List, [], ◌∷◌, ◌++◌, map, take, slice_get, true, false, is_some, Option, Some, None, option_map, refl, sym, ap, subst, ◌∙◌, arith, append-nil, append_assoc}
 use Rattle.std.proofs.lemmas.List.{map-append}
 use Rattle.std.proofs.lemmas.Option.{slice_get-map}
 use Rattle.lru.proofs.Splits.{all_both}
@@ -7,9 +7,9 @@ use Rattle.std.specs.List.{AllByRecursion}
 use Rattle.std.specs.Map.{lookup}
 use Rattle.std.specs.Str.{bytes_eq}
 use Rattle.ld_base.specs.Roomy.{Roomy}
-use Rattle.ld_globals.specs.Declarations.{Declaration, declaration_of}
-use Rattle.ld_globals.specs.Kept.{Extends, IsCell, IsWhole, key_of, pair_of, store_of, write_of, written_of}
-use Rattle.ld_globals.specs.Store.{Store, Agrees, Differs, IsFirstToDiffer, declared_in, with_declared}
+use Rattle.ld_globals.specs.Declarations.{declaration_of}
+use Rattle.ld_globals.specs.Kept.{Extends, IsCell, IsWhole, pair_of, store_of, written_of}
+use Rattle.ld_globals.specs.Store.{Agrees, Differs, IsFirstToDiffer, with_declared}
 use Rattle.ld_globals.specs.declared.cell.Cell.{Cell}
 use Rattle.ld_globals.specs.declared.declared.Declared.{Declared}
 use Rattle.ld_globals.specs.declared.key_number.KeyNumber.{KeyNumber}

@@ -1,6 +1,6 @@
 -- Slots by their last use.
-use Rattle.std.proofs.Common.{◌≡◌, ℕ, zero, suc, ◌+◌, ◌-◌, ◌^◌, ◌<◌, ◌≤◌, List, [], ◌∷◌, ◌++◌, take, length, Bool, true, false, cond, nat_eq, IsSome, Option, Some, None, refl, sym, ap, subst, ◌∙◌, inl, inr, arith, length-append, add-one}
-use Rattle.std.proofs.lemmas.Bool.{cases_eq, eqb-true, eq-eqb, true≢false}
+use Rattle.std.proofs.Common.{◌≡◌, ℕ, suc, ◌+◌, ◌<◌, ◌≤◌, List, [], ◌∷◌, ◌++◌, take, length, Bool, true, false, cond, nat_eq, IsSome, Some, None, refl, sym, ap, subst, ◌∙◌, inl, inr, arith, length-append}
+use Rattle.std.proofs.lemmas.Bool.{cases_eq, eqb-true, eq-eqb}
 use Rattle.std.proofs.lemmas.List.{take_all}
 use Rattle.std.specs.List.{AllByRecursion, IsDistinct}
 use Rattle.std.specs.Map.{keys_of, lookup, lookup_entry, remove_entry}
@@ -104,11 +104,14 @@ falls-grown n (e ∷ es) falls = (all_both (λ f. f.1 ≤ e.1) es ((n, 0) ∷ []
 -- And when one more comes behind.
 pub grown-recency : (es : List (ℕ × ℕ)) → IsRecency es → IsRecency (es ++ (length es, 0) ∷ [])
 grown-recency es is =
-    let longer = length-append es ((length es, 0) ∷ []) in
-    (subst (λ n. AllByRecursion (λ e. e.0 < n) (es ++ (length es, 0) ∷ [])) (sym longer) (all_both (λ e. e.0 < length es + 1) es ((length es, 0) ∷ []) (all-weaker es (λ e less. omega (arith, less)) is.0) (omega arith, tt)), (λ i below. elim (cases_eq i (length es)) [
-      | inl same ↦ found-behind (nat_eq i) es ((length es, 0) ∷ []) (subst (λ b. IsSome {T = ℕ} (cond b (Some 0) None)) (sym (eq-eqb i (length es) same)) cc)
-      | inr other ↦ found-before (nat_eq i) es ((length es, 0) ∷ []) (is.1 i (omega (arith, other, below, longer)))
-    ]), falls-grown (length es) es is.2)
+    let longer = length-append es ((length es, 0) ∷ []) in (
+      subst (λ n. AllByRecursion (λ e. e.0 < n) (es ++ (length es, 0) ∷ [])) (sym longer) (all_both (λ e. e.0 < length es + 1) es ((length es, 0) ∷ []) (all-weaker es (λ e less. omega (arith, less)) is.0) (omega arith, tt)),
+      (λ i below. elim (cases_eq i (length es)) [
+        | inl same ↦ found-behind (nat_eq i) es ((length es, 0) ∷ []) (subst (λ b. IsSome {T = ℕ} (cond b (Some 0) None)) (sym (eq-eqb i (length es) same)) cc)
+        | inr other ↦ found-before (nat_eq i) es ((length es, 0) ∷ []) (is.1 i (omega (arith, other, below, longer)))
+      ]),
+      falls-grown (length es) es is.2,
+    )
 
 -- What a cache is after a slot is put and made the last.
 pub slot-put : (n cap : ℕ) (es : List (ℕ × ℕ)) → AllByRecursion (λ e. e.0 < n) es → length es ≤ cap → option_map_or (λ e. (e.0, 0) ∷ remove_entry (nat_eq n) es) (lookup_entry (nat_eq n) es) ((n, 0) ∷ take cap es) ≡ (n, 0) ∷ es

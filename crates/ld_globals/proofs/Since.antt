@@ -1,5 +1,5 @@
 -- The keys that were written since some stamp.
-use Rattle.std.proofs.Common.{◌≡◌, ◌≢◌, ◌⊎◌, inl, inr, ℕ, zero, suc, ◌+◌, ◌<◌, ◌≤◌, List, [], ◌∷◌, map, take, length, slice_get, Contains, Bool, true, false, cond, ◌||◌, ◌&&◌, ◌==◌, if◌then◌else◌, nat_eq, nat_lt, IsTrue, IsSome, Option, Some, None, option_map, refl, sym, ap, subst, ◌∙◌, arith}
+use Rattle.std.proofs.Common.{◌≡◌, inl, inr, ℕ, zero, suc, ◌+◌, ◌<◌, ◌≤◌, List, [], ◌∷◌, map, take, length, slice_get, Contains, Bool, true, false, cond, ◌||◌, ◌==◌, if◌then◌else◌, nat_eq, nat_lt, IsSome, Option, Some, None, option_map, refl, sym, ap, subst, ◌∙◌, arith}
 use Rattle.std.proofs.lemmas.Bool.{and_parts, eqb-true, eq-eqb, ltb-true, lt-ltb, true≢false}
 use Rattle.std.proofs.lemmas.Option.{slice_get_within}
 use Rattle.std.specs.Cmp.Lexicographic.{bytes_decides}
@@ -225,8 +225,10 @@ module _ (declared : List (Roomy × Declared)) (persons : List (List ℕ)) (cell
     where
       c : (c : KeyNumber × Cell) × (slice_get cells x.0 ≡ Some c) × (nat_lt b c.1.number ≡ true) × IsCell declared persons c
       c = filled b x tied-x later-x
+
       d : (c : KeyNumber × Cell) × (slice_get cells e.0 ≡ Some c) × (nat_lt b c.1.number ≡ true) × IsCell declared persons c
       d = filled b e tied-e later-e
+
       by : (r : Bool) → same_key (key_at_slot declared persons cells x) (key_at_slot declared persons cells e) ≡ r → r ≡ false
       by false is = refl
       by true is =
@@ -242,7 +244,10 @@ module _ (declared : List (Roomy × Declared)) (persons : List (List ℕ)) (cell
     where
       by : IsDistinct same_key (map (key_at_slot declared persons cells) (later b es)) → (r : Bool) → is_later b x ≡ r → IsDistinct same_key (map (key_at_slot declared persons cells) (cond r (x ∷ later b es) []))
       by on false is = tt
-      by on true is = (all_map (key_at_slot declared persons cells) (λ k. same_key (key_at_slot declared persons cells x) k ≡ false) (later b es) (all_from (λ e. same_key (key_at_slot declared persons cells x) (key_at_slot declared persons cells e) ≡ false) (later b es) (λ e c.
-          let of = later-are b es e c in
-          let differs = all_at (λ f. nat_eq x.0 f.0 ≡ false) es e (all_unmap (λ f. f.0) (λ s. nat_eq x.0 s ≡ false) es distinct.0) of.0 in
-          other-key b x e tied.0 (all_at (IsTied cells) es e tied.1 of.0) is of.1 differs)), on)
+      by on true is = (
+        all_map (key_at_slot declared persons cells) (λ k. same_key (key_at_slot declared persons cells x) k ≡ false) (later b es) (all_from (λ e. same_key (key_at_slot declared persons cells x) (key_at_slot declared persons cells e) ≡ false) (later b es) (λ e c.
+            let of = later-are b es e c in
+            let differs = all_at (λ f. nat_eq x.0 f.0 ≡ false) es e (all_unmap (λ f. f.0) (λ s. nat_eq x.0 s ≡ false) es distinct.0) of.0 in
+            other-key b x e tied.0 (all_at (IsTied cells) es e tied.1 of.0) is of.1 differs)),
+        on,
+      )

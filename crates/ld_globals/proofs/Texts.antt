@@ -35,6 +35,7 @@ fits-read d text v is = by (value_of d.datatype text) is
     inner : (w : Datum) (b : Bool) → fits_in d.datatype d.limits w ≡ b → (if b then Some w else None) ≡ Some v → fits_in d.datatype d.limits v ≡ true
     inner w true fits is = let same : w ≡ v = cc in ap (fits_in d.datatype d.limits) (sym same) ∙ fits
     inner w false fits is = cc
+
     by : (o : Option Datum) → option_and_then (λ value. if fits_in d.datatype d.limits value then Some value else None) o ≡ Some v → fits_in d.datatype d.limits v ≡ true
     by None is = cc
     by (Some w) is = inner w (fits_in d.datatype d.limits w) refl is
@@ -60,8 +61,10 @@ put-reserved store key value = by (option_eq same_datum (value_at store key) val
   where
     room : max store.spare (store.spare + 1) - 1 ≡ store.spare
     room = omega arith
+
     after : List (Key × Write)
     after = insert_entry same_key store.written key (record { value = value; number = next_stamp store.stamp })
+
     by : (b : Bool) → spend (if b then reserve_in store (store.spare + 1) else record (reserve_in store (store.spare + 1)) { written = after; stamp = next_stamp store.stamp }) ≡ (if b then store else record store { written = after; stamp = next_stamp store.stamp })
     by true = λ i. record store { spare = room i }
     by false = λ i. record store { written = after; stamp = next_stamp store.stamp; spare = room i }

@@ -11,6 +11,10 @@ abbrev pub got : {E : Type 0} → Result (Option (Bor Value)) E → Result (Opti
 got (Ok value) = Ok (option_map (λ v. datum_of v.now) value)
 got (Err fault) = Err fault
 
+-- The key of a uri and a person that are given.
+abbrev pub key_given : Roomy → Option (Bor (List ℕ)) → Key
+key_given uri person = key_at uri.bytes (option_copied person)
+
 -- The key of a uri and a person that are shown.
 abbrev pub shown_key : Bor Roomy × Option (Bor (List ℕ)) → Key
 shown_key x = key_at x.0.now.bytes (option_copied x.1)

@@ -1,5 +1,5 @@
 -- What a declaration of a global property means.
-use Rattle.std.specs.Prelude.{Bool, true, false, not, Option, Some, None, option_map}
+use Rattle.std.specs.Prelude.{Bool, true, not, Option, Some, None, option_map}
 use Rattle.ld_value.specs.declared.kind.Kind.{Kind}
 use Rattle.ld_value.specs.Datum.{Datum, datum_of}
 use Rattle.ld_value.specs.Values.{Restrictions, restrictions_of, fits_in}

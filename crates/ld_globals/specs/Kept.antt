@@ -1,15 +1,16 @@
 -- How the program keeps the store: keys by numbers, and what holds of them.
-use Rattle.std.specs.Prelude.{◌≡◌, ◌≤◌, ◌<◌, ◌++◌, ℕ, List, [], length, map, slice_get, is_some, Bool, true, false, ◌&&◌, nat_eq, nat_lt, IsTrue, IfSome, Option, Some, None, option_map}
+use Rattle.std.specs.Prelude.{◌≡◌, ◌≤◌, ◌<◌, ◌++◌, ℕ, List, [], map, slice_get, is_some, Bool, true, false, ◌&&◌, nat_eq, nat_lt, IsTrue, Option, Some, None, option_map, Result}
 use Rattle.std.specs.List.{AllByRecursion, IsDistinct}
-use Rattle.std.specs.Map.{keys_of}
+use Rattle.std.specs.Map.{keys_of, lookup}
 use Rattle.std.specs.Option.{option_eq}
 use Rattle.std.specs.Str.{bytes_eq}
 use Rattle.ld_base.specs.Roomy.{Roomy}
-use Rattle.ld_value.specs.Datum.{datum_of}
+use Rattle.ld_value.specs.Datum.{Datum, datum_of}
 use Rattle.ld_globals.specs.Declarations.{Declaration, declaration_of, fits_declared, suits}
-use Rattle.ld_globals.specs.Store.{Key, Store, Write}
+use Rattle.ld_globals.specs.Store.{Key, Store, Write, set_value, value_in}
 use Rattle.ld_globals.specs.declared.cell.Cell.{Cell}
 use Rattle.ld_globals.specs.declared.declared.Declared.{Declared}
+use Rattle.ld_globals.specs.declared.faults.SetFault.{SetFault}
 use Rattle.ld_globals.specs.declared.key_number.KeyNumber.{KeyNumber}
 
 -- A uri and how it is declared.
@@ -40,6 +41,18 @@ written_of declared persons e = (key_of declared persons e.0, write_of e.1)
 -- The store that is kept so.
 abbrev pub store_of : List (Roomy × Declared) → List (List ℕ) → List (KeyNumber × Cell) → ℕ → ℕ → Store
 store_of declared persons cells stamp spare = record { declared = map pair_of declared; written = map (written_of declared persons) cells; stamp = stamp; spare = spare }
+
+-- A store that declares these and holds no value.
+abbrev pub declaring : List (Roomy × Declared) → Store
+declaring declared = store_of declared [] [] 0 0
+
+-- The uris and how they are declared.
+abbrev pub pairs_of : List (Roomy × Declared) → List (List ℕ × Declaration)
+pairs_of = map pair_of
+
+-- The keys and their last writes.
+abbrev pub writes_of : List (Roomy × Declared) → List (List ℕ) → List (KeyNumber × Cell) → List (Key × Write)
+writes_of declared persons cells = map (written_of declared persons) cells
 
 -- The initial value fits.
 abbrev pub IsWhole : Roomy × Declared → Type 0
@@ -76,9 +89,17 @@ pub record IsNumberOf (declared : List (Roomy × Declared)) (persons : List (Lis
   pub same : bytes_eq key.uri entry.0.bytes ≡ true
   pub person : IsPersonNumber persons key.person k.person
 
+-- No uri is declared twice.
+abbrev pub AreDistinct : List (Roomy × Declared) → Type 0
+AreDistinct declared = IsDistinct (λ a b. bytes_eq a.bytes b.bytes) (keys_of declared)
+
+-- The uri is declared.
+abbrev pub IsAmong : List (Roomy × Declared) → List ℕ → Type 0
+IsAmong declared uri = (e : Declared) × (lookup (λ k. bytes_eq uri k.bytes) declared ≡ Some e)
+
 -- No uri is declared twice, and no person has two numbers.
 abbrev pub IsNumbering : List (Roomy × Declared) → List (List ℕ) → Type 0
-IsNumbering declared persons = IsDistinct (λ a b. bytes_eq a.bytes b.bytes) (keys_of declared) × IsDistinct bytes_eq persons
+IsNumbering declared persons = AreDistinct declared × IsDistinct bytes_eq persons
 
 -- The key's numbers are of a declaration and of a person, as its kind wants, and its value fits.
 pub record IsCell (declared : List (Roomy × Declared)) (persons : List (List ℕ)) (e : KeyNumber × Cell) : Type 0 where
@@ -100,6 +121,10 @@ number_in (Some e) = e.1.number
 -- The slot stands with the number of its cell's write.
 abbrev pub IsTied : List (KeyNumber × Cell) → ℕ × ℕ → Type 0
 IsTied cells e = e.1 ≡ number_in (slice_get cells e.0)
+
+-- What a key that is declared so is to be set to by the text, or why it is refused.
+abbrev pub read_in : Declared → Bool → List ℕ → Result Datum SetFault
+read_in declared has_person text = set_value (suits declared.kind has_person) (value_in (declaration_of declared) text)
 
 -- ---- what was written since
 

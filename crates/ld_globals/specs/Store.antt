@@ -1,5 +1,5 @@
 -- The store of global values, as contracts see it.
-use Rattle.std.specs.Prelude.{◌≡◌, ◌≢◌, ◌≤◌, ℕ, ◌+◌, ◌-◌, ◌^◌, min, max, List, ◌∷◌, ◌++◌, [], take, slice_get, Bool, true, false, ◌&&◌, ◌||◌, ◌==◌, nat_lt, is_some, if◌then◌else◌, IsTrue, Option, Some, None, option_map, Result, Ok, Err}
+use Rattle.std.specs.Prelude.{◌≡◌, ◌≢◌, ◌≤◌, ℕ, ◌+◌, ◌-◌, ◌^◌, min, max, List, ◌∷◌, ◌++◌, [], take, slice_get, Bool, true, false, ◌&&◌, ◌||◌, ◌==◌, nat_lt, is_some, if◌then◌else◌, IsTrue, Option, Some, None, Result, Ok, Err}
 use Rattle.std.specs.List.{fold, AllByRecursion}
 use Rattle.std.specs.Map.{lookup}
 use Rattle.std.specs.Option.{option_and_then, option_eq}
@@ -8,6 +8,8 @@ use Rattle.indexmap.specs.IndexMap.{insert_entry}
 use Rattle.ld_value.specs.Datum.{Datum, same_datum}
 use Rattle.ld_value.specs.Values.{value_of, fits_in}
 use Rattle.ld_globals.specs.Declarations.{Declaration, fits_declared, suits}
+use Rattle.ld_globals.specs.declared.faults.DeclareFault.{DeclareFault}
+use Rattle.ld_globals.specs.declared.faults.DeclareFault.TheVariants as declaring
 use Rattle.ld_globals.specs.declared.faults.GlobalFault.{GlobalFault}
 use Rattle.ld_globals.specs.declared.faults.GlobalFault.TheVariants as getting
 use Rattle.ld_globals.specs.declared.faults.SetFault.{SetFault}
@@ -77,6 +79,11 @@ pub record IsFirstToDiffer (store : Store) (pairs : List (List ℕ × Declaratio
   pub there : slice_get pairs place ≡ Some pair
   pub differs : Differs store pair
   pub before : AllByRecursion (Agrees store) (take place pairs)
+
+-- The fault tells of the first pair that differs, or of want of memory.
+abbrev pub IsTold : Store → List (List ℕ × Declaration) → DeclareFault → Type 0
+IsTold store pairs (declaring.Differs place) = IsFirstToDiffer store pairs place
+IsTold store pairs declaring.NoMemory = Unit {0}
 
 -- ---- the value of a key
 
@@ -149,6 +156,10 @@ set_declared (Some d) key text = set_value (suits d.kind (is_some key.person)) (
 -- What `set` is to write, or why it is refused.
 abbrev pub set_answer : Store → Key → List ℕ → Result Datum SetFault
 set_answer store key text = set_declared (declared_at store key.uri) key text
+
+-- The fault is the answer's, or tells of want of memory.
+abbrev pub IsRefused : {A : Type 0} → Result A SetFault → SetFault → Type 0
+IsRefused answer fault = fault ≢ setting.NoMemory → answer ≡ Err fault
 
 -- The key was given the value that the text has.
 pub record IsSet (old new : Store) (key : Key) (text : List ℕ) : Type 0 where

@@ -4,7 +4,7 @@ ghost use Rattle.std.specs.List.{AllByRecursion, fold};
 ghost use Rattle.std.specs.Str.{bytes_eq};
 ghost use Rattle.indexmap.specs.IndexMap as by_key;
 ghost use Rattle.ld_base.specs.Roomy.{Roomy};
-ghost use Rattle.ld_globals.specs.Kept.{Extends, IsWhole, pair_of, store_of};
+ghost use Rattle.ld_globals.specs.Kept.{AreDistinct, Extends, IsWhole, declaring, pair_of, pairs_of};
 ghost use Rattle.ld_globals.specs.Store.{Agrees, Differs, IsFirstToDiffer, with_declared};
 ghost use Rattle.ld_globals.specs.declared.declared.Declared.{Declared};
 
@@ -17,8 +17,8 @@ pub(crate) fn first_to_differ(
     declared: &IndexMap<Text, Declared>,
     pairs: &[(Text, Declared)],
 ) -> Option<usize>
-    ensures some { IfSome result (IsFirstToDiffer (store_of declared.now.entries [] [] 0 0) (map pair_of pairs.now)) }
-    ensures none { result ≡ None → AllByRecursion (Agrees (store_of declared.now.entries [] [] 0 0)) (map pair_of pairs.now) }
+    ensures some { IfSome result (IsFirstToDiffer (declaring declared.now.entries) (pairs_of pairs.now)) }
+    ensures none { result ≡ None → AllByRecursion (Agrees (declaring declared.now.entries)) (pairs_of pairs.now) }
 {
     let mut place = 0;
     while place < pairs.len() {
@@ -33,8 +33,8 @@ pub(crate) fn first_to_differ(
 
 /// Whether the uri is declared with other contents.
 fn differs(declared: &IndexMap<Text, Declared>, uri: &Text, contents: &Declared) -> bool
-    ensures yes { IsTrue result → Differs (store_of declared.now.entries [] [] 0 0) (pair_of (uri.now, contents.now)) }
-    ensures no { result ≡ false → Agrees (store_of declared.now.entries [] [] 0 0) (pair_of (uri.now, contents.now)) }
+    ensures yes { IsTrue result → Differs (declaring declared.now.entries) (pair_of (uri.now, contents.now)) }
+    ensures no { result ≡ false → Agrees (declaring declared.now.entries) (pair_of (uri.now, contents.now)) }
 {
     let Some(old) = declared.get(uri) else {
         return false;
@@ -46,9 +46,9 @@ fn differs(declared: &IndexMap<Text, Declared>, uri: &Text, contents: &Declared)
 pub(crate) fn declare_pairs(declared: &mut IndexMap<Text, Declared>, pairs: Vec<(Text, Declared)>)
     requires room { length pairs.items ≤ by_key.spare declared.old }
     requires whole { AllByRecursion IsWhole pairs.items }
-    ensures pairs { map pair_of declared.new.entries ≡ fold with_declared (map pair_of declared.old.entries) (map pair_of pairs.items) }
+    ensures pairs { pairs_of declared.new.entries ≡ fold with_declared (pairs_of declared.old.entries) (pairs_of pairs.items) }
     ensures keeps { Extends declared.old.entries declared.new.entries }
-    ensures unique { by_key.IsUnique (λ a b. bytes_eq a.bytes b.bytes) declared.old → by_key.IsUnique (λ a b. bytes_eq a.bytes b.bytes) declared.new }
+    ensures unique { AreDistinct declared.old.entries → AreDistinct declared.new.entries }
 {
     for (uri, contents) in pairs {
         declare_pair(declared, uri, contents);
@@ -59,9 +59,9 @@ pub(crate) fn declare_pairs(declared: &mut IndexMap<Text, Declared>, pairs: Vec<
 fn declare_pair(declared: &mut IndexMap<Text, Declared>, uri: Text, contents: Declared)
     requires room { 0 < by_key.spare declared.old }
     requires whole { IsWhole (uri, contents) }
-    ensures pairs { map pair_of declared.new.entries ≡ with_declared (map pair_of declared.old.entries) (pair_of (uri, contents)) }
+    ensures pairs { pairs_of declared.new.entries ≡ with_declared (pairs_of declared.old.entries) (pair_of (uri, contents)) }
     ensures keeps { Extends declared.old.entries declared.new.entries }
-    ensures unique { by_key.IsUnique (λ a b. bytes_eq a.bytes b.bytes) declared.old → by_key.IsUnique (λ a b. bytes_eq a.bytes b.bytes) declared.new }
+    ensures unique { AreDistinct declared.old.entries → AreDistinct declared.new.entries }
     ensures spare { by_key.spare declared.old ≤ by_key.spare declared.new + 1 }
 {
     if declared.contains_key(&uri) {

@@ -4,14 +4,14 @@ ghost use Rattle.std.specs.List.{AllByRecursion, IsDistinct};
 ghost use Rattle.std.specs.Map.{keys_of};
 ghost use Rattle.std.specs.Str.{bytes_eq};
 ghost use Rattle.ld_value.specs.Datum.{datum_of};
-ghost use Rattle.ld_globals.specs.Answers.{got};
-ghost use Rattle.ld_globals.specs.Kept.{IsWhole, pair_of};
-ghost use Rattle.ld_globals.specs.Store.{Key, Agrees, KeepsWrites, IsFirstToDiffer, IsSet, IsWritable, bound_of as bound_after, declare_in, get_answer, key_at, put_in, reserve_in, same_key, set_answer, spend, written_since};
+ghost use Rattle.ld_globals.specs.Answers.{got, key_given};
+ghost use Rattle.ld_globals.specs.Kept.{IsWhole, pairs_of};
+ghost use Rattle.ld_globals.specs.Store.{Key, Agrees, KeepsWrites, IsRefused, IsTold, IsSet, IsWritable, bound_of as bound_after, declare_in, get_answer, key_at, put_in, reserve_in, same_key, set_answer, spend, written_since};
 
 use crate::cell::Cell;
 use crate::changes::Changes;
-use crate::declaring::{declare_pairs, first_to_differ};
 use crate::declared::{Declared, DeclaredList, suits};
+use crate::declaring::{declare_pairs, first_to_differ};
 use crate::faults::{DeclareFault, GlobalFault, SetFault};
 use crate::key_number::{KeyNumber, find_cell};
 use crate::reading::{copy_person, read_declared};
@@ -49,8 +49,8 @@ impl Model for Globals {
     ghost use Rattle.indexmap.specs.IndexMap as by_key;
     ghost use Rattle.indexmap.specs.IndexSet as members;
     ghost use Rattle.ld_globals.specs.Kept.{store_of, IsWhole, IsCell, IsCounted, IsTied, IsNumbering};
-    ghost use Rattle.ld_globals.specs.Answers.{got};
-ghost use Rattle.ld_globals.specs.Store.{Store};
+    ghost use Rattle.ld_globals.specs.Answers.{got, key_given};
+    ghost use Rattle.ld_globals.specs.Store.{Store};
 
     ghost Value = { Store };
 
@@ -110,7 +110,7 @@ impl Globals {
         person: Option<&Id>,
         steps: &mut Steps<L>,
     ) -> Result<Option<&Value>, GlobalFault>
-        ensures answer { got result ≡ get_answer self.now (key_at uri.now.bytes (option_copied person.entry)) }
+        ensures answer { got result ≡ get_answer self.now (key_given uri.now person.entry) }
         ensures cost { steps.new ≡ steps.old + 1 }
     {
         steps.tick();
@@ -170,8 +170,8 @@ impl Globals {
     /// Gives the key the text's value. It may take memory, and leaves as many writes to spare as before.
     /// Every refusal leaves the store as it was.
     pub fn set(&mut self, uri: &Text, person: Option<&Id>, text: &str) -> Result<(), SetFault>
-        ensures ok { OnOk result (IsSet self.old self.new (key_at uri.now.bytes (option_copied person.entry)) text.now) }
-        ensures refused { IfErr result (λ fault. fault ≢ SetFault.NoMemory → set_answer self.old (key_at uri.now.bytes (option_copied person.entry)) text.now ≡ Err fault) }
+        ensures ok { OnOk result (IsSet self.old self.new (key_given uri.now person.entry) text.now) }
+        ensures refused { IfErr result (IsRefused (set_answer self.old (key_given uri.now person.entry) text.now)) }
         ensures kept { OnOk result (KeepsWrites self.old self.new) }
         ensures err { OnErr result (self.new ≡ self.old) }
     {
@@ -188,8 +188,8 @@ impl Globals {
 
     /// The value that the key may be set to by the text.
     fn read(&self, uri: &Text, person: Option<&Id>, text: &str) -> Result<Value, SetFault>
-        ensures ok { IfOk result (λ v. set_answer self.now (key_at uri.now.bytes (option_copied person.entry)) text.now ≡ Ok (datum_of v)) }
-        ensures refused { IfErr result (λ fault. fault ≢ SetFault.NoMemory → set_answer self.now (key_at uri.now.bytes (option_copied person.entry)) text.now ≡ Err fault) }
+        ensures ok { IfOk result (λ v. set_answer self.now (key_given uri.now person.entry) text.now ≡ Ok (datum_of v)) }
+        ensures refused { IfErr result (IsRefused (set_answer self.now (key_given uri.now person.entry) text.now)) }
     {
         let Some(declared) = self.declared.get(uri) else {
             return Err(SetFault::UnknownGlobal);
@@ -200,12 +200,12 @@ impl Globals {
     /// Declares all uris of the list, or none. A uri that is declared already stays as it is; where one of
     /// them is declared with other contents the list is refused. The values of the store stay.
     pub fn declare(&mut self, list: DeclaredList) -> Result<(), DeclareFault>
-        requires differ { IsDistinct bytes_eq (keys_of (map pair_of list)) }
+        requires differ { IsDistinct bytes_eq (keys_of (pairs_of list)) }
         requires whole { AllByRecursion IsWhole list }
-        ensures ok { OnOk result (self.new ≡ declare_in self.old (map pair_of list)) }
+        ensures ok { OnOk result (self.new ≡ declare_in self.old (pairs_of list)) }
         ensures kept { OnOk result (KeepsWrites self.old self.new) }
-        ensures agree { OnOk result (AllByRecursion (Agrees self.old) (map pair_of list)) }
-        ensures differs { (place : ℕ) → result ≡ Err (DeclareFault.Differs place) → IsFirstToDiffer self.old (map pair_of list) place }
+        ensures agree { OnOk result (AllByRecursion (Agrees self.old) (pairs_of list)) }
+        ensures differs { IfErr result (IsTold self.old (pairs_of list)) }
         ensures err { OnErr result (self.new ≡ self.old) }
     {
         let pairs = list.into_vec();

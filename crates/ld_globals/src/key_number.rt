@@ -4,7 +4,8 @@ ghost use Rattle.std.specs.List.{AllByRecursion};
 ghost use Rattle.std.specs.Map.{lookup};
 ghost use Rattle.std.specs.Str.{bytes_eq};
 ghost use Rattle.ld_globals.specs.declared.declared.Declared.{Declared};
-ghost use Rattle.ld_globals.specs.Kept.{IsCell, IsNumberOf, IsNumbering, IsPersonNumber, IsUnknown, write_of, written_of};
+ghost use Rattle.ld_globals.specs.Answers.{key_given};
+ghost use Rattle.ld_globals.specs.Kept.{IsAmong, writes_of, IsCell, IsNumberOf, IsNumbering, IsPersonNumber, IsUnknown, write_of, written_of};
 ghost use Rattle.ld_globals.specs.Store.{key_at, same_key};
 
 use crate::cell::Cell;
@@ -30,8 +31,8 @@ pub(crate) fn find_cell<'a>(
 ) -> Option<&'a Cell>
     requires numbers { IsNumbering declared.now.entries persons.now.keys }
     requires cells { AllByRecursion (IsCell declared.now.entries persons.now.keys) cells.now.entries }
-    requires declared { (e : Declared) × (lookup (λ k. bytes_eq uri.now.bytes k.bytes) declared.now.entries ≡ Some e) }
-    ensures { option_map (λ c. write_of c.now) result ≡ lookup (same_key (key_at uri.now.bytes (option_copied person.entry))) (map (written_of declared.now.entries persons.now.keys) cells.now.entries) }
+    requires declared { IsAmong declared.now.entries uri.now.bytes }
+    ensures { option_map (λ c. write_of c.now) result ≡ lookup (same_key (key_given uri.now person.entry)) (writes_of declared.now.entries persons.now.keys cells.now.entries) }
 {
     let (number, _, _) = declared.get_full(uri)?;
     let person = person_number(persons, person)?;

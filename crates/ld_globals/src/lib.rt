@@ -3,9 +3,9 @@
 #![tactic(auto)]
 
 mod cell;
-mod declaring;
 pub mod changes;
 pub mod declared;
+mod declaring;
 pub mod faults;
 pub mod globals;
 mod key_number;

@@ -2,7 +2,8 @@
 ghost use Rattle.std.specs.Prelude.{◌≡◌, ◌≢◌, Ok, Err, IfOk, IfErr, is_some, option_copied};
 ghost use Rattle.ld_value.specs.Datum.{datum_of};
 ghost use Rattle.ld_globals.specs.Declarations.{declaration_of, suits as is_suited};
-ghost use Rattle.ld_globals.specs.Store.{set_value, value_in};
+ghost use Rattle.ld_globals.specs.Kept.{read_in};
+ghost use Rattle.ld_globals.specs.Store.{IsRefused};
 
 use crate::declared::{Declared, suits};
 use crate::faults::SetFault;
@@ -21,8 +22,8 @@ pub(crate) fn read_declared(
     person: Option<&Id>,
     text: &str,
 ) -> Result<Value, SetFault>
-    ensures ok { IfOk result (λ v. set_value (is_suited declared.now.kind (is_some person.entry)) (value_in (declaration_of declared.now) text.now) ≡ Ok (datum_of v)) }
-    ensures refused { IfErr result (λ fault. fault ≢ SetFault.NoMemory → set_value (is_suited declared.now.kind (is_some person.entry)) (value_in (declaration_of declared.now) text.now) ≡ Err fault) }
+    ensures ok { IfOk result (λ v. read_in declared.now (is_some person.entry) text.now ≡ Ok (datum_of v)) }
+    ensures refused { IfErr result (IsRefused (read_in declared.now (is_some person.entry) text.now)) }
 {
     let value = match read_value(alloc, declared.datatype, text) {
         Ok(value) => value,

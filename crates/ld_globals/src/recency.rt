@@ -7,7 +7,6 @@ ghost use Rattle.ld_globals.specs.Recent.{Grows, IsRecency};
 
 use ld_base::memory::NoMemory;
 use ld_base::steps::Steps;
-
 use lru::{Iter, LruCache};
 use std::alloc::Global;
 use std::marker::Model;

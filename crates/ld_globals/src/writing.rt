@@ -8,7 +8,8 @@ ghost use Rattle.indexmap.specs.IndexMap as by_key;
 ghost use Rattle.indexmap.specs.IndexSet as members;
 ghost use Rattle.ld_value.specs.Datum.{datum_of, same_datum};
 ghost use Rattle.ld_globals.specs.Declarations.{declaration_of, fits_declared, suits};
-ghost use Rattle.ld_globals.specs.Kept.{IsCell, IsNumbering, IsPersonNumber, same_number, store_of};
+ghost use Rattle.ld_globals.specs.Answers.{key_given};
+ghost use Rattle.ld_globals.specs.Kept.{IsAmong, IsCell, IsNumbering, IsPersonNumber, same_number, store_of};
 ghost use Rattle.ld_globals.specs.Store.{key_at, last_stamp, next_stamp, value_at};
 ghost use Rattle.ld_globals.specs.declared.declared.Declared.{Declared};
 
@@ -31,8 +32,8 @@ pub(crate) fn has_value(
 ) -> bool
     requires numbers { IsNumbering declared.now.entries persons.now.keys }
     requires cells { AllByRecursion (IsCell declared.now.entries persons.now.keys) cells.now.entries }
-    requires declared { (e : Declared) × (lookup (λ k. bytes_eq uri.now.bytes k.bytes) declared.now.entries ≡ Some e) }
-    ensures { result ≡ option_eq same_datum (value_at (store_of declared.now.entries persons.now.keys cells.now.entries 0 0) (key_at uri.now.bytes (option_copied person.entry))) (option_map datum_of value.now) }
+    requires declared { IsAmong declared.now.entries uri.now.bytes }
+    ensures { result ≡ option_eq same_datum (value_at (store_of declared.now.entries persons.now.keys cells.now.entries 0 0) (key_given uri.now person.entry)) (option_map datum_of value.now) }
 {
     if let Some(cell) = find_cell(declared, persons, cells, uri, person) {
         return same_optional(&cell.value, value);

@@ -1,4 +1,4 @@
-use Rattle.std.proofs.Common.{◌≡◌, ◌↔◌, map, ℕ, ◌<◌, ◌≤◌, length}
+use Rattle.std.proofs.Common.{◌≡◌, ◌↔◌, map, length}
 use Rattle.ld_value.specs.Datum.{datum_of}
 use Rattle.ld_globals.proofs.declared.same_values.Given as goal
 

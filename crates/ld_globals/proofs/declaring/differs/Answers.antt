@@ -1,6 +1,5 @@
-use Rattle.std.proofs.Common.{◌≡◌, Bool, true, false, not, IsTrue, sym, ap, subst}
+use Rattle.std.proofs.Common.{◌≡◌, Bool, true, false, not, IsTrue, sym}
 use Rattle.std.proofs.lemmas.Bool.{true≢false}
-use Rattle.ld_globals.specs.Declarations.{declaration_of}
 use Rattle.ld_globals.proofs.Pairs.{agrees-absent, agrees-same, differs-other}
 use Rattle.ld_globals.proofs.declaring.differs.Goals as goal
 

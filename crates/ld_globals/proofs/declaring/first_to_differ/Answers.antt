@@ -1,4 +1,4 @@
-use Rattle.std.proofs.Common.{◌≡◌, ◌∙◌, ap, Some, sym, refl, ◌<◌, ◌≤◌, ◌+◌, arith}
+use Rattle.std.proofs.Common.{◌∙◌, ap, Some, sym, refl, arith}
 use Rattle.std.proofs.lemmas.Option.{slice_get-get_or}
 use Rattle.ld_globals.proofs.Pairs.{first-to-differ, taken-on}
 use Rattle.ld_globals.proofs.declaring.first_to_differ.Goals as goal

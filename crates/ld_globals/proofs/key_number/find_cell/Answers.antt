@@ -1,4 +1,4 @@
-use Rattle.std.proofs.Common.{◌≡◌, sym, ap, ◌∙◌, refl, option_map, option_copied, None}
+use Rattle.std.proofs.Common.{sym, ap, ◌∙◌, refl, option_map, option_copied}
 use Rattle.std.proofs.lemmas.Map.Made.{lookup_key_passes}
 use Rattle.std.specs.Str.{bytes_eq}
 use Rattle.ld_globals.specs.Kept.{IsNumberOf, write_of}

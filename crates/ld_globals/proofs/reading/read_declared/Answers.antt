@@ -1,4 +1,4 @@
-use Rattle.std.proofs.Common.{◌≡◌, sym, ap, Err, ◌∙◌, is_some}
+use Rattle.std.proofs.Common.{sym, ap, Err, ◌∙◌, is_some}
 use Rattle.ld_value.specs.Datum.{datum_of}
 use Rattle.ld_globals.specs.Declarations.{declaration_of, suits}
 use Rattle.ld_globals.proofs.Texts.{no-value, misfit, unsuited, readable}

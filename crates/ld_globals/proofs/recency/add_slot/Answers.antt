@@ -1,4 +1,4 @@
-use Rattle.std.proofs.Common.{◌≡◌, ◌∙◌, ◌∷◌, ◌++◌, [], length, nat_eq, ◌-◌, ◌^◌, ◌≤◌, arith, take, sym, subst}
+use Rattle.std.proofs.Common.{length, ◌-◌, arith, sym, subst}
 use Rattle.ld_globals.specs.Recent.{IsRecency}
 use Rattle.ld_globals.proofs.Recent.{slot-put, slot-last, grown-recency}
 use Rattle.ld_globals.proofs.recency.add_slot.Goals as goal

@@ -1,4 +1,4 @@
-use Rattle.std.proofs.Common.{◌≡◌, sym, ap, ◌∙◌, option_map, option_copied}
+use Rattle.std.proofs.Common.{sym, ap, ◌∙◌, option_map, option_copied}
 use Rattle.std.specs.Option.{option_eq}
 use Rattle.ld_value.specs.Datum.{datum_of, same_datum}
 use Rattle.ld_globals.proofs.Getting.{value-initial}

@@ -1,7 +1,7 @@
-use Rattle.std.proofs.Common.{◌≡◌, ◌≤◌, ◌+◌, ℕ, List, map, take, length, Contains, IsTrue, sym, ap, subst, ◌∙◌, arith}
+use Rattle.std.proofs.Common.{◌≡◌, ◌≤◌, map, take, length, Contains, IsTrue, sym, ap, subst, ◌∙◌, arith}
 use Rattle.std.specs.List.{AllByRecursion, IsDistinct, prefix_len}
 use Rattle.ld_globals.specs.Kept.{IsFilled, is_later, key_at_slot, walk_left}
-use Rattle.ld_globals.specs.Store.{Key, bound_of, same_key, written_since}
+use Rattle.ld_globals.specs.Store.{bound_of, same_key, written_since}
 use Rattle.ld_globals.proofs.Since.{all-filled, later, later-fewer, since-walk, taken-later, walk-once, walk-since}
 use Rattle.ld_globals.proofs.globals.Globals.changed_since.Goals as goal
 
@@ -26,8 +26,10 @@ returns-clause-exactly g c =
     let keys = key_at_slot s.declared.entries s.persons.keys s.cells.entries in
     let room = c.self.invariant.7 in
     let inv7 : length s.cells.entries ≤ length s.recency = omega (arith, room) in
-    λ key. (λ among. subst (λ store. IsTrue (written_since store stamp key)) c.self.view_is (walk-since s.declared.entries s.persons.keys s.cells.entries c.self.invariant.0 c.self.invariant.2 c.len-count.ensures.unique s.recency c.self.invariant.4 stamp key (subst (λ l. Contains (map keys l) key) front among)),
-        λ since. subst (λ l. Contains (map keys l) key) (sym front) (since-walk s.declared.entries s.persons.keys s.cells.entries c.self.invariant.0 c.self.invariant.2 c.len-count.ensures.unique s.recency c.self.invariant.4 stamp s.stamp key c.iter.ensures.slots inv7 c.self.invariant.3 (subst (λ store. IsTrue (written_since store stamp key)) (sym c.self.view_is) since)))
+    λ key. (
+      λ among. subst (λ store. IsTrue (written_since store stamp key)) c.self.view_is (walk-since s.declared.entries s.persons.keys s.cells.entries c.self.invariant.0 c.self.invariant.2 c.len-count.ensures.unique s.recency c.self.invariant.4 stamp key (subst (λ l. Contains (map keys l) key) front among)),
+      λ since. subst (λ l. Contains (map keys l) key) (sym front) (since-walk s.declared.entries s.persons.keys s.cells.entries c.self.invariant.0 c.self.invariant.2 c.len-count.ensures.unique s.recency c.self.invariant.4 stamp s.stamp key c.iter.ensures.slots inv7 c.self.invariant.3 (subst (λ store. IsTrue (written_since store stamp key)) (sym c.self.view_is) since)),
+    )
 
 pub returns-clause-once : goal.returns-clause-once
 returns-clause-once g c =

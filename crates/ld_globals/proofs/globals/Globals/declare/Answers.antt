@@ -1,8 +1,7 @@
-use Rattle.std.proofs.Common.{◌≡◌, ◌∙◌, ◌++◌, sym, ap, subst, map, List, [], ℕ, None}
+use Rattle.std.proofs.Common.{◌≡◌, ◌∙◌, ◌++◌, sym, ap, subst, map}
 use Rattle.std.specs.List.{AllByRecursion, fold}
-use Rattle.ld_globals.specs.Declarations.{Declaration}
 use Rattle.ld_globals.specs.Kept.{pair_of, store_of, written_of}
-use Rattle.ld_globals.specs.Store.{Agrees, KeepsWrites, Store, Key, Write, declare_in, declared_at, with_declared}
+use Rattle.ld_globals.specs.Store.{Agrees, KeepsWrites, Store, declare_in, with_declared}
 use Rattle.ld_globals.proofs.Keeping.{keeps-declared}
 use Rattle.ld_globals.proofs.Pairs.{written-declared}
 use Rattle.ld_globals.proofs.globals.Globals.declare.Goals as goal

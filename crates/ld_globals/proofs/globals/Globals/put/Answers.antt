@@ -1,4 +1,4 @@
-use Rattle.std.proofs.Common.{◌≡◌, ◌≤◌, ◌+◌, ◌-◌, ◌<◌, ℕ, List, ◌∷◌, ◌++◌, map, length, Some, None, true, false, option_map, option_copied, is_some, refl, sym, ap, subst, ◌∙◌, arith, nat_eq}
+use Rattle.std.proofs.Common.{◌≡◌, ◌≤◌, ◌-◌, List, ◌∷◌, ◌++◌, map, Some, None, true, false, option_map, sym, ap, subst, ◌∙◌, arith, nat_eq}
 use Rattle.std.proofs.lemmas.Map.Made.{lookup_key_passes}
 use Rattle.std.specs.List.{AllByRecursion, position_or_len}
 use Rattle.std.specs.Map.{keys_of, remove_entry}
@@ -6,7 +6,6 @@ use Rattle.std.specs.Option.{option_eq}
 use Rattle.std.specs.Str.{bytes_eq}
 use Rattle.indexmap.specs.IndexMap.{insert_entry}
 use Rattle.ld_value.specs.Datum.{datum_of, same_datum}
-use Rattle.ld_globals.specs.Declarations.{Declaration, declaration_of}
 use Rattle.ld_globals.specs.Kept.{pair_of, IsCell, IsCounted, IsNumbering, IsNumberOf, IsTied, same_number, store_of, write_of, written_of}
 use Rattle.ld_globals.specs.Store.{Key, KeepsWrites, Store, Write, last_stamp, declared_at, declared_in, key_at, next_stamp, put_in, same_key, spend, value_at}
 use Rattle.ld_globals.specs.declared.cell.Cell.{Cell}

@@ -1,4 +1,4 @@
-use Rattle.std.proofs.Common.{◌≡◌, ◌≢◌, ◌∙◌, sym, ap, subst, Ok, Err, IfOk, IfErr, is_some, option_copied}
+use Rattle.std.proofs.Common.{◌≡◌, ◌≢◌, ◌∙◌, sym, ap, subst, Ok, Err, IfOk, IfErr, option_copied}
 use Rattle.ld_value.specs.Datum.{datum_of}
 use Rattle.ld_globals.specs.Declarations.{declaration_of, suits}
 use Rattle.ld_globals.specs.Store.{key_at, set_answer, set_value, value_in}

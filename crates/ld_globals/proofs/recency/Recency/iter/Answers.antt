@@ -1,4 +1,4 @@
-use Rattle.std.proofs.Common.{◌≡◌, ℕ, [], nat_eq, ap, sym, subst, ◌∙◌}
+use Rattle.std.proofs.Common.{ℕ, [], nat_eq, ap, sym, subst, ◌∙◌}
 use Rattle.std.specs.List.{IsDistinct}
 use Rattle.std.specs.Map.{keys_of}
 use Rattle.ld_globals.specs.Recent.{slots_of}
