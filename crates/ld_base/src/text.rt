@@ -1,10 +1,14 @@
 //! Texts in UTF-8 that grow at their end, with a promise of room.
 ghost use Rattle.std.specs.Prelude.{◌≡◌, ◌≤◌, ◌+◌, ◌-◌, ◌<◌, ◌++◌, [], length, All, OnOk, OnErr, IfOk, IsOk, string_bytes, string_len, string_capacity};
-ghost use Rattle.std.specs.Str.{IsUtf8, IsAscii};
+ghost use Rattle.std.specs.Str.{IsUtf8, IsAscii, bytes_eq};
+ghost use Rattle.std.specs.Hash as fed;
+ghost use Rattle.std.specs.Cmp.Rules.{comparing, hashing};
+ghost use Rattle.std.proofs.Common.{rules};
 ghost use Rattle.ld_base.specs.Roomy.{Roomy, KeepsRoom, room_of};
 
 use crate::memory::NoMemory;
 use std::alloc::Global;
+use std::hash::{Hash, Hasher};
 use std::marker::Model;
 
 /// A text, seen by contracts as its bytes and its spare room, both in bytes.
@@ -86,5 +90,30 @@ impl Text {
         ensures room { KeepsRoom self.old self.new }
     {
         self.text.clear();
+    }
+}
+
+/// Two texts are equal where their bytes are, whatever their room.
+impl PartialEq for Text {
+    ghost eq = { λ a b. bytes_eq a.bytes b.bytes };
+
+    ghost laws = { Prim.search (comparing, rules) };
+
+    fn eq(&self, other: &Text) -> bool {
+        self.text == other.text
+    }
+}
+
+impl Eq for Text {
+    ghost laws = { Prim.search (comparing, rules) };
+}
+
+impl Hash for Text {
+    ghost hash_input = { λ t. fed.str t.bytes };
+
+    ghost respects_eq = { Prim.search (hashing, rules) };
+
+    fn hash<H: Hasher>(&self, state: &mut H) {
+        self.text.hash(state)
     }
 }

@@ -1,0 +1,9 @@
+pub mod Pairs
+pub mod Getting
+pub mod Keeping
+pub mod Looked
+pub mod Numbers
+pub mod Since
+pub mod Texts
+pub mod Recent
+pub mod Written

@@ -1,0 +1,115 @@
+use Rattle.std.proofs.Common.{◌≡◌, ◌≤◌, ◌-◌, List, ◌∷◌, ◌++◌, map, Some, None, true, false, option_map, sym, ap, subst, ◌∙◌, arith, nat_eq}
+use Rattle.std.proofs.lemmas.Map.Made.{lookup_key_passes}
+use Rattle.std.specs.List.{AllByRecursion, position_or_len}
+use Rattle.std.specs.Map.{keys_of, remove_entry}
+use Rattle.std.specs.Option.{option_eq}
+use Rattle.std.specs.Str.{bytes_eq}
+use Rattle.indexmap.specs.IndexMap.{insert_entry}
+use Rattle.ld_value.specs.Datum.{datum_of, same_datum}
+use Rattle.ld_globals.specs.Kept.{pair_of, IsCell, IsCounted, IsNumbering, IsNumberOf, IsTied, same_number, store_of, write_of, written_of}
+use Rattle.ld_globals.specs.Store.{Key, KeepsWrites, Store, Write, last_stamp, declared_at, declared_in, key_at, next_stamp, put_in, same_key, spend, value_at}
+use Rattle.ld_globals.specs.declared.cell.Cell.{Cell}
+use Rattle.ld_globals.specs.declared.key_number.KeyNumber.{KeyNumber}
+use Rattle.ld_globals.proofs.Keeping.{keeps-put}
+use Rattle.ld_globals.proofs.Recent.{all-remove}
+use Rattle.ld_globals.proofs.Written.{declaring, declaration-is, new-cell, numbers-counted, put-same, put-other, written-after, cells-after, counted-after, tied-after, tied-first}
+use Rattle.ld_globals.proofs.globals.Globals.put.Goals as goal
+
+pub has_value-requires-clause-declared : goal.has_value-requires-clause-declared
+has_value-requires-clause-declared c = declaring c.self.inside.declared.entries c.args.uri.bytes c.requires.writable.declaration (ap (λ store. declared_at store c.args.uri.bytes) c.self.view_is ∙ c.requires.writable.declared)
+
+pub returns-then-has_value-clause-put : goal.returns-then-has_value-clause-put
+returns-then-has_value-clause-put c =
+    let s = c.self.inside in
+    let key = key_at c.args.uri.bytes c.args.person in
+    let value = option_map datum_of c.args.value in
+    let store = store_of s.declared.entries s.persons.keys s.cells.entries s.stamp s.spare in
+    let same : option_eq same_datum (value_at store key) value ≡ true = ap (λ p. option_eq same_datum (value_at store (key_at c.args.uri.bytes p)) value) (sym c.as_ref.ensures.value) ∙ sym c.has_value.ensures ∙ c.if-has_value.true in
+    sym (ap spend (put-same store key value same)) ∙ ap (λ st. spend (put_in st key value)) c.self.view_is
+
+pub unreachable-requires : goal.unreachable-requires
+unreachable-requires c =
+    let entry = declaring c.self.inside.declared.entries c.args.uri.bytes c.requires.writable.declaration (ap (λ store. declared_at store c.args.uri.bytes) c.self.view_is ∙ c.requires.writable.declared) in
+    let bad : Some entry.0 ≡ None = sym entry.1 ∙ sym c.in_default.ensures.value in
+    cc
+
+pub touch-requires-clause-latest : goal.touch-requires-clause-latest
+touch-requires-clause-latest c =
+    let s = c.self.inside in
+    numbers-counted s.cells.entries s.stamp c.next_number-number.result c.next_number-number.ensures.more c.self.invariant.3 s.recency c.self.invariant.4
+
+pub invariant_of-self-2 : goal.invariant_of-self-2
+invariant_of-self-2 c =
+    let s = c.self.inside in
+    let declared = s.declared.entries in
+    let persons = s.persons.keys in
+    let cells = s.cells.entries in
+    let now = c.number_person-person.new.persons.keys in
+    let added = c.number_person-person.ensures.keeps.0 in
+    let is : now ≡ persons ++ added = c.number_person-person.ensures.keeps.1 in
+    let key = key_at c.args.uri.bytes c.args.person in
+    let k : KeyNumber = record { uri = c.in-Some.uri; person = c.number_person-person.result } in
+    let cell : Cell = record { value = c.args.value; number = c.next_number-number.result } in
+    let d = c.requires.writable.declaration in
+    let at : declared_in (map pair_of declared) c.args.uri.bytes ≡ Some d = ap (λ store. declared_at store c.args.uri.bytes) c.self.view_is ∙ c.requires.writable.declared in
+    let number : IsNumberOf declared now key k = record { entry = (c.in-Some.field-0-1.now, c.in-Some.field-0-2.now); there = c.in-Some.ensures.entry; same = lookup_key_passes (λ q. bytes_eq c.args.uri.bytes q.bytes) declared c.in-Some.field-0-1.now (sym c.in-Some.ensures.key); person = c.number_person-person.ensures.number } in
+    let declares = declaration-is declared c.args.uri.bytes d c.in-Some.field-0-2.now at (sym c.in-Some.ensures.value) in
+    let new = new-cell declared now key k number cell d declares c.requires.writable.suited c.requires.writable.fitting in
+    let next = c.next_number-number.ensures in
+    let slot = c.write_cell-slot.ensures.slot in
+    let entries = c.write_cell-slot.ensures.entries in
+    let all-cells = cells-after declared persons added cells key k cell c.self.invariant.2 (subst (λ ps. IsCell declared ps (k, cell)) is new) in
+    let counted = counted-after declared persons added cells key k cell s.stamp c.next_number-number.result next.more (next.some, omega arith) c.self.invariant.3 in
+    let tied = tied-after declared persons added cells key k cell (remove_entry (nat_eq (position_or_len (same_number k) (keys_of cells))) s.recency) (all-remove (nat_eq (position_or_len (same_number k) (keys_of cells))) (IsTied cells) s.recency c.self.invariant.4) (subst (λ n. AllByRecursion (λ e. nat_eq n e.0 ≡ false) (remove_entry (nat_eq n) s.recency)) slot c.touch.ensures.others) in
+    let first = tied-first declared persons added cells key k cell in
+    let spare = c.requires.spare in
+    let view = ap (λ st. st.spare) c.self.view_is in
+    let persons-spare = c.number_person-person.ensures.spare in
+    let cells-spare = c.write_cell-slot.ensures.spare in
+    let inv5 = c.self.invariant.5 in
+    let inv6 = c.self.invariant.6 in
+    let inv7 = c.self.invariant.7 in
+    let count = c.write_cell-slot.ensures.count in
+    let slots = c.touch.ensures.count in
+    ((c.self.invariant.0.0, c.number_person-person.ensures.unique c.self.invariant.0.1), c.self.invariant.1, subst (λ ps. AllByRecursion (IsCell declared ps) c.write_cell-slot.new.cells.entries) (sym is) (subst (AllByRecursion (IsCell declared (persons ++ added))) (sym entries) all-cells), subst (AllByRecursion (IsCounted c.next_number-number.result)) (sym entries) counted, subst (λ es. AllByRecursion (IsTied es) c.touch.new.self) (sym entries) (subst (AllByRecursion (IsTied (insert_entry same_number cells k cell))) (sym (c.touch.ensures.slots ∙ ap (λ n. (n, c.next_number-number.result) ∷ remove_entry (nat_eq n) s.recency) slot)) (first, tied)), omega (arith, inv5, persons-spare), omega (arith, inv6, cells-spare), omega (arith, inv7, count, slots, spare, view))
+
+pub returns-clause-put : goal.returns-clause-put
+returns-clause-put c =
+    let s = c.self.inside in
+    let declared = s.declared.entries in
+    let persons = s.persons.keys in
+    let cells = s.cells.entries in
+    let now = c.number_person-person.new.persons.keys in
+    let added = c.number_person-person.ensures.keeps.0 in
+    let is : now ≡ persons ++ added = c.number_person-person.ensures.keeps.1 in
+    let key = key_at c.args.uri.bytes c.args.person in
+    let value = option_map datum_of c.args.value in
+    let k : KeyNumber = record { uri = c.in-Some.uri; person = c.number_person-person.result } in
+    let cell : Cell = record { value = c.args.value; number = c.next_number-number.result } in
+    let number : IsNumberOf declared now key k = record { entry = (c.in-Some.field-0-1.now, c.in-Some.field-0-2.now); there = c.in-Some.ensures.entry; same = lookup_key_passes (λ q. bytes_eq c.args.uri.bytes q.bytes) declared c.in-Some.field-0-1.now (sym c.in-Some.ensures.key); person = c.number_person-person.ensures.number } in
+    let distinct : IsNumbering declared now = (c.self.invariant.0.0, c.number_person-person.ensures.unique c.self.invariant.0.1) in
+    let after = written-after declared persons added cells key k cell (subst (IsNumbering declared) is distinct) (subst (λ ps. IsNumberOf declared ps key k) is number) c.self.invariant.2 in
+    let written : map (written_of declared now) c.write_cell-slot.new.cells.entries ≡ insert_entry same_key (map (written_of declared persons) cells) key (write_of cell) = subst (λ ps. map (written_of declared ps) c.write_cell-slot.new.cells.entries ≡ insert_entry same_key (map (written_of declared persons) cells) key (write_of cell)) (sym is) (ap (map (written_of declared (persons ++ added))) c.write_cell-slot.ensures.entries ∙ after) in
+    let next : c.next_number-number.result ≡ next_stamp s.stamp = c.next_number-number.ensures.next in
+    let store = store_of declared persons cells s.stamp s.spare in
+    let other : option_eq same_datum (value_at store key) value ≡ false = ap (λ p. option_eq same_datum (value_at store (key_at c.args.uri.bytes p)) value) (sym c.as_ref.ensures.value) ∙ sym c.has_value.ensures ∙ c.if-has_value.false in
+    let made : spend (put_in store key value) ≡ spend (put_in c.args.self.now key value) = ap (λ st. spend (put_in st key value)) c.self.view_is in
+    let put = put-other store key value other in
+    let stored : List (Key × Write) = insert_entry same_key (map (written_of declared persons) cells) key (record { value = value; number = next_stamp s.stamp }) in
+    let numbered : map (written_of declared now) c.write_cell-slot.new.cells.entries ≡ stored = written ∙ ap (λ n. insert_entry same_key (map (written_of declared persons) cells) key (record { value = value; number = n })) next in
+    (λ i. record { declared = map pair_of declared; written = numbered i; stamp = next i; spare = s.spare - 1 }) ∙ sym (ap spend put) ∙ made
+
+spent : (old new : Store) → KeepsWrites old new → KeepsWrites old (spend new)
+spent old new keeps = record { stamp = keeps.stamp; written = keeps.written; changed = keeps.changed }
+
+pub returns-then-has_value-clause-kept : goal.returns-then-has_value-clause-kept
+returns-then-has_value-clause-kept c =
+    let key = key_at c.args.uri.bytes c.args.person in
+    let value = option_map datum_of c.args.value in
+    subst (KeepsWrites c.args.self.now) (sym (returns-then-has_value-clause-put c)) (spent c.args.self.now (put_in c.args.self.now key value) (keeps-put c.args.self.now key value (subst (λ store. store.stamp ≤ last_stamp) c.self.view_is c.next_number-number.ensures.most)))
+
+pub returns-clause-kept : goal.returns-clause-kept
+returns-clause-kept c =
+    let key = key_at c.args.uri.bytes c.args.person in
+    let value = option_map datum_of c.args.value in
+    subst (KeepsWrites c.args.self.now) (sym (returns-clause-put c)) (spent c.args.self.now (put_in c.args.self.now key value) (keeps-put c.args.self.now key value (subst (λ store. store.stamp ≤ last_stamp) c.self.view_is c.next_number-number.ensures.most)))

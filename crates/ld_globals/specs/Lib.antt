@@ -1,0 +1,5 @@
+pub mod Answers
+pub mod Declarations
+pub mod Kept
+pub mod Recent
+pub mod Store

@@ -1,0 +1,55 @@
+//! The numbers by which a key is kept.
+ghost use Rattle.std.specs.Prelude.{◌≡◌, Some, None, IfSome, map, option_map, option_copied};
+ghost use Rattle.std.specs.List.{AllByRecursion};
+ghost use Rattle.std.specs.Map.{lookup};
+ghost use Rattle.std.specs.Str.{bytes_eq};
+ghost use Rattle.ld_globals.specs.declared.declared.Declared.{Declared};
+ghost use Rattle.ld_globals.specs.Answers.{key_given};
+ghost use Rattle.ld_globals.specs.Kept.{IsAmong, writes_of, IsCell, IsNumberOf, IsNumbering, IsPersonNumber, IsUnknown, write_of, written_of};
+ghost use Rattle.ld_globals.specs.Store.{key_at, same_key};
+
+use crate::cell::Cell;
+use crate::declared::Declared;
+use indexmap::{IndexMap, IndexSet};
+use ld_base::id::Id;
+use ld_base::text::Text;
+
+/// A key by the number of its uri and, where it has a person, the person's number.
+#[derive(Clone, Copy, Debug, PartialEq, Eq, Hash)]
+pub(crate) struct KeyNumber {
+    pub(crate) uri: usize,
+    pub(crate) person: Option<usize>,
+}
+
+/// The cell of a key, if it was ever written.
+pub(crate) fn find_cell<'a>(
+    declared: &IndexMap<Text, Declared>,
+    persons: &IndexSet<Id>,
+    cells: &'a IndexMap<KeyNumber, Cell>,
+    uri: &Text,
+    person: Option<&Id>,
+) -> Option<&'a Cell>
+    requires numbers { IsNumbering declared.now.entries persons.now.keys }
+    requires cells { AllByRecursion (IsCell declared.now.entries persons.now.keys) cells.now.entries }
+    requires declared { IsAmong declared.now.entries uri.now.bytes }
+    ensures { option_map (λ c. write_of c.now) result ≡ lookup (same_key (key_given uri.now person.entry)) (writes_of declared.now.entries persons.now.keys cells.now.entries) }
+{
+    let (number, _, _) = declared.get_full(uri)?;
+    let person = person_number(persons, person)?;
+    cells.get(&KeyNumber {
+        uri: number,
+        person,
+    })
+}
+
+/// The person's number, None where no person is given; nothing where the person has no number.
+pub(crate) fn person_number(persons: &IndexSet<Id>, person: Option<&Id>) -> Option<Option<usize>>
+    ensures some { IfSome result (IsPersonNumber persons.now.keys (option_copied person.entry)) }
+    ensures none { result ≡ None → IsUnknown persons.now.keys (option_copied person.entry) }
+{
+    let Some(id) = person else {
+        return Some(None);
+    };
+    let (number, _) = persons.get_full(id)?;
+    Some(Some(number))
+}

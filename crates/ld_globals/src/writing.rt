@@ -1,0 +1,91 @@
+//! Writing a value, part by part. What it takes was reserved.
+ghost use Rattle.std.specs.Prelude.{◌≡◌, ◌≢◌, ◌≤◌, ◌<◌, ◌+◌, ◌++◌, List, ℕ, Some, IsTrue, length, map, slice_get, option_map, option_copied, is_some};
+ghost use Rattle.std.specs.List.{AllByRecursion, IsDistinct, position_or_len};
+ghost use Rattle.std.specs.Map.{keys_of, lookup};
+ghost use Rattle.std.specs.Option.{option_eq};
+ghost use Rattle.std.specs.Str.{bytes_eq};
+ghost use Rattle.indexmap.specs.IndexMap as by_key;
+ghost use Rattle.indexmap.specs.IndexSet as members;
+ghost use Rattle.ld_value.specs.Datum.{datum_of, same_datum};
+ghost use Rattle.ld_globals.specs.Declarations.{declaration_of, fits_declared, suits};
+ghost use Rattle.ld_globals.specs.Answers.{key_given};
+ghost use Rattle.ld_globals.specs.Kept.{IsAmong, IsCell, IsNumbering, IsPersonNumber, same_number, store_of};
+ghost use Rattle.ld_globals.specs.Store.{key_at, last_stamp, next_stamp, value_at};
+ghost use Rattle.ld_globals.specs.declared.declared.Declared.{Declared};
+
+use crate::cell::Cell;
+use crate::declared::{Declared, same_optional};
+use crate::key_number::{KeyNumber, find_cell};
+use indexmap::{IndexMap, IndexSet};
+use ld_base::id::Id;
+use ld_base::text::Text;
+use ld_value::value::Value;
+
+/// Whether the key has this value.
+pub(crate) fn has_value(
+    declared: &IndexMap<Text, Declared>,
+    persons: &IndexSet<Id>,
+    cells: &IndexMap<KeyNumber, Cell>,
+    uri: &Text,
+    person: Option<&Id>,
+    value: &Option<Value>,
+) -> bool
+    requires numbers { IsNumbering declared.now.entries persons.now.keys }
+    requires cells { AllByRecursion (IsCell declared.now.entries persons.now.keys) cells.now.entries }
+    requires declared { IsAmong declared.now.entries uri.now.bytes }
+    ensures { result ≡ option_eq same_datum (value_at (store_of declared.now.entries persons.now.keys cells.now.entries 0 0) (key_given uri.now person.entry)) (option_map datum_of value.now) }
+{
+    if let Some(cell) = find_cell(declared, persons, cells, uri, person) {
+        return same_optional(&cell.value, value);
+    }
+    let Some(declared) = declared.get(uri) else {
+        unreachable!();
+    };
+    same_optional(&declared.initial, value)
+}
+
+/// The number of the person, who is given one where there was none.
+pub(crate) fn number_person(persons: &mut IndexSet<Id>, person: Option<Id>) -> Option<usize>
+    requires { 0 < members.spare persons.old }
+    ensures number { IsPersonNumber persons.new.keys person result }
+    ensures keeps { (added : List (List ℕ)) × (persons.new.keys ≡ persons.old.keys ++ added) }
+    ensures unique { IsDistinct bytes_eq persons.old.keys → IsDistinct bytes_eq persons.new.keys }
+    ensures spare { members.spare persons.old ≤ members.spare persons.new + 1 }
+{
+    let Some(id) = person else {
+        return None;
+    };
+    let Ok((number, _)) = persons.insert_full(id) else {
+        unreachable!();
+    };
+    Some(number)
+}
+
+/// Writes the cell of the key with these numbers, and gives its slot.
+pub(crate) fn write_cell(
+    cells: &mut IndexMap<KeyNumber, Cell>,
+    number: KeyNumber,
+    cell: Cell,
+) -> usize
+    requires { 0 < by_key.spare cells.old }
+    ensures entries { cells.new.entries ≡ by_key.insert_entry same_number cells.old.entries number cell }
+    ensures slot { result ≡ position_or_len (same_number number) (keys_of cells.old.entries) }
+    ensures within { result < length cells.new.entries }
+    ensures count { length cells.new.entries ≤ length cells.old.entries + 1 }
+    ensures spare { by_key.spare cells.old ≤ by_key.spare cells.new + 1 }
+{
+    let Ok((slot, _)) = cells.insert_full(number, cell) else {
+        unreachable!();
+    };
+    slot
+}
+
+/// The number of one write more, up to the last number, which stays.
+pub(crate) fn next_number(stamp: u64) -> u64
+    ensures next { result ≡ next_stamp stamp }
+    ensures some { 0 < result }
+    ensures more { stamp ≤ result }
+    ensures most { stamp ≤ last_stamp }
+{
+    stamp.saturating_add(1)
+}
