@@ -29,13 +29,18 @@ fn put(rt: &HostRuntime, room: &str, file: &str, bytes: &[u8]) -> io::Result<()>
     fs::write(rt, format!(in rt.alloc(); "{room}/course/{file}")?, bytes)
 }
 
+/// Writes a file of so many blanks of the course in this folder.
+fn put_blanks(rt: &HostRuntime, room: &str, file: &str, count: usize) -> io::Result<()> {
+    let blanks = vec![in rt.alloc(); b' '; count]?;
+    put(rt, room, file, blanks.as_slice())
+}
+
 /// Writes the files of a course into this folder.
 fn put_course(rt: &HostRuntime, room: &str) -> io::Result<()> {
     fs::create_dir_all(rt, format!(in rt.alloc(); "{room}/course")?)?;
     put(rt, room, "roles.json", b"[1, 2]")?;
-    let blanks = vec![in rt.alloc(); b' '; FILE_LIMIT + 1]?;
-    put(rt, room, "more", blanks.as_slice())?;
-    put(rt, room, "most", &blanks[..FILE_LIMIT])
+    put_blanks(rt, room, "more", FILE_LIMIT + 1)?;
+    put_blanks(rt, room, "most", FILE_LIMIT)
 }
 
 /// Whether the shelf answers so of a folder in this one.
