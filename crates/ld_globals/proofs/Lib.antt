@@ -1,4 +1,5 @@
 pub mod Pairs
+pub mod Fitting
 pub mod Getting
 pub mod Keeping
 pub mod Looked

@@ -6,9 +6,13 @@ use Rattle.ld_globals.specs.Store.{Key, key_at}
 use Rattle.ld_value.specs.Datum.{Datum, datum_of}
 use Rattle.ld_value.specs.declared.value.Value.{Value}
 
+-- What a given value means.
+abbrev pub meaning : Option (Bor Value) → Option Datum
+meaning value = option_map (λ v. datum_of v.now) value
+
 -- The answer, with what a given value means.
 abbrev pub got : {E : Type 0} → Result (Option (Bor Value)) E → Result (Option Datum) E
-got (Ok value) = Ok (option_map (λ v. datum_of v.now) value)
+got (Ok value) = Ok (meaning value)
 got (Err fault) = Err fault
 
 -- The key of a uri and a person that are given.

@@ -14,8 +14,8 @@ use ld_base::text::Text;
 use lru::Iter;
 use std::marker::Model;
 
-/// An iterator over keys of the store, the latest write first: each as its uri and, where it has one, its
-/// person. Contracts see it as the list of the keys that it has left.
+/// An iterator over keys of the store, the latest write first: each as its uri and, where it has
+/// one, its person. Contracts see it as the list of the keys that it has left.
 #[derive(Drop)]
 pub struct Changes<'a> {
     pub(crate) declared: &'a IndexMap<Text, Declared>,
@@ -33,9 +33,12 @@ impl<'a> Model for Changes<'a> {
 
     ghost Value = { List Key };
 
-    ghost view = { λ c. map (key_at_slot c.declared.now.entries c.persons.now.keys c.cells.now.entries) (take c.left (walk_left c.slots)) };
+    ghost view = { λ c. map (key_at_slot c.declared.now.entries c.persons.now.keys c.cells.now.entries)
+        (take c.left (walk_left c.slots)) };
 
-    ghost invariant = { λ c. (c.left ≤ length (walk_left c.slots)) × AllByRecursion (IsFilled c.declared.now.entries c.persons.now.keys c.cells.now.entries) (take c.left (walk_left c.slots)) };
+    ghost invariant = { λ c. (c.left ≤ length (walk_left c.slots))
+        × AllByRecursion (IsFilled c.declared.now.entries c.persons.now.keys c.cells.now.entries)
+        (take c.left (walk_left c.slots)) };
 }
 
 impl<'a> Iterator for Changes<'a> {
@@ -68,7 +71,8 @@ fn shown<'a>(
     slot: usize,
 ) -> (&'a Text, Option<&'a Id>)
     requires { IsFilled declared.now.entries persons.now.keys cells.now.entries (slot, 0) }
-    ensures { shown_key result ≡ key_at_slot declared.now.entries persons.now.keys cells.now.entries (slot, 0) }
+    ensures { shown_key result ≡ key_at_slot declared.now.entries persons.now.keys
+        cells.now.entries (slot, 0) }
 {
     let Some((number, _)) = cells.get_index(slot) else {
         unreachable!();

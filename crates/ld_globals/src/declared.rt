@@ -44,7 +44,8 @@ impl Drop for Declared {
 /// A list of uris, each with how it is declared.
 pub type DeclaredList = Items<(Text, Declared)>;
 
-/// Whether the two declare alike: one kind, one datatype, and equal restrictions and initial values.
+/// Whether the two declare alike: one kind, one datatype, and equal restrictions and initial
+/// values.
 pub fn same_declared(first: &Declared, second: &Declared) -> bool
     ensures { IsTrue result ↔ (declaration_of first.now ≡ declaration_of second.now) }
 {
@@ -77,8 +78,10 @@ fn same_limits(first: &Limits, second: &Limits) -> bool
 
 /// Whether both are absent or are one value.
 pub(crate) fn same_optional(first: &Option<Value>, second: &Option<Value>) -> bool
-    ensures test { result ≡ option_eq same_datum (option_map datum_of first.now) (option_map datum_of second.now) }
-    ensures same { IsTrue result ↔ (option_map datum_of first.now ≡ option_map datum_of second.now) }
+    ensures test { result ≡ option_eq same_datum (option_map datum_of first.now)
+        (option_map datum_of second.now) }
+    ensures same { IsTrue result ↔ (option_map datum_of first.now
+        ≡ option_map datum_of second.now) }
 {
     match (first, second) {
         (Some(a), Some(b)) => same_value(a, b),

@@ -17,8 +17,10 @@ pub(crate) fn first_to_differ(
     declared: &IndexMap<Text, Declared>,
     pairs: &[(Text, Declared)],
 ) -> Option<usize>
-    ensures some { IfSome result (IsFirstToDiffer (declaring declared.now.entries) (pairs_of pairs.now)) }
-    ensures none { result ≡ None → AllByRecursion (Agrees (declaring declared.now.entries)) (pairs_of pairs.now) }
+    ensures some { IfSome result (IsFirstToDiffer (declaring declared.now.entries)
+        (pairs_of pairs.now)) }
+    ensures none { result ≡ None → AllByRecursion (Agrees (declaring declared.now.entries))
+        (pairs_of pairs.now) }
 {
     let mut place = 0;
     while place < pairs.len() {
@@ -33,8 +35,10 @@ pub(crate) fn first_to_differ(
 
 /// Whether the uri is declared with other contents.
 fn differs(declared: &IndexMap<Text, Declared>, uri: &Text, contents: &Declared) -> bool
-    ensures yes { IsTrue result → Differs (declaring declared.now.entries) (pair_of (uri.now, contents.now)) }
-    ensures no { result ≡ false → Agrees (declaring declared.now.entries) (pair_of (uri.now, contents.now)) }
+    ensures yes { IsTrue result → Differs (declaring declared.now.entries)
+        (pair_of (uri.now, contents.now)) }
+    ensures no { result ≡ false → Agrees (declaring declared.now.entries)
+        (pair_of (uri.now, contents.now)) }
 {
     let Some(old) = declared.get(uri) else {
         return false;
@@ -42,11 +46,13 @@ fn differs(declared: &IndexMap<Text, Declared>, uri: &Text, contents: &Declared)
     !same_declared(old, contents)
 }
 
-/// Declares the pairs in turn, each where its uri is not declared yet. What it takes was reserved.
+/// Declares the pairs in turn, each where its uri is not declared yet. What it takes was
+/// reserved.
 pub(crate) fn declare_pairs(declared: &mut IndexMap<Text, Declared>, pairs: Vec<(Text, Declared)>)
     requires room { length pairs.items ≤ by_key.spare declared.old }
     requires whole { AllByRecursion IsWhole pairs.items }
-    ensures pairs { pairs_of declared.new.entries ≡ fold with_declared (pairs_of declared.old.entries) (pairs_of pairs.items) }
+    ensures pairs { pairs_of declared.new.entries
+        ≡ fold with_declared (pairs_of declared.old.entries) (pairs_of pairs.items) }
     ensures keeps { Extends declared.old.entries declared.new.entries }
     ensures unique { AreDistinct declared.old.entries → AreDistinct declared.new.entries }
 {
@@ -59,7 +65,8 @@ pub(crate) fn declare_pairs(declared: &mut IndexMap<Text, Declared>, pairs: Vec<
 fn declare_pair(declared: &mut IndexMap<Text, Declared>, uri: Text, contents: Declared)
     requires room { 0 < by_key.spare declared.old }
     requires whole { IsWhole (uri, contents) }
-    ensures pairs { pairs_of declared.new.entries ≡ with_declared (pairs_of declared.old.entries) (pair_of (uri, contents)) }
+    ensures pairs { pairs_of declared.new.entries
+        ≡ with_declared (pairs_of declared.old.entries) (pair_of (uri, contents)) }
     ensures keeps { Extends declared.old.entries declared.new.entries }
     ensures unique { AreDistinct declared.old.entries → AreDistinct declared.new.entries }
     ensures spare { by_key.spare declared.old ≤ by_key.spare declared.new + 1 }

@@ -17,7 +17,8 @@ pub enum DeclareFault {
 pub enum GlobalFault {
     /// The uri is not declared.
     UnknownGlobal,
-    /// A person is given for a property with one value for all, or none for one with a value for each.
+    /// A person is given for a property with one value for all, or none for one with a value for
+    /// each.
     NotAllowed,
 }
 
@@ -28,7 +29,8 @@ pub enum SetFault {
     UnknownGlobal,
     /// The text has no value of the datatype, or one that does not fit the restrictions.
     BadValue,
-    /// A person is given for a property with one value for all, or none for one with a value for each.
+    /// A person is given for a property with one value for all, or none for one with a value for
+    /// each.
     NotAllowed,
     /// The allocator gave no memory.
     NoMemory,

@@ -4,7 +4,7 @@ ghost use Rattle.std.specs.List.{AllByRecursion, IsDistinct};
 ghost use Rattle.std.specs.Map.{keys_of};
 ghost use Rattle.std.specs.Str.{bytes_eq};
 ghost use Rattle.ld_value.specs.Datum.{datum_of};
-ghost use Rattle.ld_globals.specs.Answers.{got, key_given};
+ghost use Rattle.ld_globals.specs.Answers.{got, key_given, meaning};
 ghost use Rattle.ld_globals.specs.Kept.{IsWhole, pairs_of};
 ghost use Rattle.ld_globals.specs.Store.{Key, Agrees, KeepsWrites, IsRefused, IsTold, IsSet, IsWritable, bound_of as bound_after, declare_in, get_answer, key_at, put_in, reserve_in, same_key, set_answer, spend, written_since};
 
@@ -27,9 +27,9 @@ use std::alloc::Global;
 use std::marker::Model;
 use std::sync::ledger::Ledger;
 
-/// The store of global values, seen by contracts as its declarations, the last write of each key, the
-/// number of all writes, and how many more writes are sure to need no memory. Each value fits the
-/// declaration of its uri.
+/// The store of global values, seen by contracts as its declarations, the last write of each key,
+/// the number of all writes, and how many more writes are sure to need no memory. Each value fits
+/// the declaration of its uri.
 #[derive(Drop)]
 pub struct Globals {
     alloc: Global,
@@ -49,17 +49,19 @@ impl Model for Globals {
     ghost use Rattle.indexmap.specs.IndexMap as by_key;
     ghost use Rattle.indexmap.specs.IndexSet as members;
     ghost use Rattle.ld_globals.specs.Kept.{store_of, IsWhole, IsCell, IsCounted, IsTied, IsNumbering};
-    ghost use Rattle.ld_globals.specs.Answers.{got, key_given};
     ghost use Rattle.ld_globals.specs.Store.{Store};
 
     ghost Value = { Store };
 
     ghost view = { λ s. store_of s.declared.entries s.persons.keys s.cells.entries s.stamp s.spare };
 
-    ghost invariant = { λ s. IsNumbering s.declared.entries s.persons.keys × AllByRecursion IsWhole s.declared.entries
-        × AllByRecursion (IsCell s.declared.entries s.persons.keys) s.cells.entries × AllByRecursion (IsCounted s.stamp) s.cells.entries
+    ghost invariant = { λ s. IsNumbering s.declared.entries s.persons.keys
+        × AllByRecursion IsWhole s.declared.entries
+        × AllByRecursion (IsCell s.declared.entries s.persons.keys) s.cells.entries
+        × AllByRecursion (IsCounted s.stamp) s.cells.entries
         × AllByRecursion (IsTied s.cells.entries) s.recency
-        × (s.spare ≤ members.spare s.persons) × (s.spare ≤ by_key.spare s.cells) × (length s.cells.entries + s.spare ≤ length s.recency) };
+        × (s.spare ≤ members.spare s.persons) × (s.spare ≤ by_key.spare s.cells)
+        × (length s.cells.entries + s.spare ≤ length s.recency) };
 }
 
 impl Globals {
@@ -85,10 +87,11 @@ impl Globals {
         self.stamp
     }
 
-    /// The keys that were written after the stamp, each once, the latest write first; after the last stamp
-    /// all that were ever written. Each key that the iterator can give is a step.
+    /// The keys that were written after the stamp, each once, the latest write first; after the
+    /// last stamp all that were ever written. Each key that the iterator can give is a step.
     pub fn changed_since<L: Ledger>(&self, stamp: u64, steps: &mut Steps<L>) -> Changes<'_>
-        ensures exactly { (key : Key) → Contains result key ↔ IsTrue (written_since self.now stamp key) }
+        ensures exactly { (key : Key) → Contains result key
+            ↔ IsTrue (written_since self.now stamp key) }
         ensures once { IsDistinct same_key result }
         ensures cost { steps.new ≡ steps.old + length result }
     {
@@ -110,6 +113,8 @@ impl Globals {
         person: Option<&Id>,
         steps: &mut Steps<L>,
     ) -> Result<Option<&Value>, GlobalFault>
+        ensures writable { IfOk result (λ value.
+            IsWritable self.now (key_given uri.now person.entry) (meaning value)) }
         ensures answer { got result ≡ get_answer self.now (key_given uri.now person.entry) }
         ensures cost { steps.new ≡ steps.old + 1 }
     {
@@ -126,7 +131,8 @@ impl Globals {
         }
     }
 
-    /// Makes sure that so many writes need no memory. Where memory is wanting the store stays as it was.
+    /// Makes sure that so many writes need no memory. Where memory is wanting the store stays as
+    /// it was.
     pub fn reserve(&mut self, writes: u32) -> Result<(), NoMemory>
         ensures ok { OnOk result (self.new ≡ reserve_in self.old writes) }
         ensures kept { OnOk result (KeepsWrites self.old self.new) }
@@ -138,8 +144,10 @@ impl Globals {
     /// Gives the key the value. It takes no memory, and one of the writes that are to spare.
     pub fn put(&mut self, uri: Text, person: Option<Id>, value: Option<Value>)
         requires spare { 0 < self.old.spare }
-        requires writable { IsWritable self.old (key_at uri.bytes person) (option_map datum_of value) }
-        ensures put { self.new ≡ spend (put_in self.old (key_at uri.bytes person) (option_map datum_of value)) }
+        requires writable { IsWritable self.old (key_at uri.bytes person)
+            (option_map datum_of value) }
+        ensures put { self.new ≡ spend (put_in self.old (key_at uri.bytes person)
+            (option_map datum_of value)) }
         ensures kept { KeepsWrites self.old self.new }
     {
         let number = next_number(self.stamp);
@@ -167,11 +175,13 @@ impl Globals {
         self.stamp = number;
     }
 
-    /// Gives the key the text's value. It may take memory, and leaves as many writes to spare as before.
-    /// Every refusal leaves the store as it was.
+    /// Gives the key the text's value. It may take memory, and leaves as many writes to spare as
+    /// before. Every refusal leaves the store as it was.
     pub fn set(&mut self, uri: &Text, person: Option<&Id>, text: &str) -> Result<(), SetFault>
-        ensures ok { OnOk result (IsSet self.old self.new (key_given uri.now person.entry) text.now) }
-        ensures refused { IfErr result (IsRefused (set_answer self.old (key_given uri.now person.entry) text.now)) }
+        ensures ok { OnOk result (IsSet self.old self.new
+            (key_given uri.now person.entry) text.now) }
+        ensures refused { IfErr result (IsRefused (set_answer self.old
+            (key_given uri.now person.entry) text.now)) }
         ensures kept { OnOk result (KeepsWrites self.old self.new) }
         ensures err { OnErr result (self.new ≡ self.old) }
     {
@@ -188,8 +198,10 @@ impl Globals {
 
     /// The value that the key may be set to by the text.
     fn read(&self, uri: &Text, person: Option<&Id>, text: &str) -> Result<Value, SetFault>
-        ensures ok { IfOk result (λ v. set_answer self.now (key_given uri.now person.entry) text.now ≡ Ok (datum_of v)) }
-        ensures refused { IfErr result (IsRefused (set_answer self.now (key_given uri.now person.entry) text.now)) }
+        ensures ok { IfOk result (λ v. set_answer self.now (key_given uri.now person.entry) text.now
+            ≡ Ok (datum_of v)) }
+        ensures refused { IfErr result (IsRefused (set_answer self.now
+            (key_given uri.now person.entry) text.now)) }
     {
         let Some(declared) = self.declared.get(uri) else {
             return Err(SetFault::UnknownGlobal);
@@ -197,8 +209,9 @@ impl Globals {
         read_declared(self.alloc, declared, person, text)
     }
 
-    /// Declares all uris of the list, or none. A uri that is declared already stays as it is; where one of
-    /// them is declared with other contents the list is refused. The values of the store stay.
+    /// Declares all uris of the list, or none. A uri that is declared already stays as it is;
+    /// where one of them is declared with other contents the list is refused. The values of the
+    /// store stay.
     pub fn declare(&mut self, list: DeclaredList) -> Result<(), DeclareFault>
         requires differ { IsDistinct bytes_eq (keys_of (pairs_of list)) }
         requires whole { AllByRecursion IsWhole list }

@@ -30,9 +30,12 @@ pub(crate) fn find_cell<'a>(
     person: Option<&Id>,
 ) -> Option<&'a Cell>
     requires numbers { IsNumbering declared.now.entries persons.now.keys }
-    requires cells { AllByRecursion (IsCell declared.now.entries persons.now.keys) cells.now.entries }
+    requires cells { AllByRecursion (IsCell declared.now.entries persons.now.keys)
+        cells.now.entries }
     requires declared { IsAmong declared.now.entries uri.now.bytes }
-    ensures { option_map (λ c. write_of c.now) result ≡ lookup (same_key (key_given uri.now person.entry)) (writes_of declared.now.entries persons.now.keys cells.now.entries) }
+    ensures { option_map (λ c. write_of c.now) result
+        ≡ lookup (same_key (key_given uri.now person.entry))
+        (writes_of declared.now.entries persons.now.keys cells.now.entries) }
 {
     let (number, _, _) = declared.get_full(uri)?;
     let person = person_number(persons, person)?;

@@ -22,8 +22,10 @@ pub(crate) fn read_declared(
     person: Option<&Id>,
     text: &str,
 ) -> Result<Value, SetFault>
-    ensures ok { IfOk result (λ v. read_in declared.now (is_some person.entry) text.now ≡ Ok (datum_of v)) }
-    ensures refused { IfErr result (IsRefused (read_in declared.now (is_some person.entry) text.now)) }
+    ensures ok { IfOk result (λ v. read_in declared.now (is_some person.entry) text.now
+        ≡ Ok (datum_of v)) }
+    ensures refused { IfErr result (IsRefused (read_in declared.now (is_some person.entry)
+        text.now)) }
 {
     let value = match read_value(alloc, declared.datatype, text) {
         Ok(value) => value,

@@ -12,8 +12,8 @@ use std::alloc::Global;
 use std::marker::Model;
 use std::sync::ledger::Ledger;
 
-/// The slots below some number, each with the number of its last use, the latest use first. A slot that
-/// was never used has 0. To use a slot takes no memory.
+/// The slots below some number, each with the number of its last use, the latest use first. A
+/// slot that was never used has 0. To use a slot takes no memory.
 #[derive(Drop)]
 pub(crate) struct Recency {
     alloc: Global,
@@ -63,7 +63,8 @@ impl Recency {
         Some(cache.iter())
     }
 
-    /// How many slots come first in a walk, as long as their uses came after the bound. Each is a step.
+    /// How many slots come first in a walk, as long as their uses came after the bound. Each is a
+    /// step.
     pub(crate) fn count_since<L: Ledger>(&self, bound: u64, steps: &mut Steps<L>) -> usize
         ensures count { result ≡ prefix_len (is_later bound) self.now }
         ensures cost { steps.new ≡ steps.old + result }
@@ -76,7 +77,8 @@ impl Recency {
         count_later(cache.iter(), bound, steps)
     }
 
-    /// Has at least so many slots. What is added was never used; where memory is wanting only some may be.
+    /// Has at least so many slots. What is added was never used; where memory is wanting only
+    /// some may be.
     pub(crate) fn grow_to(&mut self, len: usize) -> Result<(), NoMemory>
         ensures ok { OnOk result (len ≤ length self.new) }
         ensures grows { Grows self.old self.new }
@@ -92,7 +94,8 @@ impl Recency {
         requires slot { slot < length self.old }
         requires latest { AllByRecursion (λ e. e.1 ≤ number) self.old }
         ensures slots { self.new ≡ (slot, number) ∷ remove_entry (nat_eq slot) self.old }
-        ensures others { AllByRecursion (λ e. nat_eq slot e.0 ≡ false) (remove_entry (nat_eq slot) self.old) }
+        ensures others { AllByRecursion (λ e. nat_eq slot e.0
+            ≡ false) (remove_entry (nat_eq slot) self.old) }
         ensures count { length self.new ≡ length self.old }
     {
         let Some(cache) = &mut self.cache else {
@@ -120,7 +123,8 @@ impl Recency {
 fn use_slot(cache: &mut LruCache<usize, u64>, slot: usize, number: u64)
     requires { IsSome (lookup (nat_eq slot) cache.old.entries) }
     ensures slots { cache.new.entries ≡ (slot, number) ∷ remove_entry (nat_eq slot) cache.old.entries }
-    ensures others { AllByRecursion (λ e. nat_eq slot e.0 ≡ false) (remove_entry (nat_eq slot) cache.old.entries) }
+    ensures others { AllByRecursion (λ e. nat_eq slot e.0
+        ≡ false) (remove_entry (nat_eq slot) cache.old.entries) }
     ensures count { length cache.new.entries ≡ length cache.old.entries }
     ensures cap { cache.new.cap ≡ cache.old.cap }
 {
@@ -135,7 +139,8 @@ fn use_slot(cache: &mut LruCache<usize, u64>, slot: usize, number: u64)
 fn add_slot(cache: &mut LruCache<usize, u64>) -> Result<(), NoMemory>
     requires slots { IsRecency cache.old.entries }
     requires cap { cache.old.cap ≡ 2 ^ 64 - 1 }
-    ensures ok { OnOk result (cache.new.entries ≡ cache.old.entries ++ (length cache.old.entries, 0) ∷ []) }
+    ensures ok { OnOk result (cache.new.entries
+        ≡ cache.old.entries ++ (length cache.old.entries, 0) ∷ []) }
     ensures err { OnErr result (cache.new.entries ≡ cache.old.entries) }
     ensures slots { IsRecency cache.new.entries }
     ensures cap { cache.new.cap ≡ cache.old.cap }
@@ -146,7 +151,8 @@ fn add_slot(cache: &mut LruCache<usize, u64>) -> Result<(), NoMemory>
     Ok(())
 }
 
-/// How many slots come first in the walk, as long as their uses came after the bound. Each is a step.
+/// How many slots come first in the walk, as long as their uses came after the bound. Each is a
+/// step.
 fn count_later<L: Ledger>(slots: Iter<'_, usize, u64>, bound: u64, steps: &mut Steps<L>) -> usize
     requires { length slots < 2 ^ 63 }
     ensures count { result ≡ prefix_len (is_later bound) slots.entry }

@@ -31,9 +31,12 @@ pub(crate) fn has_value(
     value: &Option<Value>,
 ) -> bool
     requires numbers { IsNumbering declared.now.entries persons.now.keys }
-    requires cells { AllByRecursion (IsCell declared.now.entries persons.now.keys) cells.now.entries }
+    requires cells { AllByRecursion (IsCell declared.now.entries persons.now.keys)
+        cells.now.entries }
     requires declared { IsAmong declared.now.entries uri.now.bytes }
-    ensures { result ≡ option_eq same_datum (value_at (store_of declared.now.entries persons.now.keys cells.now.entries 0 0) (key_given uri.now person.entry)) (option_map datum_of value.now) }
+    ensures { result ≡ option_eq same_datum (value_at
+        (store_of declared.now.entries persons.now.keys cells.now.entries 0 0)
+        (key_given uri.now person.entry)) (option_map datum_of value.now) }
 {
     if let Some(cell) = find_cell(declared, persons, cells, uri, person) {
         return same_optional(&cell.value, value);
