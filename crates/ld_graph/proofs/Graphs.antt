@@ -4,14 +4,10 @@ use Rattle.std.proofs.lemmas.List.{get_or-set_same, get_or-set_other, length-set
 use Rattle.ld_graph.specs.declared.edge.Edge.{Edge}
 use Rattle.ld_graph.specs.Edges.{Edges, IsLinked, Changes}
 use Rattle.ld_graph.specs.Linked.{none_at, Among, Follows, FollowsBack, Linkage, row_of, rows_of, free_count}
-use Rattle.ld_graph.specs.Columns.{slots_of, sites_of, nexts_of, befores_of, site_nexts_of, HaveColumns, IsGraph}
+use Rattle.ld_graph.specs.Columns.{slots_of, sites_of, nexts_of, befores_of, site_nexts_of, HaveColumns, IsGraph, seen}
 use Rattle.ld_graph.proofs.Chains.{among_split, follows_within, forget, prior_in, next_in, among_left, among_right}
 use Rattle.ld_graph.proofs.Linking.{site_edge, free_edge, free_first_is, linkage_less, linkage_more}
 use Rattle.ld_graph.proofs.Rowed.{among_contains, contains_among, row_edge, edge_row, row_kept, row_less, row_more, rows_at, rows_length, rows_set, free_less, free_more, free_some}
-
--- what is seen of a graph
-abbrev pub seen : List Edge → ℕ → ℕ → ℕ → Edges
-seen edges sites slots spare = record { rows = rows_of (slots_of edges) (sites_of edges) sites; slots = slots; spare = spare }
 
 pub seen_sites : (edges : List Edge) (sites slots spare : ℕ) (g : Edges) → seen edges sites slots spare ≡ g → length g.rows ≡ sites
 seen_sites edges sites slots spare g is =

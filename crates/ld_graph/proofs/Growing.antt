@@ -8,7 +8,8 @@ use Rattle.ld_graph.specs.Linked.{none_at, Among, Follows, FollowsBack, AreKeyed
 use Rattle.ld_graph.specs.Columns.{slots_of, sites_of, nexts_of, befores_of, site_nexts_of, IsGraph}
 use Rattle.ld_graph.proofs.Chains.{follows_within, forget}
 use Rattle.ld_graph.proofs.Rowed.{row_edge, row_append, rows_at, rows_length, rows_past, rows_same}
-use Rattle.ld_graph.proofs.Graphs.{seen, seen_sites, none_among}
+use Rattle.ld_graph.proofs.Graphs.{seen_sites, none_among}
+use Rattle.ld_graph.specs.Columns.{seen}
 use Rattle.std.proofs.lemmas.List.Sums.{sum_by-append, sum_by-cons}
 
 -- an entry of a column that is longer by one

@@ -1,5 +1,5 @@
 use Rattle.std.proofs.Common.{◌≡◌, ◌≢◌, ℕ, zero, suc, ◌<◌, ◌≤◌, inl, inr, true, false, eqb, ltb, List, [], ◌∷◌, length, get_or, map, Contains, All, refl, sym, ◌∙◌, ap, subst, arith}
-use Rattle.std.proofs.lemmas.Bool.{cases_lt, cond-true, cond-false, lt-ltb, le-ltb, or_cases, eqb-true, ne_eqb}
+use Rattle.std.proofs.lemmas.Bool.{cases_lt, cases_eq, cond-true, cond-false, lt-ltb, le-ltb, or_cases, eqb-true, ne_eqb}
 use Rattle.std.proofs.lemmas.List.{length-map, get_or-map, get_or_past}
 use Rattle.std.proofs.lemmas.List.Elements.{All-from_get_or}
 use Rattle.std.proofs.lemmas.Map.Steps.{length-le_from_distinct_below}
@@ -11,8 +11,9 @@ use Rattle.ld_graph.specs.Linked.{none_at, Among, Follows, row_of}
 use Rattle.ld_graph.specs.Columns.{slots_of, sites_of, nexts_of, IsGraph}
 use Rattle.ld_graph.specs.Readings.{walk}
 use Rattle.ld_graph.proofs.Chains.{Fresh, follows_fresh, follows_within, forget}
-use Rattle.ld_graph.proofs.Rowed.{among_contains, contains_among, row_edge, edge_row}
-use Rattle.ld_graph.proofs.Graphs.{seen, seen_sites, seen_row}
+use Rattle.ld_graph.proofs.Rowed.{among_contains, contains_among, row_edge, edge_row, row_yes, row_no}
+use Rattle.ld_graph.proofs.Graphs.{seen_sites, seen_row}
+use Rattle.ld_graph.specs.Columns.{seen}
 
 -- a walk meets what the links lead through
 pub walk_meets : (next : List ℕ) → length next ≤ none_at → (at : ℕ) (xs : List ℕ) (left : ℕ) → Follows next at xs → length xs ≤ left → walk left next at ≡ xs
@@ -65,7 +66,7 @@ among_place [] k lt = absurd (omega arith)
 among_place (x ∷ xs) zero lt = inl refl
 among_place (x ∷ xs) (suc k) lt = inr (among_place xs k (omega arith))
 
-fresh_places : (xs : List ℕ) → Fresh xs → (i j : ℕ) → i < length xs → j < length xs → get_or xs i 0 ≡ get_or xs j 0 → i ≡ j
+pub fresh_places : (xs : List ℕ) → Fresh xs → (i j : ℕ) → i < length xs → j < length xs → get_or xs i 0 ≡ get_or xs j 0 → i ≡ j
 fresh_places [] f i j li lj e = absurd (omega arith)
 fresh_places (x ∷ xs) f zero zero li lj e = refl
 fresh_places (x ∷ xs) f zero (suc j) li lj e = absurd (f.0 (subst (λ (z : ℕ). Among xs z) (sym e) (among_place xs j (omega arith))))
@@ -144,3 +145,45 @@ readers_met {edges} {firsts} {site_firsts} {free} {spare} g old view slot lt at 
           let b = site_lt (get_or h.edges i 0) (among_place h.edges i (omega arith)) in
           omega arith);
     })
+
+-- a row has no slot twice, where no two edges have the same slot and site
+pub row_fresh : (slots sites : List ℕ) (i : ℕ)
+    → ((e f : ℕ) → e < length sites → f < length sites → get_or sites e none_at ≡ i → get_or sites f none_at ≡ i → get_or slots e none_at ≡ get_or slots f none_at → e ≡ f)
+    → Fresh (row_of slots sites i)
+row_fresh [] sites i once = tt
+row_fresh (s ∷ slots) [] i once = tt
+row_fresh (s ∷ slots) (t ∷ sites) i once =
+    let tail : Fresh (row_of slots sites i) = row_fresh slots sites i (λ e f le lf se sf same.
+        let q = once (suc e) (suc f) (omega arith) (omega arith) se sf same in omega arith) in
+    elim (cases_eq t i) [
+        inl here ↦ subst (λ (z : List ℕ). Fresh z) (sym (row_yes s slots t sites i here))
+            ((λ h.
+                let r = row_edge slots sites i s h in
+                let l = r.2 in
+                let q = once zero (suc r.0) (omega arith) (omega arith) here r.3 (sym r.4) in
+                omega arith), tail)
+      | inr other ↦ subst (λ (z : List ℕ). Fresh z) (sym (row_no s slots t sites i other)) tail ]
+
+-- what is true of every graph
+pub row_distinct : {edges : List Edge} {firsts site_firsts : List ℕ} {free spare : ℕ} → IsGraph edges firsts site_firsts free spare
+    → (old : Edges) → seen edges (length site_firsts) (length firsts) spare ≡ old → (i : ℕ) → AreDistinct (get_or old.rows i [])
+row_distinct {edges} {firsts} {site_firsts} {free} {spare} g old view i = elim (cases_lt i (length site_firsts)) [
+      inl lt ↦ subst AreDistinct (sym (seen_row edges (length site_firsts) (length firsts) spare old view i lt))
+          (fresh_places (row_of (slots_of edges) (sites_of edges) i) (row_fresh (slots_of edges) (sites_of edges) i
+              (λ e f le lf se sf same. g.linked.once e f (λ q. let a = g.linked.sites_fit in omega arith) same (se ∙ sym sf))))
+    | inr le ↦ subst AreDistinct (sym (get_or_past old.rows i [] (let n = seen_sites edges (length site_firsts) (length firsts) spare old view in omega arith)))
+          (λ a b la lb e. absurd (omega arith)) ]
+
+pub linked_slot : {edges : List Edge} {firsts site_firsts : List ℕ} {free spare : ℕ} → IsGraph edges firsts site_firsts free spare
+    → (old : Edges) → seen edges (length site_firsts) (length firsts) spare ≡ old → (k i : ℕ) → IsLinked old k i → k < old.slots
+linked_slot {edges} {firsts} {site_firsts} {free} {spare} g old view k i linked =
+    let n = seen_sites edges (length site_firsts) (length firsts) spare old view in
+    let lt : i < length site_firsts = linked_within old k i (length site_firsts) linked n in
+    let r = row_edge (slots_of edges) (sites_of edges) i k (contains_among (row_of (slots_of edges) (sites_of edges) i) k
+        (subst (λ (z : List ℕ). Contains z k) (seen_row edges (length site_firsts) (length firsts) spare old view i lt) linked)) in
+    let site_is = r.3 in
+    let slot_is = r.4 in
+    let fit = g.linked.sites_fit in
+    let within = g.linked.slot_there r.0 r.1 (λ q. omega arith) in
+    let s = ap (λ (x : Edges). x.slots) view in
+    omega arith

@@ -22,10 +22,10 @@ among_contains (y ∷ ys) x h = elim h [
 ]
 
 -- a row by its first edge
-row_yes : (s : ℕ) (slots : List ℕ) (t : ℕ) (sites : List ℕ) (i : ℕ) → t ≡ i → row_of (s ∷ slots) (t ∷ sites) i ≡ s ∷ row_of slots sites i
+pub row_yes : (s : ℕ) (slots : List ℕ) (t : ℕ) (sites : List ℕ) (i : ℕ) → t ≡ i → row_of (s ∷ slots) (t ∷ sites) i ≡ s ∷ row_of slots sites i
 row_yes s slots t sites i e = cond-true (eqb t i) (s ∷ row_of slots sites i) (row_of slots sites i) (eq-eqb t i e)
 
-row_no : (s : ℕ) (slots : List ℕ) (t : ℕ) (sites : List ℕ) (i : ℕ) → (t ≡ i → ⊥) → row_of (s ∷ slots) (t ∷ sites) i ≡ row_of slots sites i
+pub row_no : (s : ℕ) (slots : List ℕ) (t : ℕ) (sites : List ℕ) (i : ℕ) → (t ≡ i → ⊥) → row_of (s ∷ slots) (t ∷ sites) i ≡ row_of slots sites i
 row_no s slots t sites i ne = cond-false (eqb t i) (s ∷ row_of slots sites i) (row_of slots sites i) (ne_eqb t i ne)
 
 -- the slots of a row are those of the edges of the site

@@ -11,6 +11,14 @@ pub record Edges : Type 0 where
 abbrev pub IsLinked : Edges → ℕ → ℕ → Type 0
 IsLinked edges slot site = Contains (get_or edges.rows site []) slot
 
+-- the slots of a site
+abbrev pub row_at : Edges → ℕ → List ℕ
+row_at edges site = get_or edges.rows site []
+
+-- the ranges of slots and sites are the same
+abbrev pub SameRange : Edges → Edges → Type 0
+SameRange old new = (length new.rows ≡ length old.rows) × (new.slots ≡ old.slots)
+
 -- how many pairs there are
 abbrev pub pair_count : Edges → ℕ
 pair_count edges = sum_by length edges.rows

@@ -8,8 +8,8 @@ use ld_base::memory::NoMemory;
 use std::alloc::Global;
 use std::marker::Model;
 
-// Each level has a bit for each word of 64 bits of the one below it. For 4,000,000 sites the highest
-// level has one word, and for as many as a u32 can count it has 256.
+// Each level has a bit for each word of 64 bits of the one below it. For 4,000,000 sites the
+// highest level has one word, and for as many as a u32 can count it has 256.
 const LEVELS: usize = 4;
 
 /// A set of sites below a number, its range, seen by contracts as a table with one entry for each
@@ -72,7 +72,8 @@ impl Dirty {
 
     /// The least site of the set that is at least this one, which may be out of range.
     pub fn next_from(&self, site: u32) -> Option<u32>
-        ensures found { IfSome result (λ n. (site ≤ n) × (n < length self.now) × (has self.now n ≡ true)) }
+        ensures found { IfSome result (λ n. (site ≤ n) × (n < length self.now)
+            × (has self.now n ≡ true)) }
         ensures least { IfSome result (λ n. (k : ℕ) → site ≤ k → k < n → has self.now k ≡ false) }
         ensures none { IfNone result ((k : ℕ) → site ≤ k → has self.now k ≡ false) }
         ensures fits { length self.now < 2 ^ 32 }
@@ -98,7 +99,8 @@ impl Dirty {
         Ok(())
     }
 
-    /// Takes every site out of the set, in time that grows with their number and not with the range.
+    /// Takes every site out of the set, in time that grows with their number and not with the
+    /// range.
     pub fn empty(&mut self)
         ensures { self.new ≡ replicate (length self.old) false }
     {

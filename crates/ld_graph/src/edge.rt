@@ -1,15 +1,15 @@
 //! One edge, and the writes to a vector of edges.
-ghost use Rattle.std.specs.Prelude.{◌≡◌, ℕ, ◌<◌, ◌≤◌, ◌⊎◌, length, set};
+ghost use Rattle.std.specs.Prelude.{◌≡◌, ℕ, ◌<◌, ◌≤◌, ◌⊎◌, length};
 ghost use Rattle.ld_graph.specs.Linked.{none_at};
-ghost use Rattle.ld_graph.specs.Columns.{slots_of, sites_of, nexts_of, befores_of, site_nexts_of, HaveColumns};
+ghost use Rattle.ld_graph.specs.Columns.{ChangesNext, ChangesBefore, ChangesToFree, ChangesEdge};
 
 /// The number that names no edge, no slot and no site.
 pub(crate) const NONE: u32 = u32::MAX;
 
 /// An edge of a slot and a site, or a free one, which has neither.
 ///
-/// An edge stands in two lists, linked by the numbers of edges: that of its slot, both ways, and that
-/// of its site. A free edge stands in the list of the free ones.
+/// An edge stands in two lists, linked by the numbers of edges: that of its slot, both ways, and
+/// that of its site. A free edge stands in the list of the free ones.
 #[derive(Clone, Copy)]
 pub(crate) struct Edge {
     pub(crate) slot: u32,
@@ -26,7 +26,7 @@ pub(crate) struct Edge {
 pub(crate) fn set_next(edges: &mut Vec<Edge>, at: u32, next: u32)
     requires at { (at ≡ none_at) ⊎ (at < length edges.old.items) }
     requires fits { length edges.old.items ≤ none_at }
-    ensures { HaveColumns edges.new.items (slots_of edges.old.items) (sites_of edges.old.items) (set (nexts_of edges.old.items) at next) (befores_of edges.old.items) (site_nexts_of edges.old.items) }
+    ensures { ChangesNext edges.old.items edges.new.items at next }
 {
     if at == NONE {
         return;
@@ -40,7 +40,7 @@ pub(crate) fn set_next(edges: &mut Vec<Edge>, at: u32, next: u32)
 pub(crate) fn set_before(edges: &mut Vec<Edge>, at: u32, before: u32)
     requires at { (at ≡ none_at) ⊎ (at < length edges.old.items) }
     requires fits { length edges.old.items ≤ none_at }
-    ensures { HaveColumns edges.new.items (slots_of edges.old.items) (sites_of edges.old.items) (nexts_of edges.old.items) (set (befores_of edges.old.items) at before) (site_nexts_of edges.old.items) }
+    ensures { ChangesBefore edges.old.items edges.new.items at before }
 {
     if at == NONE {
         return;
@@ -53,7 +53,7 @@ pub(crate) fn set_before(edges: &mut Vec<Edge>, at: u32, before: u32)
 /// Makes an edge a free one, which this one follows.
 pub(crate) fn set_free(edges: &mut Vec<Edge>, at: u32, site_next: u32)
     requires { at < length edges.old.items }
-    ensures { HaveColumns edges.new.items (set (slots_of edges.old.items) at none_at) (set (sites_of edges.old.items) at none_at) (nexts_of edges.old.items) (befores_of edges.old.items) (set (site_nexts_of edges.old.items) at site_next) }
+    ensures { ChangesToFree edges.old.items edges.new.items at site_next }
 {
     let mut edge = edges[at as usize];
     edge.slot = NONE;
@@ -65,7 +65,7 @@ pub(crate) fn set_free(edges: &mut Vec<Edge>, at: u32, site_next: u32)
 /// Writes a whole edge.
 pub(crate) fn set_edge(edges: &mut Vec<Edge>, at: u32, edge: Edge)
     requires { at < length edges.old.items }
-    ensures { HaveColumns edges.new.items (set (slots_of edges.old.items) at edge.slot) (set (sites_of edges.old.items) at edge.site) (set (nexts_of edges.old.items) at edge.next) (set (befores_of edges.old.items) at edge.before) (set (site_nexts_of edges.old.items) at edge.site_next) }
+    ensures { ChangesEdge edges.old.items edges.new.items at edge }
 {
     edges[at as usize] = edge;
 }

@@ -1,7 +1,7 @@
 //! A set of pairs of a slot and a site.
-ghost use Rattle.std.specs.Prelude.{◌≡◌, ◌≢◌, ℕ, ◌+◌, ◌<◌, ◌≤◌, ◌⊎◌, ◌↔◌, true, false, [], List, length, get_or, Contains, All, IfOk, OnErr};
+ghost use Rattle.std.specs.Prelude.{◌≡◌, ◌≢◌, ℕ, ◌+◌, ◌^◌, ◌<◌, ◌≤◌, ◌⊎◌, ◌↔◌, true, false, [], List, length, get_or, Contains, All, IfOk, OnErr};
 ghost use Rattle.ld_graph.specs.Slots.{AreDistinct};
-ghost use Rattle.ld_graph.specs.Edges.{Edges, IsLinked, Changes, Grows, edge_room};
+ghost use Rattle.ld_graph.specs.Edges.{Edges, IsLinked, Changes, Grows, SameRange, row_at, edge_room};
 ghost use Rattle.ld_graph.specs.Readings.{rest};
 ghost use Rattle.ld_graph.specs.Table.{has};
 
@@ -16,9 +16,10 @@ use std::marker::Model;
 
 /// A set of edges, each a pair of a slot and a site, with room for more.
 ///
-/// One vector holds the edges. Each stands in the list of its slot, linked both ways, and in the list
-/// of its site; the free ones stand in a list of their own. So to relink a site costs what its old and
-/// new edges are, whatever the others are, and takes no memory.
+/// One vector holds the edges. Each stands in the list of its slot, linked both ways, and in the
+/// list of its site, which is only ever taken from its front and so is linked one way; the free
+/// ones stand in a list of their own. So to relink a site costs what its old and new edges are,
+/// whatever the others are, and takes no memory.
 #[derive(Drop)]
 pub struct Graph {
     edges: Vec<Edge>,
@@ -35,13 +36,12 @@ pub struct Graph {
 impl Model for Graph {
     ghost use Rattle.std.specs.Prelude.{length};
     ghost use Rattle.ld_graph.specs.Edges.{Edges};
-    ghost use Rattle.ld_graph.specs.Linked.{rows_of};
 
     ghost Value = { Edges };
 
-    ghost use Rattle.ld_graph.specs.Columns.{slots_of, sites_of, IsGraph};
+    ghost use Rattle.ld_graph.specs.Columns.{seen, IsGraph};
 
-    ghost view = { λ g. record { rows = rows_of (slots_of g.edges.items) (sites_of g.edges.items) (length g.site_firsts.items); slots = length g.firsts.items; spare = g.spare } };
+    ghost view = { λ g. seen g.edges.items (length g.site_firsts.items) (length g.firsts.items) g.spare };
 
     ghost invariant = { λ g. IsGraph g.edges.items g.firsts.items g.site_firsts.items g.free g.spare };
 }
@@ -62,12 +62,15 @@ impl Graph {
         }
     }
 
-    /// Brings the slots and the sites below these numbers into range, and makes room for so many more
-    /// edges. The edges stay, also where memory is wanting, and neither ranges nor room fall.
+    /// Brings the slots and the sites below these numbers into range, and makes room for so many
+    /// more edges. The edges stay, also where memory is wanting, and neither ranges nor room fall.
     pub fn reserve(&mut self, slots: u32, sites: u32, edges: u32) -> Result<(), NoMemory>
-        ensures ok { IfOk result (λ _. (slots ≤ self.new.slots) × (sites ≤ length self.new.rows) × (edges ≤ self.new.spare)) }
-        ensures rows { (i : ℕ) → get_or self.new.rows i [] ≡ get_or self.old.rows i [] }
-        ensures range { (length self.old.rows ≤ length self.new.rows) × (self.old.slots ≤ self.new.slots) }
+        ensures slots { IfOk result (λ _. slots ≤ self.new.slots) }
+        ensures sites { IfOk result (λ _. sites ≤ length self.new.rows) }
+        ensures spare { IfOk result (λ _. edges ≤ self.new.spare) }
+        ensures rows { (i : ℕ) → row_at self.new i ≡ row_at self.old i }
+        ensures range { (length self.old.rows ≤ length self.new.rows)
+            × (self.old.slots ≤ self.new.slots) }
         ensures room { edge_room self.old ≤ edge_room self.new }
         ensures grows { Grows self.old self.new }
     {
@@ -81,24 +84,23 @@ impl Graph {
     pub fn relink(&mut self, site: u32, slots: &SlotList)
         requires site { site < length self.old.rows }
         requires slots { (k : ℕ) → Contains slots.now.items k → k < self.old.slots }
-        requires spare { length slots.now.items ≤ self.old.spare + length (get_or self.old.rows site []) }
+        requires spare { length slots.now.items ≤ self.old.spare + length (row_at self.old site) }
         ensures own { (k : ℕ) → IsLinked self.new k site ↔ Contains slots.now.items k }
-        ensures others { (i : ℕ) → i ≢ site → get_or self.new.rows i [] ≡ get_or self.old.rows i [] }
-        ensures count { length (get_or self.new.rows site []) ≡ length slots.now.items }
-        ensures range { (length self.new.rows ≡ length self.old.rows) × (self.new.slots ≡ self.old.slots) }
+        ensures others { (i : ℕ) → i ≢ site → row_at self.new i ≡ row_at self.old i }
+        ensures count { length (row_at self.new site) ≡ length slots.now.items }
+        ensures range { SameRange self.old self.new }
         ensures room { edge_room self.new ≡ edge_room self.old }
-        ensures changes { Changes self.old self.new site }
     {
-        self.unlink(site);
-        self.put_all(site, slots.as_slice());
+        self.unlink(site); // none of its old edges stays
+        self.put_all(site, slots);
     }
 
     /// The site has no edge afterwards, and all other edges are as before.
     pub fn unlink(&mut self, site: u32)
         requires { site < length self.old.rows }
-        ensures own { get_or self.new.rows site [] ≡ [] }
-        ensures others { (i : ℕ) → i ≢ site → get_or self.new.rows i [] ≡ get_or self.old.rows i [] }
-        ensures range { (length self.new.rows ≡ length self.old.rows) × (self.new.slots ≡ self.old.slots) }
+        ensures own { row_at self.new site ≡ [] }
+        ensures others { (i : ℕ) → i ≢ site → row_at self.new i ≡ row_at self.old i }
+        ensures range { SameRange self.old self.new }
         ensures room { edge_room self.new ≡ edge_room self.old }
         ensures changes { Changes self.old self.new site }
     {
@@ -126,15 +128,27 @@ impl Graph {
         ensures range { length dirty.new ≡ length dirty.old }
         ensures keeps { (i : ℕ) → has dirty.old i ≡ true → has dirty.new i ≡ true }
         ensures readers { (i : ℕ) → IsLinked self.now slot i → has dirty.new i ≡ true }
-        ensures only { (i : ℕ) → has dirty.new i ≡ true → (has dirty.old i ≡ true) ⊎ IsLinked self.now slot i }
+        ensures only { (i : ℕ) → has dirty.new i ≡ true
+            → (has dirty.old i ≡ true) ⊎ IsLinked self.now slot i }
     {
         set_all(self.readers(slot), dirty);
     }
 
+    /// What is true of every graph: no site has a slot twice, edges are in range, and the ranges fit.
+    pub fn facts(&self)
+        ensures once { (i : ℕ) → AreDistinct (row_at self.now i) }
+        ensures slots { (k i : ℕ) → IsLinked self.now k i → k < self.now.slots }
+        ensures sites { (k i : ℕ) → IsLinked self.now k i → i < length self.now.rows }
+        ensures slots_fit { self.now.slots < 2 ^ 32 }
+        ensures sites_fit { length self.now.rows < 2 ^ 32 }
+    {
+        let _ = &self.edges;
+    }
+
     /// Leaves no edge. The ranges and the room stay.
     pub fn clear(&mut self)
-        ensures none { (i : ℕ) → get_or self.new.rows i [] ≡ [] }
-        ensures range { (length self.new.rows ≡ length self.old.rows) × (self.new.slots ≡ self.old.slots) }
+        ensures none { (i : ℕ) → row_at self.new i ≡ [] }
+        ensures range { SameRange self.old self.new }
         ensures room { edge_room self.new ≡ edge_room self.old }
     {
         for site in 0..self.sites() {
@@ -142,11 +156,25 @@ impl Graph {
         }
     }
 
+    /// The number below which slots are in range.
+    pub fn slots(&self) -> u32
+        ensures { result ≡ self.now.slots }
+    {
+        self.firsts.len() as u32
+    }
+
     /// The number below which sites are in range.
     pub fn sites(&self) -> u32
         ensures { result ≡ length self.now.rows }
     {
         self.site_firsts.len() as u32
+    }
+
+    /// How many more edges there is room for.
+    pub fn spare(&self) -> u32
+        ensures { result ≡ self.now.spare }
+    {
+        self.spare
     }
 
     /// Brings the slots below the number into range.
@@ -182,13 +210,6 @@ impl Graph {
         Ok(())
     }
 
-    /// How many more edges there is room for.
-    pub fn spare(&self) -> u32
-        ensures { result ≡ self.now.spare }
-    {
-        self.spare
-    }
-
     /// Makes room for one more edge. Where memory is wanting nothing changes.
     fn add_free(&mut self) -> Result<(), NoMemory>
         ensures ok { IfOk result (λ _. self.new.spare ≡ self.old.spare + 1) }
@@ -213,17 +234,17 @@ impl Graph {
     }
 
     /// Puts an edge for each of these slots to a site that has none.
-    fn put_all(&mut self, site: u32, slots: &[u32])
+    fn put_all(&mut self, site: u32, slots: &SlotList)
         requires site { site < length self.old.rows }
-        requires empty { get_or self.old.rows site [] ≡ [] }
-        requires slots { (k : ℕ) → Contains slots.now k → k < self.old.slots }
-        requires once { AreDistinct slots.now }
-        requires spare { length slots.now ≤ self.old.spare }
-        ensures own { (k : ℕ) → IsLinked self.new k site ↔ Contains slots.now k }
-        ensures count { length (get_or self.new.rows site []) ≡ length slots.now }
+        requires empty { row_at self.old site ≡ [] }
+        requires slots { (k : ℕ) → Contains slots.now.items k → k < self.old.slots }
+        requires spare { length slots.now.items ≤ self.old.spare }
+        ensures own { (k : ℕ) → IsLinked self.new k site ↔ Contains slots.now.items k }
+        ensures count { length (row_at self.new site) ≡ length slots.now.items }
         ensures changes { Changes self.old self.new site }
     {
-        for slot in slots {
+        let items = slots.as_slice();
+        for slot in items {
             self.put_on(*slot, site);
         }
     }
@@ -231,9 +252,10 @@ impl Graph {
     /// Takes away one edge of the site, if it has one.
     fn take_off(&mut self, site: u32) -> bool
         requires { site < length self.old.rows }
-        ensures none { result ≡ false → (get_or self.new.rows site [] ≡ []) × (self.new ≡ self.old) }
+        ensures none { result ≡ false → (row_at self.new site ≡ []) × (self.new ≡ self.old) }
         ensures some { result ≡ true → Changes self.old self.new site }
-        ensures less { result ≡ true → length (get_or self.new.rows site []) + 1 ≡ length (get_or self.old.rows site []) }
+        ensures less { result ≡ true
+            → length (row_at self.new site) + 1 ≡ length (row_at self.old site) }
     {
         let first = self.site_firsts[site as usize];
         if first == NONE {
@@ -255,7 +277,7 @@ impl Graph {
         requires spare { 0 < self.old.spare }
         requires new { IsLinked self.old slot site → ⊥ }
         ensures changes { Changes self.old self.new site }
-        ensures more { length (get_or self.new.rows site []) ≡ length (get_or self.old.rows site []) + 1 }
+        ensures more { length (row_at self.new site) ≡ length (row_at self.old site) + 1 }
         ensures own { (k : ℕ) → IsLinked self.new k site ↔ ((k ≡ slot) ⊎ IsLinked self.old k site) }
     {
         let free = self.free;

@@ -55,9 +55,11 @@ impl Level {
     /// The least bit that is set, from this one on and in its word.
     pub(crate) fn first_in_word(&self, from: usize) -> Option<usize>
         requires { from / 64 < length self.now }
-        ensures found { IfSome result (λ n. (from ≤ n) × (n / 64 ≡ from / 64) × (bit self.now n ≡ true)) }
+        ensures found { IfSome result (λ n. (from ≤ n) × (n / 64 ≡ from / 64)
+            × (bit self.now n ≡ true)) }
         ensures least { IfSome result (λ n. (k : ℕ) → from ≤ k → k < n → bit self.now k ≡ false) }
-        ensures none { IfNone result ((k : ℕ) → from ≤ k → k / 64 ≡ from / 64 → bit self.now k ≡ false) }
+        ensures none { IfNone result ((k : ℕ) → from ≤ k → k / 64 ≡ from / 64
+            → bit self.now k ≡ false) }
     {
         let rest = self.words[from / 64] & (u64::MAX << (from % 64));
         if rest == 0 {

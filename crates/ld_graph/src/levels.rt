@@ -70,7 +70,8 @@ pub(crate) fn grow(levels: &mut [Level], words: usize) -> Result<(), NoMemory>
 pub(crate) fn next_at(levels: &[Level], from: usize) -> Option<usize>
     requires { AreLevels levels.now }
     ensures found { IfSome result (λ n. (from ≤ n) × (bit (lowest levels.now) n ≡ true)) }
-    ensures least { IfSome result (λ n. (k : ℕ) → from ≤ k → k < n → bit (lowest levels.now) k ≡ false) }
+    ensures least { IfSome result (λ n. (k : ℕ) → from ≤ k → k < n
+        → bit (lowest levels.now) k ≡ false) }
     ensures none { IfNone result ((k : ℕ) → from ≤ k → bit (lowest levels.now) k ≡ false) }
 {
     let Some((lower, above)) = levels.split_first() else {
@@ -93,7 +94,8 @@ pub(crate) fn next_at(levels: &[Level], from: usize) -> Option<usize>
 fn next_in(level: &Level, first: usize) -> Option<usize>
     requires { length level.now ≤ 2 ^ 32 }
     ensures found { IfSome result (λ n. (first ≤ n / 64) × (bit level.now n ≡ true)) }
-    ensures least { IfSome result (λ n. (k : ℕ) → first ≤ k / 64 → k < n → bit level.now k ≡ false) }
+    ensures least { IfSome result (λ n. (k : ℕ) → first ≤ k / 64 → k < n
+        → bit level.now k ≡ false) }
     ensures none { IfNone result ((k : ℕ) → first ≤ k / 64 → bit level.now k ≡ false) }
 {
     for word in first..level.len() {

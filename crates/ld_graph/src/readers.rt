@@ -41,7 +41,8 @@ pub(crate) fn set_all(sites: Readers<'_>, dirty: &mut Dirty)
     ensures range { length dirty.new ≡ length dirty.old }
     ensures keeps { (i : ℕ) → has dirty.old i ≡ true → has dirty.new i ≡ true }
     ensures all { (i : ℕ) → Contains (rest sites.entry) i → has dirty.new i ≡ true }
-    ensures only { (i : ℕ) → has dirty.new i ≡ true → (has dirty.old i ≡ true) ⊎ Contains (rest sites.entry) i }
+    ensures only { (i : ℕ) → has dirty.new i ≡ true
+        → (has dirty.old i ≡ true) ⊎ Contains (rest sites.entry) i }
 {
     for site in sites {
         dirty.set(site);

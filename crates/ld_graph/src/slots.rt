@@ -7,8 +7,8 @@ use ld_base::memory::NoMemory;
 use std::alloc::Global;
 use std::marker::Model;
 
-/// A list of distinct slots with a bound on their number, seen by contracts as its slots in the order
-/// in which they came, and the bound.
+/// A list of distinct slots with a bound on their number, seen by contracts as its slots in the
+/// order in which they came, and the bound.
 ///
 /// A slot is found by the bucket that it falls into. There are more buckets than the list has room
 /// for slots, so a bucket has few slots.
@@ -31,7 +31,8 @@ impl Model for SlotList {
 
     ghost view = { λ l. record { items = l.slots.items; room = l.room } };
 
-    ghost invariant = { λ l. IsSlotList l.slots.items l.before.items l.heads.items l.room (vec_capacity l.slots) (vec_capacity l.before) };
+    ghost invariant = { λ l. IsSlotList l.slots.items l.before.items l.heads.items l.room
+        (vec_capacity l.slots) (vec_capacity l.before) };
 }
 
 impl SlotList {
@@ -56,7 +57,8 @@ impl SlotList {
     pub fn put(&mut self, slot: u32)
         requires { Contains self.old.items slot ⊎ (length self.old.items < self.old.room) }
         ensures kept { Contains self.old.items slot → self.new.items ≡ self.old.items }
-        ensures added { (Contains self.old.items slot → ⊥) → self.new.items ≡ self.old.items ++ slot ∷ [] }
+        ensures added { (Contains self.old.items slot → ⊥)
+            → self.new.items ≡ self.old.items ++ slot ∷ [] }
         ensures room { self.new.room ≡ self.old.room }
     {
         if self.contains(slot) {
@@ -81,6 +83,13 @@ impl SlotList {
         ensures room { result ≤ self.now.room }
     {
         self.slots.len()
+    }
+
+    /// How many slots it can hold in all.
+    pub fn room(&self) -> u32
+        ensures { result ≡ self.now.room }
+    {
+        self.room
     }
 
     /// The slot at an index counted from 0; None exactly where the index is not below the length.

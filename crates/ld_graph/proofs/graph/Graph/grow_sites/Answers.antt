@@ -3,7 +3,8 @@ use Rattle.std.proofs.lemmas.List.{take_all}
 use Rattle.ld_graph.specs.Edges.{Grows}
 use Rattle.ld_graph.specs.Columns.{slots_of, sites_of}
 use Rattle.ld_graph.proofs.Rowed.{rows_length}
-use Rattle.ld_graph.proofs.Graphs.{seen, seen_sites}
+use Rattle.ld_graph.proofs.Graphs.{seen_sites}
+use Rattle.ld_graph.specs.Columns.{seen}
 use Rattle.ld_graph.proofs.Growing.{graph_sites, grows_sites}
 use Rattle.ld_graph.proofs.graph.Graph.grow_sites.Goals as goal
 
