@@ -20,10 +20,7 @@ pub(crate) struct Position {
 // By hand, so that a function which lets one go calls this and is not proved over each field anew.
 impl Drop for Position {
     fn drop(self) {
-        let Self {
-            file: _,
-            place: _,
-        } = self;
+        let Self { file: _, place: _ } = self;
     }
 }
 

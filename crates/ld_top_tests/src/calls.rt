@@ -98,43 +98,54 @@ fn strings(alloc: Global, words: &[&str]) -> Result<Vec<String>, NoMemory> {
     Ok(all)
 }
 
-/// The status of the call over these files, and what it wrote.
-fn run<L: Ledger>(
+/// The status of the call over these objects.
+fn status_of<L: Ledger>(
     alloc: Global,
-    files: FileList,
-    case: &Case<'_>,
+    words: &[String],
+    shelf: &mut MemoryShelf,
+    source: &mut MemorySource,
+    sink: &mut MemorySink,
     blank: Blank,
-) -> Result<(u8, Vec<u8>), NoMemory>
+) -> u8
     requires name { blank.name ≡ L.name }
     requires parts { blank.parts ≡ L.parts }
     requires some { 0 < L.parts }
 {
-    let words = strings(alloc, &["replay", "u1"])?;
-    let mut shelf = MemoryShelf::new(files, call(alloc, case.shelf_fails)?);
-    let mut source = MemorySource::new(
-        bytes(alloc, case.lines)?,
-        case.piece.max(1),
-        call(alloc, case.source_fails)?,
-    );
-    let mut sink = MemorySink::new(alloc, case.room, call(alloc, case.sink_fails)?)?;
     let mut steps = Steps::<L>::new(blank);
-    let Status(status) = ld_main(
-        alloc,
-        &words,
-        &mut shelf,
-        &mut source,
-        &mut sink,
-        &mut steps,
-    );
-    Ok((status, Vec::from_slice(alloc, sink.bytes())?))
+    let Status(status) = ld_main(alloc, words, shelf, source, sink, &mut steps);
+    status
 }
 
+/// The source of the call.
+fn source(alloc: Global, case: &Case<'_>) -> Result<MemorySource, NoMemory> {
+    let lines = bytes(alloc, case.lines)?;
+    let failing = call(alloc, case.source_fails)?;
+    Ok(MemorySource::new(lines, case.piece.max(1), failing))
+}
+
+/// The status of the call over this shelf and this source, and what it wrote.
+fn written(
+    alloc: Global,
+    shelf: &mut MemoryShelf,
+    source: &mut MemorySource,
+    case: &Case<'_>,
+) -> Result<(u8, Vec<u8>), NoMemory> {
+    let words = strings(alloc, &["replay", "u1"])?;
+    let mut sink = MemorySink::new(alloc, case.room, call(alloc, case.sink_fails)?)?;
+    let status = status_of::<Brand>(alloc, &words, shelf, source, &mut sink, Blank::new(1));
+    let written = Vec::from_slice(alloc, sink.bytes())?;
+    Ok((status, written))
+}
+
+/// The status of the call over these files, and what it wrote.
 pub fn ran_over(
     alloc: Global,
     files: FileList,
     case: &Case<'_>,
 ) -> Result<(u8, Vec<u8>), NoMemory> {
-    run::<Brand>(alloc, files, case, Blank::new(1))
+    let mut source = source(alloc, case)?;
+    let mut shelf = MemoryShelf::new(files, call(alloc, case.shelf_fails)?);
+    written(alloc, &mut shelf, &mut source, case)
 }
 
 /// The same over the documents of the first unit.

@@ -1,6 +1,4 @@
 //! What the engine does in states that no commands leave.
-ghost use Rattle.ld_top.specs.PlanView.{IsPlanOf};
-
 use crate::calls::{checked, first_files};
 use ld_base::id::Id;
 use ld_base::numbers::{PersonNo, PropNo, RoleNo, ThingNo};

@@ -1,6 +1,4 @@
 //! A checked unit, and graphs that no documents have.
-ghost use Rattle.std.specs.Prelude.{◌≡◌};
-
 use crate::calls::{checked, first_files};
 use ld_model::names::Named;
 use ld_refs::cycles::first_on_cycle;

@@ -15,10 +15,7 @@ pub(crate) struct Table<'a> {
 // By hand, so that a function which lets one go calls this and is not proved over each field anew.
 impl<'a> Drop for Table<'a> {
     fn drop(self) {
-        let Self {
-            ids: _,
-            sizes: _,
-        } = self;
+        let Self { ids: _, sizes: _ } = self;
     }
 }
 
