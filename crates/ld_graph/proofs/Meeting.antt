@@ -154,25 +154,29 @@ row_fresh [] sites i once = tt
 row_fresh (s ∷ slots) [] i once = tt
 row_fresh (s ∷ slots) (t ∷ sites) i once =
     let tail : Fresh (row_of slots sites i) = row_fresh slots sites i (λ e f le lf se sf same.
-        let q = once (suc e) (suc f) (omega arith) (omega arith) se sf same in omega arith) in
+    let q = once (suc e) (suc f) (omega arith) (omega arith) se sf same in omega arith) in
     elim (cases_eq t i) [
-        inl here ↦ subst (λ (z : List ℕ). Fresh z) (sym (row_yes s slots t sites i here))
-            ((λ h.
-                let r = row_edge slots sites i s h in
-                let l = r.2 in
-                let q = once zero (suc r.0) (omega arith) (omega arith) here r.3 (sym r.4) in
-                omega arith), tail)
-      | inr other ↦ subst (λ (z : List ℕ). Fresh z) (sym (row_no s slots t sites i other)) tail ]
+      | inl here ↦ subst (λ (z : List ℕ). Fresh z) (sym (row_yes s slots t sites i here)) (
+        (λ h.
+            let r = row_edge slots sites i s h in
+            let l = r.2 in
+            let q = once zero (suc r.0) (omega arith) (omega arith) here r.3 (sym r.4) in
+            omega arith),
+        tail,
+      )
+      | inr other ↦ subst (λ (z : List ℕ). Fresh z) (sym (row_no s slots t sites i other)) tail
+    ]
 
 -- what is true of every graph
 pub row_distinct : {edges : List Edge} {firsts site_firsts : List ℕ} {free spare : ℕ} → IsGraph edges firsts site_firsts free spare
     → (old : Edges) → seen edges (length site_firsts) (length firsts) spare ≡ old → (i : ℕ) → AreDistinct (get_or old.rows i [])
 row_distinct {edges} {firsts} {site_firsts} {free} {spare} g old view i = elim (cases_lt i (length site_firsts)) [
-      inl lt ↦ subst AreDistinct (sym (seen_row edges (length site_firsts) (length firsts) spare old view i lt))
-          (fresh_places (row_of (slots_of edges) (sites_of edges) i) (row_fresh (slots_of edges) (sites_of edges) i
-              (λ e f le lf se sf same. g.linked.once e f (λ q. let a = g.linked.sites_fit in omega arith) same (se ∙ sym sf))))
-    | inr le ↦ subst AreDistinct (sym (get_or_past old.rows i [] (let n = seen_sites edges (length site_firsts) (length firsts) spare old view in omega arith)))
-          (λ a b la lb e. absurd (omega arith)) ]
+  | inl lt ↦ subst AreDistinct (sym (seen_row edges (length site_firsts) (length firsts) spare old view i lt))
+      (fresh_places (row_of (slots_of edges) (sites_of edges) i) (row_fresh (slots_of edges) (sites_of edges) i
+      (λ e f le lf se sf same. g.linked.once e f (λ q. let a = g.linked.sites_fit in omega arith) same (se ∙ sym sf))))
+  | inr le ↦ subst AreDistinct (sym (get_or_past old.rows i [] (let n = seen_sites edges (length site_firsts) (length firsts) spare old view in omega arith)))
+      (λ a b la lb e. absurd (omega arith))
+]
 
 pub linked_slot : {edges : List Edge} {firsts site_firsts : List ℕ} {free spare : ℕ} → IsGraph edges firsts site_firsts free spare
     → (old : Edges) → seen edges (length site_firsts) (length firsts) spare ≡ old → (k i : ℕ) → IsLinked old k i → k < old.slots
@@ -180,7 +184,7 @@ linked_slot {edges} {firsts} {site_firsts} {free} {spare} g old view k i linked 
     let n = seen_sites edges (length site_firsts) (length firsts) spare old view in
     let lt : i < length site_firsts = linked_within old k i (length site_firsts) linked n in
     let r = row_edge (slots_of edges) (sites_of edges) i k (contains_among (row_of (slots_of edges) (sites_of edges) i) k
-        (subst (λ (z : List ℕ). Contains z k) (seen_row edges (length site_firsts) (length firsts) spare old view i lt) linked)) in
+    (subst (λ (z : List ℕ). Contains z k) (seen_row edges (length site_firsts) (length firsts) spare old view i lt) linked)) in
     let site_is = r.3 in
     let slot_is = r.4 in
     let fit = g.linked.sites_fit in

@@ -3,3 +3,7 @@
 
 #[cfg(test)]
 mod cells;
+#[cfg(test)]
+mod globals;
+#[cfg(test)]
+mod graph;

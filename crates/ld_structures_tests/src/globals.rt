@@ -96,24 +96,82 @@ fn row<L: Ledger>(alloc: Global, blank: Blank) -> Result<(), Fail>
     let h = Text::of(alloc, "urn:h")?;
     let ann = person_of(alloc, "ann")?;
     let ann = ann.as_ref();
-    let first = declare(alloc, &mut store, "urn:g", GlobalKind::Glob, Kind::Integer, "0")?;
+    let first = declare(
+        alloc,
+        &mut store,
+        "urn:g",
+        GlobalKind::Glob,
+        Kind::Integer,
+        "0",
+    )?;
     check(first == Ok(()), "a first declaration")?;
-    let again = declare(alloc, &mut store, "urn:g", GlobalKind::Glob, Kind::Integer, "0")?;
+    let again = declare(
+        alloc,
+        &mut store,
+        "urn:g",
+        GlobalKind::Glob,
+        Kind::Integer,
+        "0",
+    )?;
     check(again == Ok(()), "the same declaration")?;
-    let other = declare(alloc, &mut store, "urn:g", GlobalKind::Glob, Kind::String, "0")?;
+    let other = declare(
+        alloc,
+        &mut store,
+        "urn:g",
+        GlobalKind::Glob,
+        Kind::String,
+        "0",
+    )?;
     check(other == Err(DeclareFault::Differs(0)), "another datatype")?;
-    let other = declare(alloc, &mut store, "urn:g", GlobalKind::Glob, Kind::Integer, "1")?;
-    check(other == Err(DeclareFault::Differs(0)), "another initial value")?;
-    check(number(&store, &g, None, &mut steps) == Ok(Some(0)), "the initial value")?;
-    check(changed(&store, u64::MAX, &mut steps) == 0, "nothing written")?;
+    let other = declare(
+        alloc,
+        &mut store,
+        "urn:g",
+        GlobalKind::Glob,
+        Kind::Integer,
+        "1",
+    )?;
+    check(
+        other == Err(DeclareFault::Differs(0)),
+        "another initial value",
+    )?;
+    check(
+        number(&store, &g, None, &mut steps) == Ok(Some(0)),
+        "the initial value",
+    )?;
+    check(
+        changed(&store, u64::MAX, &mut steps) == 0,
+        "nothing written",
+    )?;
     check(store.set(&g, None, "5") == Ok(()), "setting 5")?;
-    check(number(&store, &g, None, &mut steps) == Ok(Some(5)), "the value 5")?;
-    check(store.set(&g, None, "x") == Err(SetFault::BadValue), "no number")?;
-    check(store.set(&g, ann, "x") == Err(SetFault::BadValue), "no number, before the person")?;
-    check(store.set(&g, ann, "6") == Err(SetFault::NotAllowed), "a person")?;
-    check(store.set(&h, None, "1") == Err(SetFault::UnknownGlobal), "no such uri")?;
-    check(number(&store, &h, None, &mut steps) == Err(GlobalFault::UnknownGlobal), "unknown")?;
-    check(number(&store, &g, ann, &mut steps) == Err(GlobalFault::NotAllowed), "not allowed")?;
+    check(
+        number(&store, &g, None, &mut steps) == Ok(Some(5)),
+        "the value 5",
+    )?;
+    check(
+        store.set(&g, None, "x") == Err(SetFault::BadValue),
+        "no number",
+    )?;
+    check(
+        store.set(&g, ann, "x") == Err(SetFault::BadValue),
+        "no number, before the person",
+    )?;
+    check(
+        store.set(&g, ann, "6") == Err(SetFault::NotAllowed),
+        "a person",
+    )?;
+    check(
+        store.set(&h, None, "1") == Err(SetFault::UnknownGlobal),
+        "no such uri",
+    )?;
+    check(
+        number(&store, &h, None, &mut steps) == Err(GlobalFault::UnknownGlobal),
+        "unknown",
+    )?;
+    check(
+        number(&store, &g, ann, &mut steps) == Err(GlobalFault::NotAllowed),
+        "not allowed",
+    )?;
     check(store.stamp() == 1, "one write")?;
     check(store.set(&g, None, "0") == Ok(()), "setting 0")?;
     check(store.set(&g, None, "0") == Ok(()), "setting 0 again")?;
@@ -138,7 +196,14 @@ fn many<L: Ledger>(alloc: Global, blank: Blank) -> Result<(), Fail>
     let mut store = Globals::new(alloc);
     let names = ["urn:p", "urn:q"];
     for uri in names {
-        let done = declare(alloc, &mut store, uri, GlobalKind::GlobPers, Kind::Integer, "0")?;
+        let done = declare(
+            alloc,
+            &mut store,
+            uri,
+            GlobalKind::GlobPers,
+            Kind::Integer,
+            "0",
+        )?;
         check(done == Ok(()), "a declaration")?;
     }
     let mut values = [0i64; 6];
@@ -146,7 +211,9 @@ fn many<L: Ledger>(alloc: Global, blank: Blank) -> Result<(), Fail>
     let mut stamp = 0u64;
     let mut seed = 7u64;
     for _ in 0..400 {
-        seed = seed.wrapping_mul(6364136223846793005).wrapping_add(1442695040888963407);
+        seed = seed
+            .wrapping_mul(6364136223846793005)
+            .wrapping_add(1442695040888963407);
         let choice = seed >> 33;
         let key = (choice % 6) as usize;
         let value = (choice / 6 % 3) as i64;
@@ -174,5 +241,8 @@ fn many<L: Ledger>(alloc: Global, blank: Blank) -> Result<(), Fail>
         let later = writes.iter().filter(|write| **write > since).count();
         check(changed(&store, since, &mut steps) == later, "written since")?;
     }
-    check(changed(&store, u64::MAX, &mut steps) == 6, "all that were written")
+    check(
+        changed(&store, u64::MAX, &mut steps) == 6,
+        "all that were written",
+    )
 }

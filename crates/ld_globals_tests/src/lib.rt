@@ -1,5 +1,0 @@
-//! Tests of the store of global values: what no clause says.
-#![tactic(auto)]
-
-#[cfg(test)]
-mod tests;

@@ -1,0 +1,153 @@
+//! What no clause says: that calls succeed where there is memory, and answers worked out by hand.
+ghost use Rattle.std.specs.Prelude.{◌≡◌, ℕ, ◌<◌, true, Contains};
+
+mod random;
+
+use ld_graph::dirty::Dirty;
+use ld_graph::graph::Graph;
+use ld_graph::slots::SlotList;
+use std::alloc::Global;
+use std::test::Fail;
+
+/// A list of these slots, as far as there is room for eight.
+fn list_of(alloc: Global, slots: &[u32]) -> Result<SlotList, Fail> {
+    let mut list = SlotList::with_room(alloc, 8)?;
+    for slot in slots {
+        put(&mut list, *slot);
+    }
+    Ok(list)
+}
+
+/// Puts the slot where there is room.
+fn put(list: &mut SlotList, slot: u32) {
+    if list.len() < list.room() as usize {
+        list.put(slot);
+    }
+}
+
+/// Whether every slot is below a number.
+fn all_below(slots: &[u32], bound: u32) -> bool
+    ensures { result ≡ true → (k : ℕ) → Contains slots.now k → k < bound }
+{
+    for slot in slots {
+        if *slot >= bound {
+            return false;
+        }
+    }
+    true
+}
+
+/// Relinks the site where the condition of the call holds, and answers whether it does.
+fn relink(graph: &mut Graph, site: u32, list: &SlotList) -> bool {
+    if site >= graph.sites() || !all_below(list.as_slice(), graph.slots()) {
+        return false;
+    }
+    if list.len() > graph.spare() as usize {
+        return false;
+    }
+    graph.relink(site, list);
+    true
+}
+
+/// The readers of a slot as a number with a bit for each site, or None where one is given twice.
+fn readers(graph: &Graph, slot: u32) -> Option<u64> {
+    let mut bits = 0u64;
+    if slot >= graph.slots() {
+        return Some(0);
+    }
+    for site in graph.readers(slot) {
+        let bit = 1u64 << (site % 64);
+        if bits & bit != 0 {
+            return None;
+        }
+        bits |= bit;
+    }
+    Some(bits)
+}
+
+#[test]
+fn sites_are_found_in_order(rt: HostRuntime) -> Result<(), Fail> {
+    let mut dirty = Dirty::new(rt.alloc(), 300_000)?;
+    for site in [3, 64, 70_000, 299_999] {
+        if site < dirty.range() {
+            dirty.set(site);
+        }
+    }
+    let table = [
+        (0, Some(3)),
+        (3, Some(3)),
+        (4, Some(64)),
+        (65, Some(70_000)),
+        (70_001, Some(299_999)),
+        (300_000, None),
+        (4_000_000_000, None),
+    ];
+    for (from, wanted) in table {
+        assert_eq!(rt; dirty.next_from(from), wanted, "from {from}");
+    }
+    if 64 < dirty.range() {
+        dirty.clear(64);
+    }
+    assert_eq!(rt; dirty.next_from(4), Some(70_000));
+    dirty.grow(5_000_000)?;
+    if 4_999_999 < dirty.range() {
+        dirty.set(4_999_999);
+    }
+    assert_eq!(rt; dirty.next_from(299_999), Some(299_999));
+    assert_eq!(rt; dirty.next_from(300_000), Some(4_999_999));
+    dirty.empty();
+    assert_eq!(rt; dirty.next_from(0), None);
+    assert_eq!(rt; dirty.range(), 5_000_000);
+    Ok(())
+}
+
+#[test]
+fn slots_stand_once_in_their_order(rt: HostRuntime) -> Result<(), Fail> {
+    let mut list = list_of(rt.alloc(), &[5, 4_000_000_000, 5, 9])?;
+    assert_eq!(rt; list.as_slice(), [5, 4_000_000_000, 9].as_slice());
+    assert_eq!(rt; list.len(), 3);
+    assert_eq!(rt; list.get(2), Some(&9));
+    assert_eq!(rt; list.get(3), None);
+    list.clear();
+    assert_eq!(rt; list.len(), 0);
+    put(&mut list, 9);
+    put(&mut list, 5);
+    assert_eq!(rt; list.as_slice(), [9, 5].as_slice());
+    Ok(())
+}
+
+#[test]
+fn sites_are_relinked(rt: HostRuntime) -> Result<(), Fail> {
+    let mut graph = Graph::new(rt.alloc());
+    graph.reserve(4, 3, 6)?;
+    assert_eq!(rt; (graph.slots(), graph.sites(), graph.spare()), (4, 3, 6));
+    assert!(rt; relink(&mut graph, 0, &list_of(rt.alloc(), &[1, 2])?));
+    assert!(rt; relink(&mut graph, 1, &list_of(rt.alloc(), &[2])?));
+    assert!(rt; relink(&mut graph, 2, &list_of(rt.alloc(), &[2, 3])?));
+    assert_eq!(rt; graph.spare(), 1);
+    for (slot, wanted) in [(0, 0b000), (1, 0b001), (2, 0b111), (3, 0b100)] {
+        assert_eq!(rt; readers(&graph, slot), Some(wanted), "slot {slot}");
+    }
+    assert!(rt; relink(&mut graph, 0, &list_of(rt.alloc(), &[3])?));
+    assert_eq!(rt; graph.spare(), 2);
+    for (slot, wanted) in [(0, 0b000), (1, 0b000), (2, 0b110), (3, 0b101)] {
+        assert_eq!(rt; readers(&graph, slot), Some(wanted), "slot {slot}");
+    }
+    let mut dirty = Dirty::new(rt.alloc(), 3)?;
+    if 3 < graph.slots() && graph.sites() <= dirty.range() {
+        graph.set_readers(3, &mut dirty);
+    }
+    assert_eq!(rt; dirty.next_from(0), Some(0));
+    assert_eq!(rt; dirty.next_from(1), Some(2));
+    if 2 < graph.sites() {
+        graph.unlink(2);
+    }
+    assert_eq!(rt;
+        (readers(&graph, 2), readers(&graph, 3)),
+        (Some(0b010), Some(0b001))
+    );
+    graph.clear();
+    assert_eq!(rt; (readers(&graph, 2), graph.spare()), (Some(0), 6));
+    graph.facts();
+    Ok(())
+}

@@ -1,0 +1,94 @@
+//! Random calls, beside a plain set of sites and a plain set of pairs.
+ghost use Rattle.std.specs.Prelude.{◌<◌};
+
+use super::{put, readers, relink};
+use ld_graph::dirty::Dirty;
+use ld_graph::graph::Graph;
+use ld_graph::slots::SlotList;
+use std::test::Fail;
+
+const SITES: usize = 40;
+
+const SLOTS: usize = 10;
+
+/// A generator of numbers that look random, by a linear congruence.
+#[derive(Drop)]
+struct Random(u64);
+
+impl Random {
+    /// A number below this one.
+    fn below(&mut self, bound: u32) -> u32
+        requires { 0 < bound }
+        ensures { result < bound }
+    {
+        self.0 = self
+            .0
+            .wrapping_mul(6_364_136_223_846_793_005)
+            .wrapping_add(1_442_695_040_888_963_407);
+        (self.0 >> 33) as u32 % bound
+    }
+}
+
+#[test]
+fn a_set_of_sites(rt: HostRuntime) -> Result<(), Fail> {
+    // sites stand far apart, so that most words are empty
+    const STEP: u32 = 5003;
+    let mut random = Random(1);
+    let mut plain = [false; SITES];
+    let mut dirty = Dirty::new(rt.alloc(), STEP * SITES as u32)?;
+    for _ in 0..600 {
+        let number = random.below(SITES as u32);
+        let site = number * STEP;
+        if site >= dirty.range() {
+            continue;
+        }
+        if random.below(3) == 0 {
+            dirty.clear(site);
+            plain[number as usize] = false;
+        } else {
+            dirty.set(site);
+            plain[number as usize] = true;
+        }
+        let from = random.below(SITES as u32);
+        let wanted = plain.iter().skip(from as usize).position(|is_set| *is_set);
+        let found = dirty.next_from(from * STEP);
+        match wanted {
+            Some(after) => assert_eq!(rt; found, Some((from + after as u32) * STEP)),
+            None => assert_eq!(rt; found, None),
+        }
+    }
+    Ok(())
+}
+
+#[test]
+fn a_set_of_pairs(rt: HostRuntime) -> Result<(), Fail> {
+    let mut random = Random(2);
+    let mut plain = [0u64; SLOTS];
+    let mut graph = Graph::new(rt.alloc());
+    graph.reserve(SLOTS as u32, SITES as u32, 240)?;
+    let mut list = SlotList::with_room(rt.alloc(), 6)?;
+    for round in 0..400 {
+        let site = random.below(SITES as u32);
+        list.clear();
+        for _ in 0..random.below(7) {
+            put(&mut list, random.below(SLOTS as u32));
+        }
+        assert!(rt; relink(&mut graph, site, &list), "round {round}");
+        for (slot, bits) in plain.iter_mut().enumerate() {
+            let bit = 1u64 << site;
+            if list.as_slice().contains(&(slot as u32)) {
+                *bits |= bit;
+            } else {
+                *bits &= !bit;
+            }
+        }
+        for slot in 0..SLOTS {
+            assert_eq!(rt;
+                readers(&graph, slot as u32),
+                Some(plain[slot]),
+                "round {round}"
+            );
+        }
+    }
+    Ok(())
+}
