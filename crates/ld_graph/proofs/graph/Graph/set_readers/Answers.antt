@@ -17,4 +17,4 @@ pub set_all-requires : goal.set_all-requires
 set_all-requires c k d within =
     let sites = rest c.readers.result in
     subst (λ (n : ℕ). n < length c.args.dirty.now) (get_or_default sites k 0 d within)
-        (c.requires.range (get_or sites k 0) ((c.readers.ensures.sites (get_or sites k 0)).0 (Contains-get_or sites k 0 within)))
+    (c.requires.range (get_or sites k 0) ((c.readers.ensures.sites (get_or sites k 0)).0 (Contains-get_or sites k 0 within)))
