@@ -1,7 +1,6 @@
-use Rattle.std.proofs.Common.{◌≡◌, ℕ, ◌<◌, ◌≤◌, Bool, true, false, List, [], length, get_or, Contains, refl, sym, ◌∙◌, ap, arith}
-use Rattle.ld_graph.specs.Edges.{Edges, IsLinked}
+use Rattle.std.proofs.Common.{◌≡◌, ℕ, ◌≤◌, false, [], get_or, Contains, refl, arith}
+use Rattle.ld_graph.specs.Edges.{Edges}
 use Rattle.ld_cascade.specs.System.{System, Lawful, fires}
-use Rattle.ld_cascade.specs.Wiring.{slot_count, EdgesAre}
 use Rattle.ld_cascade.specs.Tidy.{IsTidy}
 
 -- a site that does not fire, reads nothing and has no edge

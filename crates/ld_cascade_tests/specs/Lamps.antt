@@ -1,9 +1,9 @@
-use Rattle.std.proofs.Common.{◌≡◌, ℕ, ◌+◌, ◌-◌, ◌^◌, ◌<◌, ◌≤◌, Bool, true, false, cond, List, [], ◌∷◌, length, set, get_or, Option, Some, None, nat_lt, refl, sym, ◌∙◌, ap, arith, Contains, zero, suc, inl, inr, ◌⊎◌}
+use Rattle.std.proofs.Common.{◌≡◌, ℕ, ◌-◌, ◌<◌, Bool, false, cond, [], ◌∷◌, length, set, get_or, Some, nat_lt, refl, sym, ◌∙◌, ap, arith, Contains, inl, inr}
 use Rattle.std.proofs.lemmas.List.{length-set, get_or-set_other, get_or-set_same, get_or_past}
 use Rattle.std.proofs.lemmas.List.Elements.{Contains-push}
 use Rattle.std.proofs.lemmas.Bool.{le-ltb, lt-ltb, cases_lt}
 use Rattle.ld_cascade_tests.specs.declared.lamps.Lamps.{Lamps}
-use Rattle.ld_cascade.specs.System.{System, Lawful, MayFire, Agree, fires}
+use Rattle.ld_cascade.specs.System.{System, Lawful}
 use Rattle.ld_cascade_tests.specs.Row.{Row}
 
 -- each lamp is a slot, and has a site that reads it: the site's test is whether the lamp is lit, and

@@ -1,4 +1,4 @@
-use Rattle.std.specs.Prelude.{◌≡◌, ℕ, Bool, List}
+use Rattle.std.specs.Prelude.{Bool, List}
 
 -- a row of lamps and the marks of their sites
 pub record Row : Type 0 where

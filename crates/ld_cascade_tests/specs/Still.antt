@@ -1,6 +1,6 @@
-use Rattle.std.proofs.Common.{◌≡◌, ℕ, ◌<◌, ◌≤◌, Bool, true, false, List, [], Some, refl, arith, Contains}
+use Rattle.std.proofs.Common.{ℕ, false, [], Some, refl, arith}
 use Rattle.ld_cascade_tests.specs.declared.still.Still.{Still}
-use Rattle.ld_cascade.specs.System.{System, Lawful, MayFire}
+use Rattle.ld_cascade.specs.System.{System, Lawful}
 
 -- so many sites, whose tests and marks are false, and which read nothing: none ever fires
 abbrev pub still : System

@@ -1,6 +1,5 @@
-use Rattle.std.proofs.Common.{rules, arith, ◌≡◌, ℕ, ◌<◌, ◌≤◌, ◌⊎◌, inl, inr, true, false, [], length, get_or, refl}
+use Rattle.std.proofs.Common.{rules, ◌≡◌, ◌≤◌, inl, inr, false, length}
 use Rattle.std.proofs.lemmas.Bool.{cases_lt}
-use Rattle.ld_graph.specs.Table.{has}
 use Rattle.ld_cascade.specs.System.{fires}
 use Rattle.ld_cascade_tests.specs.Lamps.{lamps, row_of, is_lawful, is_sound}
 use Rattle.ld_cascade_tests.proofs.Fresh.{tidy_alone, quiet_beyond}
