@@ -4,8 +4,8 @@
     moments.py PROGRAM FOLDER
 
 FOLDER is a unit that is published. A run takes a line at a moment of the table behind lines at all earlier
-ones, and refuses one at the moment before it. What is no moment is refused by a run that began at the first
-moment there is. The seconds are of Python's `datetime`, which is asked again.
+ones, and refuses one at the moment before it, telling the last one. What is no moment makes a bad line for a run
+that began at the first moment there is. The seconds are of Python's `datetime`, which is asked again.
 """
 import datetime
 import json
@@ -69,18 +69,23 @@ def seconds_of(text):
 
 
 def lines_and_replies(unit):
-    """Each line and the verb of its reply, or None where it is refused."""
+    """Each line and what its reply begins with."""
     moments = sorted(MOMENTS, key=lambda each: each[1])
     first = moments[0][0]
-    yield [first, "create", "r", unit], "create"
+    yield [first, "create", "r", unit], "ok create"
     for number, text in enumerate(NO_MOMENTS):
-        yield [text, "enrol", "r", f"no{number}"], None
+        yield [text, "enrol", "r", f"no{number}"], "no 1 bad-line"
     before = None
     for number, (text, _) in enumerate(moments):
-        yield [text, "enrol", "r", f"p{number}"], "enrol"
+        yield [text, "enrol", "r", f"p{number}"], "ok enrol"
         if before is not None:
-            yield [before, "enrol", "r", f"q{number}"], None
+            yield [before, "enrol", "r", f"q{number}"], f"no 5 moment-back {text}"
         before = text
+
+
+def is_told(reply, promised):
+    """Whether the reply is the one that is promised; of what is done, the verb is looked at."""
+    return reply == promised or promised.startswith("ok ") and reply.startswith(promised + " ")
 
 
 def main():
@@ -91,9 +96,8 @@ def main():
     replies = answers(program, folder, [line for line, _ in cases])
     if len(replies) != len(cases):
         failed.append(f"{len(replies)} replies to {len(cases)} lines")
-    for (line, verb), reply in zip(cases, replies):
-        is_right = reply == "no 1 bad-line" if verb is None else reply.split()[:2] == ["ok", verb]
-        if not is_right:
+    for (line, promised), reply in zip(cases, replies):
+        if not is_told(reply, promised):
             failed.append(f"{line}: {reply}")
     for each in failed:
         print(f"failed: {each}")

@@ -55,6 +55,12 @@ def moment_of(text):
     return 86_400 * number + 3_600 * hour + 60 * minute + second
 
 
+def text_of_moment(number):
+    """The text of a moment, by its number."""
+    moment = datetime.datetime(1970, 1, 1) + datetime.timedelta(seconds=number)
+    return f"{moment.year:04}-{moment:%m-%dT%H:%M:%S}Z"
+
+
 def texts_of(line):
     """The texts of a line that is one JSON array of texts; None for any other line."""
     try:

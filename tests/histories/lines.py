@@ -13,7 +13,26 @@ BEGINNINGS = [
 FIRST = datetime.datetime(1, 1, 1)
 LAST = datetime.datetime(9999, 12, 31, 23, 59, 59)
 WAITS = [0, 0, 0, 1, 1, 2, 59, 60, 3_600, 86_399, 86_400, 31 * 86_400]
-CROWD = 204
+# A run is full with 200 persons. A crowd has more, since some of it are refused, and others come to a full run.
+FULL = 200
+CROWD = 250
+
+# Verbs that are read and that no run knows yet, with words that are found by these names.
+NOT_RUN = {
+    "drop": ["run", "person", "role"],
+    "open": ["run", "person", "activity"],
+    "set": ["run", "person", "role", "activity"],
+    "clear": ["run", "person", "role"],
+    "get": ["run", "person", "activity"],
+    "outbox": ["run", "person"],
+    "report": ["run"],
+    "tick": ["run"],
+    "global-set": ["unit", "person", "activity"],
+    "global-get": ["unit", "person"],
+}
+
+# The verbs of commands of which something may be amiss, by their weights.
+AMISS = {"create": 3, "enrol": 5, "assign": 6, "start": 3, "complete": 6, "tree": 4}
 
 
 def written(moment):
@@ -43,7 +62,7 @@ class History:
         self.others = [part["identifier"], self.unit, self.role, self.activity]
         self.run = plain_name(draw)
         self.clock = datetime.datetime(*draw.choice(BEGINNINGS))
-        self.is_crowd = happens(draw, 1 / 80)
+        self.is_crowd = happens(draw, 1 / 40)
         self.pool = self.persons()
         self.enrolled = []
         self.said = []
@@ -86,17 +105,26 @@ class History:
         """A verb, by weights that follow what is believed of the run."""
         if not self.is_created:
             return "create" if happens(self.draw, 0.8) else self.draw.choice(list(WORDS))
-        is_growing = len(self.enrolled) < len(self.pool)
         is_running = self.is_started and self.enrolled
         weights = {
             "create": 0.2,
-            "enrol": (400 if self.is_crowd else 4) if is_growing else 0.3,
+            "enrol": self.weight_of_enrol(),
             "assign": 4 if self.is_unassigned() else 1,
             "start": 0.2 if self.is_started else 2.5,
             "complete": 5 if is_running else 0.3,
             "tree": 3 if is_running else 0.3,
         }
         return self.draw.choices(list(weights), list(weights.values()))[0]
+
+    def is_growing(self):
+        """Whether somebody of the pool is not enrolled, as far as is believed."""
+        return len(self.enrolled) < len(self.pool)
+
+    def weight_of_enrol(self):
+        """A crowd is enrolled before anything else is done, and more come then."""
+        if self.is_crowd:
+            return 400 if self.is_growing() else 4
+        return 4 if self.is_growing() else 0.3
 
     def is_unassigned(self):
         """Whether somebody is enrolled of whom no role was said."""
@@ -129,10 +157,48 @@ class History:
         }
         return [verb] + [makers[name]() for name in WORDS[verb]]
 
+    def amiss_chance(self):
+        """How often something is amiss: seldom while a crowd is enrolled, so that it fills the run."""
+        return 0.04 if self.is_crowd and len(self.enrolled) < FULL else 0.3
+
+    def amiss(self):
+        """A command of which nothing, one thing or several are amiss, so that causes of refusal come together."""
+        verb = self.draw.choices(list(AMISS), list(AMISS.values()))[0]
+        names = WORDS[verb]
+        if happens(self.draw, 0.05):
+            verb = self.draw.choice(list(NOT_RUN))
+            names = NOT_RUN[verb]
+        words = [self.wrong(verb, name) if happens(self.draw, 0.4) else self.right(verb, name) for name in names]
+        return [written(self.moment_amiss()), verb] + words
+
+    def moment_amiss(self):
+        """The moment of the clock, or one a little before or ahead, at which the clock stays."""
+        return later(self.clock, self.draw.choice([-60, -1, -1, -1, 0, 0, 0, 0, 1, 2]))
+
+    def free(self):
+        """Persons who may be enrolled yet."""
+        return [person for person in self.pool if person not in self.enrolled] or [plain_name(self.draw)]
+
+    def right(self, verb, name):
+        """The word of this name by which the command makes sense, as far as is believed."""
+        persons = self.free() if verb == "enrol" or not self.enrolled else self.enrolled
+        rights = {"run": [self.run], "unit": [self.unit], "person": persons, "role": [self.role] + self.roles,
+                  "activity": [self.activity] + self.activities}
+        return self.draw.choice(rights[name])
+
+    def wrong(self, verb, name):
+        """A word of this name for which the command has a cause of refusal; the run is seldom another."""
+        if name == "person":
+            return self.draw.choice(self.enrolled if verb == "enrol" and self.enrolled else self.free())
+        if name == "run" and verb != "create" and happens(self.draw, 0.8):
+            return self.run
+        wrongs = {"run": [self.run], "unit": [self.unit], "role": self.roles, "activity": self.activities}
+        return self.unknown(wrongs[name])
+
     def believe(self, words):
         """Keeps what a command most likely did; one of a moment before the clock did nothing to a run."""
         verb = words[1]
-        if self.is_created and words[0] < written(self.clock):
+        if verb in NOT_RUN or self.is_created and words[0] < written(self.clock):
             return
         if verb != "tree":
             self.said.append(words[1:])
@@ -174,7 +240,7 @@ class History:
         """A line without its line feed: mostly a command that makes sense."""
         if happens(self.draw, 0.14):
             return self.odd_line()
-        words = self.words()
+        words = self.amiss() if happens(self.draw, self.amiss_chance()) else self.words()
         self.believe(words)
         line = self.spelled(words)
         return self.padded(line) if happens(self.draw, 0.012) else line
@@ -212,7 +278,7 @@ class History:
 
     def data(self):
         """The bytes of an input: lines with their line feeds, of which the last may be missing."""
-        count = self.draw.choice([0, 1, 10, 20, 30, 40, 50, 60]) + (CROWD + 120 if self.is_crowd else 0)
+        count = self.draw.choice([0, 1, 10, 20, 30, 40, 50, 60]) + (CROWD + 150 if self.is_crowd else 0)
         return_chance = self.draw.choice([0, 0, 0, 0.1, 1])
         data = b""
         for _ in range(count):

@@ -3,47 +3,13 @@
 A plain and slow evaluation that covers the units of which runs are built today. A unit is the dict of its
 documents by the names of their files.
 """
+from causes import refusal, refusal_of_create, told
 from commands import command_of, is_passed_over
-from runs import activities_of, has, is_member, is_started, new_run, settling
+from runs import is_started, new_run, settling
 from tree import is_open, printed, tree_of
-
-MOST_PERSONS = 200
-BAD_LINE = "no 1 bad-line\n"
-TURN_BUDGET = "no 30 turn-budget\n"
-NOT_OPEN = "no 31 not-open\n"
 
 
 # A command of a run.
-
-def start_is_amiss(run, verb):
-    """A start needs a run that is not started, `complete` and `tree` one that is, and the other verbs either."""
-    return is_started(run) if verb == "start" else verb in ("complete", "tree") and not is_started(run)
-
-
-def person_is_amiss(run, command):
-    """To enrol needs a person who is not enrolled and a place; the other verbs with a person, one who is enrolled."""
-    is_enrolled = command.get("person") in run["persons"]
-    if command["verb"] == "enrol":
-        return is_enrolled or len(run["persons"]) == MOST_PERSONS
-    return "person" in command and not is_enrolled
-
-
-def role_is_amiss(documents, run, command):
-    """To assign needs a role of the unit that the person does not hold."""
-    role = command["role"]
-    return not has(documents["roles.json"]["roles"], role) or is_member(run, command["person"], role)
-
-
-def is_refused(documents, run, command):
-    """Whether a command of a run has one of the causes of docs/COMMANDS.md that are told as a bad line."""
-    return (
-        command["moment"] < run["now"]
-        or start_is_amiss(run, command["verb"])
-        or person_is_amiss(run, command)
-        or (command["verb"] == "assign" and role_is_amiss(documents, run, command))
-        or (command["verb"] == "complete" and not has(activities_of(documents), command["activity"]))
-    )
-
 
 def changed(run, command):
     """The direct change that each verb makes; `tree` makes none."""
@@ -69,21 +35,22 @@ def reply(documents, run, command, turns, firings):
 
 def step(documents, run, command):
     """The reply to a command of a run and the run after it, by the stages of docs/MEANING.md."""
-    if is_refused(documents, run, command):
-        return BAD_LINE, run
+    refused = refusal(documents, run, command)
+    if refused is not None:
+        return refused, run
     state = dict(run, now=command["moment"])
     turns = firings = 0
     if is_started(state):
         state, turns, firings = settling(documents, state)
         if state is None:
-            return TURN_BUDGET, run
+            return told(30), run
     if command["verb"] == "complete" and not is_open(documents, state, command["person"], command["activity"]):
-        return NOT_OPEN, run
+        return told(31), run
     state = changed(state, command)
     if is_started(state) and command["verb"] != "tree":
         state, more_turns, more_firings = settling(documents, state)
         if state is None:
-            return TURN_BUDGET, run
+            return told(30), run
         turns, firings = turns + more_turns, firings + more_firings
     return reply(documents, state, command, turns, firings), state
 
@@ -96,13 +63,14 @@ def world_step(documents, runs, line):
         return "", runs
     command = command_of(line)
     if command is None:
-        return BAD_LINE, runs
+        return told(1), runs
     if command["verb"] == "create":
-        if runs or command["unit"] != documents["unit.json"]["identifier"]:
-            return BAD_LINE, runs
+        refused = refusal_of_create(documents, runs, command)
+        if refused is not None:
+            return refused, runs
         return "ok create\n", {command["run"]: new_run(command["moment"])}
     if command["run"] not in runs:
-        return BAD_LINE, runs
+        return told(4), runs
     text, run = step(documents, runs[command["run"]], command)
     return text, {**runs, command["run"]: run}
 

@@ -108,6 +108,8 @@ def tell(seed, documents, lines, blocks, answer):
 def kinds_of(block):
     """The words of a reply by which its kind is known."""
     words = block.decode().split("\n")[0].split(" ")
+    if words[0] == "no":
+        return " ".join(words[:3])
     return " ".join(word for word in words if not word.startswith(("rejected", "sent", "lines")))
 
 
