@@ -52,7 +52,7 @@ def last_members():
 def large():
     """A document of the greatest size whose last element alone is wrong."""
     begin, end = b'{"roles":[', b'{"identifier":"r","kind":7}]}'
-    each = b'{"identifier":"r","kind":"learner","title":"' + b"x" * 256 + b'"},'
+    each = b'{"identifier":"r","kind":"learner","title":"' + b"x" * 200 + b'"},'
     count = (LIMIT - len(begin) - len(end)) // len(each)
     document = (begin + count * each + end).ljust(LIMIT)
     yield "a large document", f"roles.json /roles/{count}/kind wrong-shape", folder(files={"roles.json": document})
