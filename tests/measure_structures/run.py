@@ -4,7 +4,7 @@
     tests/measure_structures/run.py [RUNS [STRUCTURE..]]
 
 Each folder beside this file is a structure. It holds `program` (a crate `measure_STRUCTURE`: its src and
-proofs), `libraries` (the crates on which that stands), `plain.rs` (the same work in plain Rust) and
+proofs, each file with `.text` behind its name, since `rt` reads no crate here), `libraries` (the crates on which that stands), `plain.rs` (the same work in plain Rust) and
 `words` (a line for each measurement: the words that both are called with). In a temporary folder the
 crate is proved and built by `rt run`, over copies of this repository's crates with what their checks
 kept, and the plain program by `rustc -O`. Both have to print the same. Each is called RUNS times (11
@@ -60,6 +60,10 @@ def build(structure, work):
         shutil.copytree(source, os.path.join(work, "crates", crate), symlinks=True)
     own = os.path.join(work, "crates", name)
     shutil.copytree(os.path.join(HERE, structure, "program"), own)
+    for place, _, names in os.walk(own):
+        for each in names:
+            path = os.path.join(place, each)
+            os.rename(path, path.removesuffix(".text"))
     with open(os.path.join(work, "crates.txt"), "w") as file:
         for crate in needed:
             file.write(crates[crate][0] + "\n")
