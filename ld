@@ -7,7 +7,7 @@ program=$crate/out/ld_program
 
 # Whether there is no program, or a source that is newer. The crates of tests are no part of it.
 is_stale() {
-  [ ! -x "$program" ] || [ -n "$(find "$root/crates" "$root/crates.txt" \
+  [ ! -x "$program" ] || [ -n "$(cd "$root" && find crates crates.txt \
     \( -name '*.rt' -o -name '*.antt' -o -name crates.txt \) -not -path '*/out/*' -not -path '*_tests/*' \
     -newer "$program" -print -quit)" ]
 }

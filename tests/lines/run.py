@@ -63,12 +63,21 @@ def wrong_words(verb):
             yield [verb] + words[:place] + [word] + words[place + 1:]
 
 
+def wrong_json(right):
+    """The line cut short, with more behind it, and with a text that is none."""
+    return [right[:-1], right[:-2], right[1:], right + b"]", right + right, b"[" + right + b"]",
+            right.replace(b'"', b"'"), right.replace(b", ", b" "), right.replace(b'", "', b'", 7, "', 1)]
+
+
 def wrong_cases():
     """Each verb with wrong words, and what is no verb, where right words would be done."""
     for verb in verbs.VERBS:
         lines, replies = before(verb)
         wrong = [line(NOW, words) for words in wrong_words(verb)]
         yield f"{verb} with wrong words", lines + wrong, replies + [BAD] * len(wrong)
+        wrong = [line(moment, [verb] + verbs.VERBS[verb][2]) for moment in texts.NO_MOMENTS]
+        wrong += wrong_json(line(NOW, [verb] + verbs.VERBS[verb][2]))
+        yield f"{verb} at no moment, and in no JSON", lines + wrong, replies + [BAD] * len(wrong)
     lines, replies = before("start")
     wrong = [line(NOW, [word] + more) for word in verbs.NO_VERBS for more in (["r"], ["r", "ann"], ["urn:g", ""])]
     wrong += [line(NOW, words) for words in verbs.OTHER_WORDS] + [line(NOW, [])]
