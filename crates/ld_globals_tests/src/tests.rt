@@ -118,7 +118,10 @@ fn declarations(alloc: Global, store: &mut Globals) -> Result<(), Fail> {
     let other = declare(alloc, store, "urn:g", GlobalKind::Glob, Kind::String, "0")?;
     check(other == Err(DeclareFault::Differs(0)), "another datatype")?;
     let other = declare(alloc, store, "urn:g", GlobalKind::Glob, Kind::Integer, "1")?;
-    check(other == Err(DeclareFault::Differs(0)), "another initial value")
+    check(
+        other == Err(DeclareFault::Differs(0)),
+        "another initial value",
+    )
 }
 
 fn settings<L: Ledger>(
@@ -127,13 +130,31 @@ fn settings<L: Ledger>(
     steps: &mut Steps<L>,
 ) -> Result<(), Fail> {
     let ann = names.ann.as_ref();
-    check(number(store, &names.g, None, steps) == Ok(Some(0)), "the initial value")?;
+    check(
+        number(store, &names.g, None, steps) == Ok(Some(0)),
+        "the initial value",
+    )?;
     check(store.set(&names.g, None, "5") == Ok(()), "setting 5")?;
-    check(number(store, &names.g, None, steps) == Ok(Some(5)), "the value 5")?;
-    check(store.set(&names.g, None, "x") == Err(SetFault::BadValue), "no number")?;
-    check(store.set(&names.g, ann, "x") == Err(SetFault::BadValue), "no number first")?;
-    check(store.set(&names.g, ann, "6") == Err(SetFault::NotAllowed), "a person")?;
-    check(store.set(&names.h, None, "1") == Err(SetFault::UnknownGlobal), "no such uri")?;
+    check(
+        number(store, &names.g, None, steps) == Ok(Some(5)),
+        "the value 5",
+    )?;
+    check(
+        store.set(&names.g, None, "x") == Err(SetFault::BadValue),
+        "no number",
+    )?;
+    check(
+        store.set(&names.g, ann, "x") == Err(SetFault::BadValue),
+        "no number first",
+    )?;
+    check(
+        store.set(&names.g, ann, "6") == Err(SetFault::NotAllowed),
+        "a person",
+    )?;
+    check(
+        store.set(&names.h, None, "1") == Err(SetFault::UnknownGlobal),
+        "no such uri",
+    )?;
     let unknown = number(store, &names.h, None, steps);
     check(unknown == Err(GlobalFault::UnknownGlobal), "unknown")?;
     let refused = number(store, &names.g, ann, steps);
@@ -169,11 +190,7 @@ fn many<L: Ledger>(alloc: Global, blank: Blank) -> Result<(), Fail>
     run(alloc, &mut store, &mut steps)
 }
 
-fn run<L: Ledger>(
-    alloc: Global,
-    store: &mut Globals,
-    steps: &mut Steps<L>,
-) -> Result<(), Fail> {
+fn run<L: Ledger>(alloc: Global, store: &mut Globals, steps: &mut Steps<L>) -> Result<(), Fail> {
     for uri in ["urn:p", "urn:q"] {
         let done = declare(alloc, store, uri, GlobalKind::GlobPers, Kind::Integer, "0")?;
         check(done == Ok(()), "a declaration")?;
@@ -185,10 +202,15 @@ fn run<L: Ledger>(
     };
     let mut seed = 7u64;
     for _ in 0..400 {
-        seed = seed.wrapping_mul(6364136223846793005).wrapping_add(1442695040888963407);
+        seed = seed
+            .wrapping_mul(6364136223846793005)
+            .wrapping_add(1442695040888963407);
         one(alloc, store, &mut plain, seed >> 33, steps)?;
     }
-    check(changed(store, u64::MAX, steps) == 6, "all that were written")
+    check(
+        changed(store, u64::MAX, steps) == 6,
+        "all that were written",
+    )
 }
 
 /// A plain list of what the store should hold: the value of each key, and its last write.
@@ -211,7 +233,10 @@ fn one<L: Ledger>(
     let value = (choice / 6 % 3) as u8;
     let uri = Text::of(alloc, if key < 3 { "urn:p" } else { "urn:q" })?;
     let person = person_of(alloc, PERSONS[key % 3])?;
-    check(store.set(&uri, person.as_ref(), TEXTS[value as usize]) == Ok(()), "setting")?;
+    check(
+        store.set(&uri, person.as_ref(), TEXTS[value as usize]) == Ok(()),
+        "setting",
+    )?;
     let found = number(store, &uri, person.as_ref(), steps);
     check(found == Ok(Some(value as i64)), "the value")?;
     if plain.values[key] != value {
@@ -223,6 +248,7 @@ fn one<L: Ledger>(
 }
 
 const PERSONS: [&str; 3] = ["ann", "bob", "cay"];
+
 const TEXTS: [&str; 3] = ["0", "1", "2"];
 
 /// Whether the store says the same of what was written since.
@@ -233,10 +259,10 @@ fn compare<L: Ledger>(
     steps: &mut Steps<L>,
 ) -> Result<(), Fail> {
     check(store.stamp() == plain.stamp, "the stamp")?;
-    let mut later = 0;
+    let mut later = 0usize;
     for write in plain.writes {
         if write > since {
-            later += 1;
+            later = later.saturating_add(1);
         }
     }
     check(changed(store, since, steps) == later, "written since")
