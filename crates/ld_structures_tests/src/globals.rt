@@ -80,6 +80,14 @@ fn changed<L: Ledger>(store: &Globals, stamp: u64, steps: &mut Steps<L>) -> usiz
     store.changed_since(stamp, steps).count()
 }
 
+/// The texts and identifiers of the worked row.
+#[derive(Drop)]
+struct Names {
+    g: Text,
+    h: Text,
+    ann: Option<Id>,
+}
+
 #[test]
 fn one_value_for_all(rt: HostRuntime) -> Result<(), Fail> {
     row::<Brand>(rt.alloc(), Blank::new(1))
@@ -90,94 +98,80 @@ fn row<L: Ledger>(alloc: Global, blank: Blank) -> Result<(), Fail>
     requires parts { blank.parts ≡ L.parts }
     requires some { 0 < L.parts }
 {
+    let names = Names {
+        g: Text::of(alloc, "urn:g")?,
+        h: Text::of(alloc, "urn:h")?,
+        ann: person_of(alloc, "ann")?,
+    };
     let mut steps = Steps::<L>::new(blank);
     let mut store = Globals::new(alloc);
-    let g = Text::of(alloc, "urn:g")?;
-    let h = Text::of(alloc, "urn:h")?;
-    let ann = person_of(alloc, "ann")?;
-    let ann = ann.as_ref();
-    let first = declare(
-        alloc,
-        &mut store,
-        "urn:g",
-        GlobalKind::Glob,
-        Kind::Integer,
-        "0",
-    )?;
+    declarations(alloc, &mut store)?;
+    settings(&mut store, &names, &mut steps)?;
+    changes(&mut store, &names, &mut steps)
+}
+
+fn declarations(alloc: Global, store: &mut Globals) -> Result<(), Fail> {
+    let first = declare(alloc, store, "urn:g", GlobalKind::Glob, Kind::Integer, "0")?;
     check(first == Ok(()), "a first declaration")?;
-    let again = declare(
-        alloc,
-        &mut store,
-        "urn:g",
-        GlobalKind::Glob,
-        Kind::Integer,
-        "0",
-    )?;
+    let again = declare(alloc, store, "urn:g", GlobalKind::Glob, Kind::Integer, "0")?;
     check(again == Ok(()), "the same declaration")?;
-    let other = declare(
-        alloc,
-        &mut store,
-        "urn:g",
-        GlobalKind::Glob,
-        Kind::String,
-        "0",
-    )?;
+    let other = declare(alloc, store, "urn:g", GlobalKind::Glob, Kind::String, "0")?;
     check(other == Err(DeclareFault::Differs(0)), "another datatype")?;
-    let other = declare(
-        alloc,
-        &mut store,
-        "urn:g",
-        GlobalKind::Glob,
-        Kind::Integer,
-        "1",
-    )?;
+    let other = declare(alloc, store, "urn:g", GlobalKind::Glob, Kind::Integer, "1")?;
     check(
         other == Err(DeclareFault::Differs(0)),
         "another initial value",
-    )?;
+    )
+}
+
+fn settings<L: Ledger>(
+    store: &mut Globals,
+    names: &Names,
+    steps: &mut Steps<L>,
+) -> Result<(), Fail> {
+    let ann = names.ann.as_ref();
     check(
-        number(&store, &g, None, &mut steps) == Ok(Some(0)),
+        number(store, &names.g, None, steps) == Ok(Some(0)),
         "the initial value",
     )?;
+    check(store.set(&names.g, None, "5") == Ok(()), "setting 5")?;
     check(
-        changed(&store, u64::MAX, &mut steps) == 0,
-        "nothing written",
-    )?;
-    check(store.set(&g, None, "5") == Ok(()), "setting 5")?;
-    check(
-        number(&store, &g, None, &mut steps) == Ok(Some(5)),
+        number(store, &names.g, None, steps) == Ok(Some(5)),
         "the value 5",
     )?;
     check(
-        store.set(&g, None, "x") == Err(SetFault::BadValue),
+        store.set(&names.g, None, "x") == Err(SetFault::BadValue),
         "no number",
     )?;
     check(
-        store.set(&g, ann, "x") == Err(SetFault::BadValue),
-        "no number, before the person",
+        store.set(&names.g, ann, "x") == Err(SetFault::BadValue),
+        "no number first",
     )?;
     check(
-        store.set(&g, ann, "6") == Err(SetFault::NotAllowed),
+        store.set(&names.g, ann, "6") == Err(SetFault::NotAllowed),
         "a person",
     )?;
     check(
-        store.set(&h, None, "1") == Err(SetFault::UnknownGlobal),
+        store.set(&names.h, None, "1") == Err(SetFault::UnknownGlobal),
         "no such uri",
     )?;
-    check(
-        number(&store, &h, None, &mut steps) == Err(GlobalFault::UnknownGlobal),
-        "unknown",
-    )?;
-    check(
-        number(&store, &g, ann, &mut steps) == Err(GlobalFault::NotAllowed),
-        "not allowed",
-    )?;
+    let unknown = number(store, &names.h, None, steps);
+    check(unknown == Err(GlobalFault::UnknownGlobal), "unknown")?;
+    let refused = number(store, &names.g, ann, steps);
+    check(refused == Err(GlobalFault::NotAllowed), "not allowed")
+}
+
+fn changes<L: Ledger>(
+    store: &mut Globals,
+    names: &Names,
+    steps: &mut Steps<L>,
+) -> Result<(), Fail> {
     check(store.stamp() == 1, "one write")?;
-    check(store.set(&g, None, "0") == Ok(()), "setting 0")?;
-    check(store.set(&g, None, "0") == Ok(()), "setting 0 again")?;
+    check(store.set(&names.g, None, "0") == Ok(()), "setting 0")?;
+    check(store.set(&names.g, None, "0") == Ok(()), "setting 0 again")?;
     check(store.stamp() == 2, "an equal value is no write")?;
-    check(changed(&store, 1, &mut steps) == 1, "written since 1")?;
-    check(changed(&store, 2, &mut steps) == 0, "written since 2")?;
+    check(changed(store, 1, steps) == 1, "written since 1")?;
+    check(changed(store, 2, steps) == 0, "written since 2")?;
     check(store.reserve(3).is_ok(), "room")
 }
 
@@ -186,7 +180,6 @@ fn values_for_persons(rt: HostRuntime) -> Result<(), Fail> {
     many::<Brand>(rt.alloc(), Blank::new(1))
 }
 
-/// A plain list of what the store should hold: the value of each key, and its last write.
 fn many<L: Ledger>(alloc: Global, blank: Blank) -> Result<(), Fail>
     requires name { blank.name ≡ L.name }
     requires parts { blank.parts ≡ L.parts }
@@ -194,55 +187,83 @@ fn many<L: Ledger>(alloc: Global, blank: Blank) -> Result<(), Fail>
 {
     let mut steps = Steps::<L>::new(blank);
     let mut store = Globals::new(alloc);
-    let names = ["urn:p", "urn:q"];
-    for uri in names {
-        let done = declare(
-            alloc,
-            &mut store,
-            uri,
-            GlobalKind::GlobPers,
-            Kind::Integer,
-            "0",
-        )?;
+    run(alloc, &mut store, &mut steps)
+}
+
+fn run<L: Ledger>(alloc: Global, store: &mut Globals, steps: &mut Steps<L>) -> Result<(), Fail> {
+    for uri in ["urn:p", "urn:q"] {
+        let done = declare(alloc, store, uri, GlobalKind::GlobPers, Kind::Integer, "0")?;
         check(done == Ok(()), "a declaration")?;
     }
-    let mut values = [0i64; 6];
-    let mut writes = [0u64; 6];
-    let mut stamp = 0u64;
+    let mut plain = Plain {
+        values: [0; 6],
+        writes: [0; 6],
+        stamp: 0,
+    };
     let mut seed = 7u64;
     for _ in 0..400 {
         seed = seed
             .wrapping_mul(6364136223846793005)
             .wrapping_add(1442695040888963407);
-        let choice = seed >> 33;
-        let key = (choice % 6) as usize;
-        let value = (choice / 6 % 3) as i64;
-        let since = choice / 18 % 400;
-        let uri = Text::of(alloc, if key < 3 { "urn:p" } else { "urn:q" })?;
-        let person = match key % 3 {
-            0 => person_of(alloc, "ann")?,
-            1 => person_of(alloc, "bob")?,
-            _ => person_of(alloc, "cay")?,
-        };
-        let text = match value {
-            0 => "0",
-            1 => "1",
-            _ => "2",
-        };
-        check(store.set(&uri, person.as_ref(), text) == Ok(()), "setting")?;
-        if values[key] != value {
-            stamp = stamp.saturating_add(1);
-            values[key] = value;
-            writes[key] = stamp;
-        }
-        check(store.stamp() == stamp, "the stamp")?;
-        let found = number(&store, &uri, person.as_ref(), &mut steps);
-        check(found == Ok(Some(value)), "the value")?;
-        let later = writes.iter().filter(|write| **write > since).count();
-        check(changed(&store, since, &mut steps) == later, "written since")?;
+        one(alloc, store, &mut plain, seed >> 33, steps)?;
     }
     check(
-        changed(&store, u64::MAX, &mut steps) == 6,
+        changed(store, u64::MAX, steps) == 6,
         "all that were written",
     )
+}
+
+/// A plain list of what the store should hold: the value of each key, and its last write.
+#[derive(Drop)]
+struct Plain {
+    values: [u8; 6],
+    writes: [u64; 6],
+    stamp: u64,
+}
+
+/// One call of `set`, and what the store then holds.
+fn one<L: Ledger>(
+    alloc: Global,
+    store: &mut Globals,
+    plain: &mut Plain,
+    choice: u64,
+    steps: &mut Steps<L>,
+) -> Result<(), Fail> {
+    let key = (choice % 6) as usize;
+    let value = (choice / 6 % 3) as u8;
+    let uri = Text::of(alloc, if key < 3 { "urn:p" } else { "urn:q" })?;
+    let person = person_of(alloc, PERSONS[key % 3])?;
+    check(
+        store.set(&uri, person.as_ref(), TEXTS[value as usize]) == Ok(()),
+        "setting",
+    )?;
+    let found = number(store, &uri, person.as_ref(), steps);
+    check(found == Ok(Some(value as i64)), "the value")?;
+    if plain.values[key] != value {
+        plain.stamp = plain.stamp.saturating_add(1);
+        plain.values[key] = value;
+        plain.writes[key] = plain.stamp;
+    }
+    compare(store, plain, choice / 18 % 400, steps)
+}
+
+const PERSONS: [&str; 3] = ["ann", "bob", "cay"];
+
+const TEXTS: [&str; 3] = ["0", "1", "2"];
+
+/// Whether the store says the same of what was written since.
+fn compare<L: Ledger>(
+    store: &Globals,
+    plain: &Plain,
+    since: u64,
+    steps: &mut Steps<L>,
+) -> Result<(), Fail> {
+    check(store.stamp() == plain.stamp, "the stamp")?;
+    let mut later = 0usize;
+    for write in plain.writes {
+        if write > since {
+            later = later.saturating_add(1);
+        }
+    }
+    check(changed(store, since, steps) == later, "written since")
 }
