@@ -7,7 +7,7 @@ pub record System : Type 1 where
   pub Course : Type 0
   -- what is true of each situation that there can be
   pub IsSound : Situation → Type 0
-  -- the part of a situation that no call changes
+  -- the part of a situation that the calls of `Sites` do not change
   pub course : Situation → Course
   pub count : Situation → ℕ
   -- how many slots there are, and what stands in each

@@ -181,8 +181,8 @@ fn sweep<G: Sites, L: Ledger>(
 /// sites, and those that a firing may concern.
 ///
 /// It answers `TurnBudget` exactly where one sweep more than `turns` fires, and `NoMemory` only
-/// where some site is dirty. After either the state and the links are between two visits or in one:
-/// take the state back to where `begin` was called, and then call `restore`.
+/// where some site is dirty. After either the state may be any of the same course, and the links
+/// follow the old ones: take the state back to where `begin` was called, and then call `restore`.
 pub fn settle<G: Sites, L: Ledger>(
     alloc: Global,
     sites: &mut G,
@@ -206,6 +206,7 @@ pub fn settle<G: Sites, L: Ledger>(
     ensures rooms { IfOk result (λ _.
         HasRoomOutside G.system (G.now sites.old) links.old.dirty (G.room sites.old)
         → HasRoom G.system (G.now sites.new) (G.room sites.new)) }
+    ensures course { G.system.course (G.now sites.new) ≡ G.system.course (G.now sites.old) }
     ensures room { G.room sites.old ≤ G.room sites.new }
     ensures follows { Follows links.old links.new }
     ensures sites { links.new.sites ≡ links.old.sites }

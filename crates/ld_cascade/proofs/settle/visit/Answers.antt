@@ -110,7 +110,7 @@ returns-in_default-fire-clause-goes g c =
     let may : MayFire y s m = may_fire y g.met.G.Sites.lawful s m (g.met.G.Sites.sound c.args.sites.now) is_due in
     let cost : c.fire.new.steps ≤ c.link.new.steps + y.cost s m = rw k.state at c.fire.ensures.ticks in
     failed_goes l is_due (standing y (g.G.Sites.now c.fire.new.self) c.link.new.links c.args.walk.now.totals (g.G.Sites.room c.fire.new.self) c.fire.new.steps)
-    refl c.fire.ensures.room cost
+    c.fire.ensures.course refl c.fire.ensures.room cost
 
 pub touch_all-requires : goal.touch_all-requires
 touch_all-requires g c =
