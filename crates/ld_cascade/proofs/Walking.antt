@@ -2,7 +2,7 @@ use Rattle.std.proofs.Common.{◌≡◌, ℕ, suc, ◌+◌, ◌*◌, ◌<◌, �
 use Rattle.std.proofs.lemmas.Bool.{cases_Bool, cases_eq}
 use Rattle.ld_cascade.specs.System.{System, fires, Lawful}
 use Rattle.ld_cascade.specs.Settling.{step, fired, visited, fired_below, swept, sweep_firings, after_sweeps, all_firings, Moves, Firing, Sums, sums_of, plus, no_sums}
-use Rattle.ld_cascade.proofs.Sweeps.{visited_next, fired_next, sweep_end, sweep_firings_end, still_visited, no_site, quiet_visits}
+use Rattle.ld_cascade.proofs.Sweeps.{visited_next, fired_next, sweep_end, sweep_firings_end, still_visited, past_quiet, quiet_visits}
 use Rattle.ld_cascade.proofs.Goings.{sums_append, plus_assoc, plus_none}
 use Rattle.ld_cascade.proofs.Visits.{fired_quiet}
 use Rattle.ld_cascade.proofs.Sweeping.{few_fired}
@@ -49,7 +49,7 @@ pub walking_end : {y : System} → Lawful y → {s0 : y.Situation} {sums0 : Sums
 walking_end {y} law {s0} {sums0} {may} {s} {sums} {n} w sound past =
     let k = still_visited y law s0 sound n in
     let quiet : (i : ℕ) → n ≤ i → fires y (visited y s0 n) i ≡ false =
-    λ i a. no_site y law (visited y s0 n) i k.sound (let e = k.same_count in omega arith) in
+    λ i a. past_quiet y law (visited y s0 n) i k.sound (let e = k.same_count in omega arith) in
     (w.same ∙ sym (sweep_end y law s0 sound n quiet), sweep_firings_end y law s0 sound n quiet)
 
 pub walking_few : {y : System} → Lawful y → {s0 : y.Situation} {sums0 : Sums} {may : Bool} {s : y.Situation} {sums : Sums} {n : ℕ}

@@ -15,5 +15,5 @@ tidy_alone y s edges i quiet none row = record {
 }
 
 -- a number that is no site does not fire
-pub quiet_beyond : (y : System) → Lawful y → (s : y.Situation) (i : ℕ) → y.IsSound s → y.count s ≤ i → fires y s i ≡ false
-quiet_beyond y w s i sound past = rw (w.no_test s i sound past, w.no_mark s i sound past) refl
+pub quiet_outside : (y : System) → Lawful y → (s : y.Situation) (i : ℕ) → y.IsSound s → y.is_site s i ≡ false → fires y s i ≡ false
+quiet_outside y w s i sound out = rw (w.no_test s i sound out, w.no_mark s i sound out) refl
