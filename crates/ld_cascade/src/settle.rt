@@ -106,10 +106,10 @@ fn visit<G: Sites, L: Ledger>(
         fires G.system (G.now sites.old) site ≡ true → may_fire ≡ true) }
     ensures budget { result ≡ Err Stop.TurnBudget → (fires G.system (G.now sites.old) site ≡ true)
         × (may_fire ≡ false) }
-    ensures stopped { result ≡ Err Stop.TurnBudget → Goes G.system []
+    ensures stopped { IfErr result (λ _. may_fire ≡ false → Goes G.system []
         (standing G.system (G.now sites.old) links.old walk.old.totals (G.room sites.old) steps.old)
         (standing G.system (G.now sites.new) links.new walk.new.totals
-        (G.room sites.new) steps.new) }
+        (G.room sites.new) steps.new)) }
 {
     links.judge_now(site);
     let judged = sites.judge(site, steps);
@@ -161,10 +161,10 @@ fn sweep<G: Sites, L: Ledger>(
     ensures idle { IsEmpty links.old.dirty → result ≡ Ok false }
     ensures budget { result ≡ Err Stop.TurnBudget
         → (sweep_firings G.system (G.now sites.old) ≡ [] → ⊥) × (may_fire ≡ false) }
-    ensures stopped { result ≡ Err Stop.TurnBudget → Goes G.system []
+    ensures stopped { IfErr result (λ _. may_fire ≡ false → Goes G.system []
         (standing G.system (G.now sites.old) links.old walk.old.totals (G.room sites.old) steps.old)
         (standing G.system (G.now sites.new) links.new walk.new.totals
-        (G.room sites.new) steps.new) }
+        (G.room sites.new) steps.new)) }
 {
     let before = walk.totals.fired();
     let mut from: u32 = 0;

@@ -25,6 +25,22 @@ returns-in-Err-clause-goes g c =
     k.state refl k.room c.judge-judged.ensures.ticks k.ticks in
     looked_goes l (fired y s m)
 
+pub returns-in-Err-clause-stopped : goal.returns-in-Err-clause-stopped
+returns-in-Err-clause-stopped g c _ =
+    let y = g.G.Sites.system in
+    let s = g.G.Sites.now c.args.sites.now in
+    let m = c.args.site in
+    let p : Standing y = standing y s c.args.links.now c.args.walk.now.totals (g.G.Sites.room c.args.sites.now) c.args.steps.now in
+    let q : Standing y = standing y (g.G.Sites.now c.link.new.sites) c.link.new.links c.args.walk.now.totals (g.G.Sites.room c.link.new.sites) c.link.new.steps in
+    let j = c.judge_now.ensures in
+    let k = c.link.ensures in
+    let clear : Cleared c.args.links.now c.judge_now.new.self m = record { dirty = j.dirty; edges = j.edges; relinked = j.relinked; sites = j.sites } in
+    let link : Linked c.judge_now.new.self c.link.new.links m =
+    record { others = k.others; follows = k.follows; relinked = k.relinked; dirty = k.dirty; sites = k.sites } in
+    let l : Looked y p q m = looked y p q c.judge_now.new.self c.judge-judged.new.steps m clear link c.requires.site c.requires.marked
+    k.state refl k.room c.judge-judged.ensures.ticks k.ticks in
+    looked_goes l []
+
 pub returns-then-not-is_due-clause-arrives : goal.returns-then-not-is_due-clause-arrives
 returns-then-not-is_due-clause-arrives g c =
     let y = g.G.Sites.system in
