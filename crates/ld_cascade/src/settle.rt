@@ -111,7 +111,7 @@ fn visit<G: Sites, L: Ledger>(
         (standing G.system (G.now sites.new) links.new walk.new.totals
         (G.room sites.new) steps.new)) }
 {
-    links.judge_now(site);
+    links.clear_dirty(site);
     let judged = sites.judge(site, steps);
     if let Err(_) = link(sites, links, site, steps) {
         return Err(Stop::NoMemory);

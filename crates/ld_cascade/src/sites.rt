@@ -14,8 +14,9 @@ use ld_base::steps::Steps;
 use ld_graph::slots::SlotList;
 use std::sync::ledger::Ledger;
 
-/// A state with sites. It means a system, which no call changes, a situation of that system, and a
-/// room, which never falls: how many slots the list that `reads` lends can hold without new memory.
+/// A state with sites. It means a system, a situation of that system, whose course no call changes,
+/// and a room, which never falls: how many slots the list that `reads` lends can hold without new
+/// memory. The sites are some of the numbers below the system's count, in their order.
 pub trait Sites {
     ghost system: { System };
 
