@@ -1,4 +1,4 @@
-use Rattle.std.proofs.Common.{◌≡◌, ℕ, false, List, sym, ◌∙◌, subst, arith, inl, inr}
+use Rattle.std.proofs.Common.{◌≡◌, ℕ, false, List, sym, ◌∙◌, subst, inl, inr}
 use Rattle.std.proofs.lemmas.Bool.{cases_Bool}
 use Rattle.ld_graph.specs.Table.{has}
 use Rattle.ld_cascade.specs.System.{System, Lawful, IsSeenAlike}
@@ -23,7 +23,7 @@ tidy_touched y w s t slots old now tidy ch touched i out =
             sound_other = ch.sound_after;
             same_course = ch.same_course;
             there = there;
-            there_other = ch.same_sites i there;
+            there_other = ch.keeps_sites i there;
             agree = λ k member. ch.others k (λ changes. absurd (let is_in = touched.readers k changes i (was.edges_are.linked k member) in cc));
           } in
           record {

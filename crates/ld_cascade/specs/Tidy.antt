@@ -1,4 +1,4 @@
-use Rattle.std.specs.Prelude.{◌≡◌, ℕ, ◌<◌, ◌≤◌, Bool, true, false, List, Contains}
+use Rattle.std.specs.Prelude.{◌≡◌, ℕ, ◌≤◌, Bool, true, false, List, Contains}
 use Rattle.ld_graph.specs.Table.{has}
 use Rattle.ld_graph.specs.Edges.{Edges, IsLinked}
 use Rattle.ld_cascade.specs.System.{System, fires}
@@ -28,7 +28,7 @@ pub record Changes (y : System) (s t : y.Situation) (slots : List ℕ) : Type 0 
   pub sound_before : y.IsSound s
   pub sound_after : y.IsSound t
   pub same_course : y.course s ≡ y.course t
-  pub same_sites : (i : ℕ) → y.is_site s i ≡ true → y.is_site t i ≡ true
+  pub keeps_sites : (i : ℕ) → y.is_site s i ≡ true → y.is_site t i ≡ true
   pub same_marks : (i : ℕ) → y.is_site s i ≡ true → y.mark t i ≡ y.mark s i
   pub others : (k : ℕ) → (Contains slots k → ⊥) → y.content s k ≡ y.content t k
 

@@ -1,4 +1,4 @@
-use Rattle.std.proofs.Common.{◌≡◌, ℕ, ◌≤◌, false, [], get_or, Contains, refl, arith}
+use Rattle.std.proofs.Common.{◌≡◌, ℕ, false, [], get_or, Contains, refl, arith}
 use Rattle.ld_graph.specs.Edges.{Edges}
 use Rattle.ld_cascade.specs.System.{System, Lawful, fires}
 use Rattle.ld_cascade.specs.Tidy.{IsTidy}

@@ -1,5 +1,5 @@
 use Rattle.std.specs.List.{each_same}
-use Rattle.std.proofs.Common.{◌≡◌, ℕ, false, sym, ◌∙◌, ap, subst, arith, refl}
+use Rattle.std.proofs.Common.{◌≡◌, false, sym, ◌∙◌, ap, subst, arith}
 use Rattle.ld_graph.specs.Edges.{Edges}
 use Rattle.ld_cascade.specs.System.{fires}
 use Rattle.ld_cascade.specs.Wiring.{EdgesAre}
