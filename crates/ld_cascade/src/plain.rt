@@ -77,7 +77,8 @@ fn sweep<G: Sites, L: Ledger>(
 }
 
 /// Settles the sites by plain sweeps: every site below `count` is visited in every sweep. It gives
-/// what `settle` gives, and needs no links. After a refusal the state may be any of the same course.
+/// what `settle` gives, and needs no links. After a refusal the state may be any of the same
+/// course.
 pub fn settle_plainly<G: Sites, L: Ledger>(
     alloc: Global,
     sites: &mut G,

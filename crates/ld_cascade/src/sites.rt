@@ -44,7 +44,8 @@ pub trait Sites {
             × IfOk result (λ r. length r.now.items ≤ room v))) };
 
     /// Fires the site: its mark becomes the verdict, and its effect is applied. The slots that it
-    /// changes are appended to `changed`. After want of memory the state may be any of the same course.
+    /// changes are appended to `changed`. After want of memory the state may be any of the same
+    /// course.
     fn fire<L: Ledger>(
         &mut self,
         site: u32,
