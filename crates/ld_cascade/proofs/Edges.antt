@@ -1,5 +1,5 @@
-use Rattle.std.proofs.Common.{◌≡◌, ℕ, ◌<◌, ◌≤◌, Bool, true, false, List, [], length, get_or, Contains, Some, refl, sym, ◌∙◌, ap, subst, arith, inl, inr, ◌⊎◌}
-use Rattle.std.proofs.lemmas.Bool.{cases_eq, cases_lt, cases_Bool}
+use Rattle.std.proofs.Common.{◌≡◌, ℕ, ◌≤◌, Bool, true, false, List, [], length, get_or, Contains, Some, refl, sym, ◌∙◌, ap, subst, arith, inl, inr, ◌⊎◌}
+use Rattle.std.proofs.lemmas.Bool.{cases_eq, cases_Bool}
 use Rattle.ld_graph.specs.Table.{has}
 use Rattle.ld_graph.specs.Edges.{Edges, IsLinked, edge_room}
 use Rattle.ld_cascade.specs.System.{System, fires, due, MayFire, Lawful, IsSeenAlike}
@@ -53,34 +53,34 @@ tidy_cleared {y} {s} {w} {linked} {cleared} {m} v quiet w' same_edges same_dirty
 abbrev pub Apart : (y : System) → y.Situation → ℕ → ℕ → Type 0
 Apart y s m i = (k : ℕ) → Contains (y.reads s i) k → Contains (y.changed s m) k → ⊥
 
-apart_alike : (y : System) → Lawful y → (s : y.Situation) (m i : ℕ) → MayFire y s m → i < y.count s → Apart y s m i → IsSeenAlike y s (y.after s m) i
-apart_alike y w s m i may lt u = record {
+apart_alike : (y : System) → Lawful y → (s : y.Situation) (m i : ℕ) → MayFire y s m → y.is_site s i ≡ true → Apart y s m i → IsSeenAlike y s (y.after s m) i
+apart_alike y w s m i may there u = record {
   sound = may.sound;
   sound_other = w.keeps_sound s m may;
   same_course = sym (w.keeps_course s m may);
-  there = lt;
-  there_other = let e = w.keeps_count s m may in omega arith;
+  there = there;
+  there_other = w.keeps_sites s m i may ∙ there;
   agree = λ k member. sym (w.reported s m k may (λ c. u k member c));
 }
 
 pub apart_reads : (y : System) → Lawful y → (s : y.Situation) (m i : ℕ) → MayFire y s m → Apart y s m i → y.reads s i ≡ y.reads (y.after s m) i
 apart_reads y w s m i may u =
-    elim (cases_lt i (y.count s)) [
-      | inl lt ↦ w.same_reads s (y.after s m) i (apart_alike y w s m i may lt u)
-      | inr ge ↦ w.no_reads s i may.sound ge ∙ sym (w.no_reads (y.after s m) i (w.keeps_sound s m may) (let e = w.keeps_count s m may in omega arith))
+    elim (cases_Bool (y.is_site s i)) [
+      | inl there ↦ w.same_reads s (y.after s m) i (apart_alike y w s m i may there u)
+      | inr out ↦ w.no_reads s i may.sound out ∙ sym (w.no_reads (y.after s m) i (w.keeps_sound s m may) (w.keeps_sites s m i may ∙ out))
     ]
 
 apart_fires : (y : System) → Lawful y → (s : y.Situation) (m i : ℕ) → MayFire y s m → Apart y s m i
     → ((i ≡ m → ⊥) → fires y s i ≡ false) → fires y (y.after s m) i ≡ false
 apart_fires y w s m i may u h =
-    elim (cases_lt i (y.count s)) [
-      | inl lt ↦ let t = sym (w.same_test s (y.after s m) i (apart_alike y w s m i may lt u)) in
+    elim (cases_Bool (y.is_site s i)) [
+      | inl there ↦ let t = sym (w.same_test s (y.after s m) i (apart_alike y w s m i may there u)) in
           elim (cases_eq i m) [
             | inl e ↦ subst (λ (n : ℕ). fires y (y.after s m) n ≡ false) (sym e)
                 (rw (w.own_mark s m may, subst (λ (n : ℕ). y.test (y.after s m) n ≡ y.test s n) e t) (due_own (y.test s m)))
             | inr ne ↦ rw (w.other_marks s m i may ne, t) (h ne)
           ]
-      | inr ge ↦ no_site y w (y.after s m) i (w.keeps_sound s m may) (let e = w.keeps_count s m may in omega arith)
+      | inr out ↦ no_site y w (y.after s m) i (w.keeps_sound s m may) (w.keeps_sites s m i may ∙ out)
     ]
 
 -- what a firing marks: what was dirty before it, and the readers of what it changes

@@ -63,6 +63,7 @@ pub goes_then : {y : System} {fs gs : List (Firing y)} {p q r : Standing y} → 
 goes_then {y} {fs} {gs} {p} {q} {r} a h =
     let w : work y (fs ++ gs) ≡ work y fs + work y gs = work_append y fs gs in
     record {
+      same_course = h.same_course ∙ a.goes.same_course;
       steps = let x = a.steps in let z = h.steps in omega arith;
       stirs = stirs_then a.goes.stirs h.stirs;
       follows = follows_then a.goes.follows h.follows;
@@ -86,6 +87,7 @@ arrives_then {y} {fs} {gs} {p} {q} {r} a h =
 pub arrives_none : (y : System) (p : Standing y) → Tidy y p.situation p.wiring → Covers y p.situation p.wiring → Arrives y [] p p
 arrives_none y p tidy covers = record {
   goes = record {
+    same_course = refl;
     steps = omega arith;
     stirs = stirs_none y p.wiring;
     follows = follows_self;

@@ -8,12 +8,13 @@ use Rattle.ld_cascade.specs.Tidy.{Covers}
 use Rattle.ld_cascade.specs.Work.{weight, weight_of, sum_below}
 use Rattle.ld_cascade.specs.Rooms.{read_count, edges_needed, HasRoom, Restorable}
 use Rattle.ld_cascade.proofs.Sums.{sum_below_le, sum_below_less, sum_below_more, pairs_by_places}
+use Rattle.ld_cascade.proofs.Sweeps.{past_count}
 use Rattle.ld_cascade.proofs.Edges.{edges_stay}
 use Rattle.ld_cascade.proofs.Weights.{weight_next, weight_end}
 
--- a number that is no site reads nothing
+-- no number from the count on reads anything
 no_count : (y : System) → Lawful y → (s : y.Situation) → y.IsSound s → (i : ℕ) → y.count s ≤ i → read_count y s i ≡ 0
-no_count y law s sound i past = rw (law.no_reads s i sound past) refl
+no_count y law s sound i past = rw (law.no_reads s i sound (past_count y law s i sound past)) refl
 
 -- the edges that are needed, over more numbers than there are sites
 needed_below : (y : System) → Lawful y → (s : y.Situation) → y.IsSound s → (d : ℕ)

@@ -45,7 +45,7 @@ pub sweep_moves_at : (y : System) → Lawful y → (s : y.Situation) → y.IsSou
 sweep_moves_at y law s sound m is_due none =
     let k = still_visited y law s sound m in
     let may = may_fire y law (visited y s m) m k.sound is_due in
-    let le : m + 1 ≤ y.count s = let a = may.there in let e = k.same_count in omega arith in
+    let le : m + 1 ≤ y.count s = let a = law.within (visited y s m) m k.sound may.there in let e = k.same_count in omega arith in
     let h : fired_below y s (m + 1) ≡ [] = none_before y s (m + 1) (y.count s) le none in
     not_empty (fired_below y s m) (record { before = visited y s m; site = m })
     (sym (fired_next y s m ∙ ap (λ x. fired_below y s m ++ x) (fired_due y (visited y s m) m is_due)) ∙ h)
@@ -65,7 +65,7 @@ few_fired y law s sound (suc n) =
       | inl is_due ↦
           let may = may_fire y law (visited y s n) n k.sound is_due in
           let one : length (fired y (visited y s n) n) ≡ 1 = rw (fired_due y (visited y s n) n is_due) refl in
-          let there = may.there in
+          let there = law.within (visited y s n) n k.sound may.there in
           let same = k.same_count in
           (omega arith, omega arith)
       | inr quiet ↦

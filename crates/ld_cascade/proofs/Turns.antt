@@ -90,6 +90,12 @@ turning_stops {y} {turns} {p} {q} {r} {k} w n goes =
     subst (λ (fs : List (Firing y)). Goes y fs p r) (ap (λ (u : y.Situation). all_firings y p.situation k ++ fired_below y u n) w.same)
     (goes_then w.arrives goes)
 
+-- a sweep that stops before a site fires
+pub turning_rests : {y : System} {turns : ℕ} {p q r : Standing y} {k : ℕ} → Turning y turns p q k
+    → Goes y [] q r → Goes y (firings_to y p.situation k 0) p r
+unfolding fired_below
+turning_rests w goes = turning_stops w 0 goes
+
 -- the budget is used up
 pub turning_spent : {y : System} {turns : ℕ} {p q r : Standing y} {k : ℕ} → Turning y turns p q k → turns ≤ k → Goes y [] q r → Goes y (all_firings y p.situation turns) p r
 turning_spent {y} {turns} {p} {q} {r} {k} w last goes =

@@ -64,6 +64,7 @@ looked_stirs {y} {p} {q} {m} l fs = record {
 -- where the visit ends before the firing
 pub looked_goes : {y : System} {p q : Standing y} {m : ℕ} → Looked y p q m → (fs : List (Firing y)) → Goes y fs p q
 looked_goes {y} {p} {q} {m} l fs = record {
+  same_course = ap (λ (u : y.Situation). y.course u) l.same;
   steps = let a = looked_weight l in omega arith;
   stirs = looked_stirs l fs;
   follows = l.follows;
@@ -119,9 +120,10 @@ fired_visited y s m i is_due meet = (
 
 -- where the firing fails
 pub failed_goes : {y : System} {p q : Standing y} {m : ℕ} → Looked y p q m → fires y p.situation m ≡ true
-    → (r : Standing y) → r.wiring ≡ q.wiring → q.room ≤ r.room → r.steps ≤ q.steps + y.cost p.situation m
+    → (r : Standing y) → y.course r.situation ≡ y.course q.situation → r.wiring ≡ q.wiring → q.room ≤ r.room → r.steps ≤ q.steps + y.cost p.situation m
     → Goes y (fired y p.situation m) p r
-failed_goes {y} {p} {q} {m} l is_due r same room steps = record {
+failed_goes {y} {p} {q} {m} l is_due r course same room steps = record {
+  same_course = course ∙ ap (λ (u : y.Situation). y.course u) l.same;
   steps = let a = looked_weight l in let z = work_due y p.situation m is_due in omega arith;
   stirs = subst (λ (w : Wiring). Stirs y (fired y p.situation m) p.wiring w) (sym same) (looked_stirs l (fired y p.situation m));
   follows = subst (λ (w : Wiring). Follows p.wiring w) (sym same) l.follows;
@@ -153,6 +155,7 @@ fired_arrives {y} law {p} {q} {r} {m} may l v f covers own =
     let stirs = looked_stirs l fs in
     record {
       goes = record {
+        same_course = ap (λ (u : y.Situation). y.course u) f.after ∙ law.keeps_course s m may;
         steps = omega arith;
         stirs = record {
           dirty = λ i is_in. elim (marked i is_in) [

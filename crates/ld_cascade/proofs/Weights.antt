@@ -9,6 +9,7 @@ use Rattle.ld_cascade.specs.Settling.{Firing, fired}
 use Rattle.ld_cascade.specs.Wiring.{Wiring, IsWithout}
 use Rattle.ld_cascade.specs.Work.{meets, sum_below, weight, weight_of, visits, visits_weight, work}
 use Rattle.ld_cascade.proofs.Sums.{sum_below_le, sum_below_add, sum_below_less, sum_below_more, sum_below_to}
+use Rattle.ld_cascade.proofs.Sweeps.{past_count}
 use Rattle.ld_cascade.proofs.Edges.{Visiting, Marks, edges_stay}
 
 any_true : {X : Type 0} (p : X → Bool) (xs : List X) (k : ℕ) (d : X) → k < length xs → p (get_or xs k d) ≡ true → list_any p xs ≡ true
@@ -52,7 +53,7 @@ weight_fired y w s sound m n before later range only =
     ] in
     let a : sum_below n l ≤ sum_below n (λ i. b i + v i) = sum_below_le n l (λ i. b i + v i) each in
     let split : sum_below n (λ i. b i + v i) ≡ sum_below n b + sum_below n v = sum_below_add n b v in
-    let zeros : (i : ℕ) → y.count s ≤ i → v i ≡ 0 = λ i past. rw (w.no_reads s i sound past) refl in
+    let zeros : (i : ℕ) → y.count s ≤ i → v i ≡ 0 = λ i past. rw (w.no_reads s i sound (past_count y w s i sound past)) refl in
     let e : y.count s + (n - y.count s) ≡ n = omega arith in
     let cut : sum_below n v ≡ sum_below (y.count s) v = rw e at (sum_below_more (y.count s) (n - y.count s) v zeros) in
     omega arith

@@ -26,6 +26,7 @@ steps_due y p = p.steps + 3 * weight_of y p.situation p.wiring.sites p.wiring.di
 
 -- from one standing to the next by at most these firings, whatever was answered
 pub record Goes (y : System) (fs : List (Firing y)) (p q : Standing y) : Type 0 where
+  pub same_course : y.course q.situation ≡ y.course p.situation
   pub steps : q.steps ≤ steps_due y p + work y fs
   pub stirs : Stirs y fs p.wiring q.wiring
   pub follows : Follows p.wiring q.wiring

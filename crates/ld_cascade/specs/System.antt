@@ -1,14 +1,16 @@
-use Rattle.std.specs.Prelude.{◌≡◌, ℕ, ◌<◌, ◌≤◌, Bool, true, false, List, [], Option, Some, Contains}
+use Rattle.std.specs.Prelude.{◌≡◌, ℕ, ◌<◌, Bool, true, false, List, [], Option, Some, Contains}
 
--- what a system of sites means; the sites of a situation are the numbers below its count
+-- what a system of sites means; the sites of a situation are some of the numbers below its count
 pub record System : Type 1 where
   pub Situation : Type 0
   pub Content : Type 0
   pub Course : Type 0
   -- what is true of each situation that there can be
   pub IsSound : Situation → Type 0
-  -- the part of a situation that no call changes
+  -- the part of a situation that the calls of `Sites` do not change
   pub course : Situation → Course
+  -- which numbers are sites, and a bound of them
+  pub is_site : Situation → ℕ → Bool
   pub count : Situation → ℕ
   -- how many slots there are, and what stands in each
   pub slots : Situation → ℕ
@@ -39,7 +41,7 @@ fires y s i = due (y.test s i) (y.mark s i)
 -- the site may be fired
 pub record MayFire (y : System) (s : y.Situation) (i : ℕ) : Type 0 where
   pub sound : y.IsSound s
-  pub there : i < y.count s
+  pub there : y.is_site s i ≡ true
   pub due_now : fires y s i ≡ true
 
 -- two situations have the same in each slot of the list
@@ -51,8 +53,8 @@ pub record IsSeenAlike (y : System) (s t : y.Situation) (i : ℕ) : Type 0 where
   pub sound : y.IsSound s
   pub sound_other : y.IsSound t
   pub same_course : y.course s ≡ y.course t
-  pub there : i < y.count s
-  pub there_other : i < y.count t
+  pub there : y.is_site s i ≡ true
+  pub there_other : y.is_site t i ≡ true
   pub agree : Agree y s t (y.reads s i)
 
 -- the laws of a system
@@ -63,6 +65,7 @@ pub record Lawful (y : System) : Type 0 where
   -- a firing leaves the same sites, slots and sizes, sets its own mark alone, and tells what it changes
   pub keeps_sound : (s : y.Situation) (i : ℕ) → MayFire y s i → y.IsSound (y.after s i)
   pub keeps_course : (s : y.Situation) (i : ℕ) → MayFire y s i → y.course (y.after s i) ≡ y.course s
+  pub keeps_sites : (s : y.Situation) (i j : ℕ) → MayFire y s i → y.is_site (y.after s i) j ≡ y.is_site s j
   pub keeps_count : (s : y.Situation) (i : ℕ) → MayFire y s i → y.count (y.after s i) ≡ y.count s
   pub keeps_slots : (s : y.Situation) (i : ℕ) → MayFire y s i → y.slots (y.after s i) ≡ y.slots s
   pub keeps_size : (s : y.Situation) (i j : ℕ) → MayFire y s i → y.size (y.after s i) j ≡ y.size s j
@@ -70,11 +73,13 @@ pub record Lawful (y : System) : Type 0 where
   pub other_marks : (s : y.Situation) (i j : ℕ) → MayFire y s i → (j ≡ i → ⊥) → y.mark (y.after s i) j ≡ y.mark s j
   pub reported : (s : y.Situation) (i k : ℕ) → MayFire y s i → (Contains (y.changed s i) k → ⊥)
       → y.content (y.after s i) k ≡ y.content s k
+  -- a site is below the count
+  pub within : (s : y.Situation) (i : ℕ) → y.IsSound s → y.is_site s i ≡ true → i < y.count s
   -- a number that is no site has a false test, a false mark, no reads and the size 0
-  pub no_test : (s : y.Situation) (i : ℕ) → y.IsSound s → y.count s ≤ i → y.test s i ≡ false
-  pub no_mark : (s : y.Situation) (i : ℕ) → y.IsSound s → y.count s ≤ i → y.mark s i ≡ Some false
-  pub no_reads : (s : y.Situation) (i : ℕ) → y.IsSound s → y.count s ≤ i → y.reads s i ≡ []
-  pub no_size : (s : y.Situation) (i : ℕ) → y.IsSound s → y.count s ≤ i → y.size s i ≡ 0
+  pub no_test : (s : y.Situation) (i : ℕ) → y.IsSound s → y.is_site s i ≡ false → y.test s i ≡ false
+  pub no_mark : (s : y.Situation) (i : ℕ) → y.IsSound s → y.is_site s i ≡ false → y.mark s i ≡ Some false
+  pub no_reads : (s : y.Situation) (i : ℕ) → y.IsSound s → y.is_site s i ≡ false → y.reads s i ≡ []
+  pub no_size : (s : y.Situation) (i : ℕ) → y.IsSound s → y.is_site s i ≡ false → y.size s i ≡ 0
   -- what a site reads and what a firing tells as changed are slots
   pub reads_below : (s : y.Situation) (i k : ℕ) → y.IsSound s → Contains (y.reads s i) k → k < y.slots s
   pub changes_below : (s : y.Situation) (i k : ℕ) → MayFire y s i → Contains (y.changed s i) k → k < y.slots s

@@ -1,4 +1,4 @@
-use Rattle.std.specs.Prelude.{◌≡◌, ℕ, ◌<◌, ◌≤◌, Bool, true, false, List, Contains}
+use Rattle.std.specs.Prelude.{◌≡◌, ℕ, ◌≤◌, Bool, true, false, List, Contains}
 use Rattle.ld_graph.specs.Table.{has}
 use Rattle.ld_graph.specs.Edges.{Edges, IsLinked}
 use Rattle.ld_cascade.specs.System.{System, fires}
@@ -22,13 +22,14 @@ pub record Covers (y : System) (s : y.Situation) (wiring : Wiring) : Type 0 wher
   pub sites : y.count s ≤ wiring.sites
   pub slots : y.slots s ≤ wiring.edges.slots
 
--- a change by writes that are no firing: but in these slots and at new sites nothing differs
+-- a change by writes that are no firing: what is a site stays one, and but in these slots and at new
+-- sites nothing differs
 pub record Changes (y : System) (s t : y.Situation) (slots : List ℕ) : Type 0 where
   pub sound_before : y.IsSound s
   pub sound_after : y.IsSound t
   pub same_course : y.course s ≡ y.course t
-  pub grows : y.count s ≤ y.count t
-  pub same_marks : (i : ℕ) → i < y.count s → y.mark t i ≡ y.mark s i
+  pub keeps_sites : (i : ℕ) → y.is_site s i ≡ true → y.is_site t i ≡ true
+  pub same_marks : (i : ℕ) → y.is_site s i ≡ true → y.mark t i ≡ y.mark s i
   pub others : (k : ℕ) → (Contains slots k → ⊥) → y.content s k ≡ y.content t k
 
 -- the edges stay, what was dirty is dirty, the readers of these slots are, and the new sites are
@@ -36,4 +37,4 @@ pub record Touched (y : System) (s t : y.Situation) (slots : List ℕ) (old now 
   pub same_rows : (i : ℕ) → HasSameRow old.edges now.edges i
   pub keeps : (i : ℕ) → has old.dirty i ≡ true → has now.dirty i ≡ true
   pub readers : (k : ℕ) → Contains slots k → (i : ℕ) → IsLinked old.edges k i → has now.dirty i ≡ true
-  pub fresh : (i : ℕ) → y.count s ≤ i → i < y.count t → has now.dirty i ≡ true
+  pub fresh : (i : ℕ) → y.is_site s i ≡ false → y.is_site t i ≡ true → has now.dirty i ≡ true

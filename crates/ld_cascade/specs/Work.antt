@@ -1,4 +1,4 @@
-use Rattle.std.specs.Prelude.{◌≡◌, ℕ, zero, suc, ◌+◌, ◌*◌, ◌≤◌, ◌⊎◌, Bool, true, cond, List, sum_by, nat_eq, Contains}
+use Rattle.std.specs.Prelude.{◌≡◌, ℕ, zero, suc, ◌+◌, ◌*◌, ◌<◌, ◌≤◌, ◌⊎◌, Bool, true, cond, List, sum_by, nat_eq, Contains}
 use Rattle.std.specs.List.{list_any}
 use Rattle.ld_graph.specs.Table.{has}
 use Rattle.ld_cascade.specs.System.{System}
@@ -57,7 +57,8 @@ pub record Spends (y : System) (s : y.Situation) (fs : List (Firing y)) (old now
   pub ticks : Costs y s fs old before after
   pub stirs : Stirs y fs old now
 
--- the same of a settling that stopped after some of its firings
+-- the same of a settling that stopped after some of its firings, of which none is in the sweep with the
+-- number turns + 1
 abbrev pub SpendsInPart : (y : System) → y.Situation → ℕ → Wiring → Wiring → ℕ → ℕ → Type 0
 SpendsInPart y s turns old now before after =
-    (k : ℕ) × (n : ℕ) × (k ≤ turns) × Spends y s (firings_to y s k n) old now before after
+    (k : ℕ) × (n : ℕ) × (k ≤ turns) × ((k < turns) ⊎ (n ≡ 0)) × Spends y s (firings_to y s k n) old now before after

@@ -160,7 +160,7 @@ impl Links {
     }
 
     /// Takes a site out of the dirty ones.
-    pub(crate) fn judge_now(&mut self, site: u32)
+    pub(crate) fn clear_dirty(&mut self, site: u32)
         requires site { site < self.old.sites }
         ensures dirty { IsWithout self.old.dirty self.new.dirty site }
         ensures edges { self.new.edges ≡ self.old.edges }
@@ -217,8 +217,8 @@ impl Links {
         self.graph.unlink(site);
     }
 
-    /// Leaves no dirty site, and an empty table.
-    pub(crate) fn rest(&mut self)
+    /// Leaves no dirty site, and no site in the table of sites linked anew.
+    pub(crate) fn empty_tables(&mut self)
         ensures dirty { IsEmpty self.new.dirty }
         ensures relinked { IsEmpty self.new.relinked }
         ensures edges { self.new.edges ≡ self.old.edges }

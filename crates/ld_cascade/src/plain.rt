@@ -22,6 +22,7 @@ fn visit<G: Sites, L: Ledger>(
 ) -> Result<(), Stop>
     requires few { walk.old.totals.fired < 2 ^ 31 - 1 }
     ensures state { IfOk result (λ _. G.now sites.new ≡ step G.system (G.now sites.old) site) }
+    ensures course { G.system.course (G.now sites.new) ≡ G.system.course (G.now sites.old) }
     ensures totals { IfOk result (λ _. walk.new.totals
         ≡ plus walk.old.totals (sums_of G.system (fired G.system (G.now sites.old) site))) }
     ensures allowed { IfOk result (λ _.
@@ -55,6 +56,7 @@ fn sweep<G: Sites, L: Ledger>(
     requires range { G.system.count (G.now sites.old) ≤ count }
     requires few { walk.old.totals.fired + G.system.count (G.now sites.old) < 2 ^ 31 - 1 }
     ensures state { IfOk result (λ _. G.now sites.new ≡ swept G.system (G.now sites.old)) }
+    ensures course { G.system.course (G.now sites.new) ≡ G.system.course (G.now sites.old) }
     ensures totals { IfOk result (λ _. walk.new.totals
         ≡ plus walk.old.totals (sums_of G.system (sweep_firings G.system (G.now sites.old)))) }
     ensures few { IfOk result (λ _.
@@ -75,8 +77,8 @@ fn sweep<G: Sites, L: Ledger>(
 }
 
 /// Settles the sites by plain sweeps: every site below `count` is visited in every sweep. It gives
-/// what `settle` gives, and needs no links. After a refusal the state is between two visits or in
-/// one.
+/// what `settle` gives, and needs no links. After a refusal the state may be any of the same
+/// course.
 pub fn settle_plainly<G: Sites, L: Ledger>(
     alloc: Global,
     sites: &mut G,
@@ -91,6 +93,7 @@ pub fn settle_plainly<G: Sites, L: Ledger>(
     ensures state { IfOk result (λ r.
         G.now sites.new ≡ after_sweeps G.system (G.now sites.old) r.turns) }
     ensures budget { result ≡ Err Stop.TurnBudget → PassesBudget G.system (G.now sites.old) turns }
+    ensures course { G.system.course (G.now sites.new) ≡ G.system.course (G.now sites.old) }
 {
     let mut walk = Walk {
         changed: Vec::new(alloc),

@@ -62,7 +62,8 @@ fn link_in_room<G: Sites, L: Ledger>(
 /// table. It takes no memory.
 ///
 /// Call it where the state has been taken back to what it was at `begin`, when all edges were its
-/// reads: from then on the calls of `Links` and `settle` keep what it needs (`restorable_lasts`).
+/// reads: what it needs holds then (`begins_restorable`), and stays through every call that follows
+/// the old links (`stays_restorable`).
 pub fn restore<G: Sites, L: Ledger>(sites: &mut G, links: &mut Links, steps: &mut Steps<L>)
     requires begun { Restorable G.system (G.now sites.old) links.old }
     requires room { HasRoom G.system (G.now sites.old) (G.room sites.old) }
@@ -83,5 +84,5 @@ pub fn restore<G: Sites, L: Ledger>(sites: &mut G, links: &mut Links, steps: &mu
         link_in_room(sites, links, site, steps);
         from = site + 1;
     }
-    links.rest();
+    links.empty_tables();
 }

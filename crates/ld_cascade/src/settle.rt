@@ -106,12 +106,12 @@ fn visit<G: Sites, L: Ledger>(
         fires G.system (G.now sites.old) site ≡ true → may_fire ≡ true) }
     ensures budget { result ≡ Err Stop.TurnBudget → (fires G.system (G.now sites.old) site ≡ true)
         × (may_fire ≡ false) }
-    ensures stopped { result ≡ Err Stop.TurnBudget → Goes G.system []
+    ensures stopped { IfErr result (λ _. may_fire ≡ false → Goes G.system []
         (standing G.system (G.now sites.old) links.old walk.old.totals (G.room sites.old) steps.old)
         (standing G.system (G.now sites.new) links.new walk.new.totals
-        (G.room sites.new) steps.new) }
+        (G.room sites.new) steps.new)) }
 {
-    links.judge_now(site);
+    links.clear_dirty(site);
     let judged = sites.judge(site, steps);
     if let Err(_) = link(sites, links, site, steps) {
         return Err(Stop::NoMemory);
@@ -161,10 +161,10 @@ fn sweep<G: Sites, L: Ledger>(
     ensures idle { IsEmpty links.old.dirty → result ≡ Ok false }
     ensures budget { result ≡ Err Stop.TurnBudget
         → (sweep_firings G.system (G.now sites.old) ≡ [] → ⊥) × (may_fire ≡ false) }
-    ensures stopped { result ≡ Err Stop.TurnBudget → Goes G.system []
+    ensures stopped { IfErr result (λ _. may_fire ≡ false → Goes G.system []
         (standing G.system (G.now sites.old) links.old walk.old.totals (G.room sites.old) steps.old)
         (standing G.system (G.now sites.new) links.new walk.new.totals
-        (G.room sites.new) steps.new) }
+        (G.room sites.new) steps.new)) }
 {
     let before = walk.totals.fired();
     let mut from: u32 = 0;
@@ -181,8 +181,8 @@ fn sweep<G: Sites, L: Ledger>(
 /// sites, and those that a firing may concern.
 ///
 /// It answers `TurnBudget` exactly where one sweep more than `turns` fires, and `NoMemory` only
-/// where some site is dirty. After either the state and the links are between two visits or in one:
-/// take the state back to where `begin` was called, and then call `restore`.
+/// where some site is dirty. After either the state may be any of the same course, and the links
+/// follow the old ones: take the state back to where `begin` was called, and then call `restore`.
 pub fn settle<G: Sites, L: Ledger>(
     alloc: Global,
     sites: &mut G,
@@ -206,6 +206,7 @@ pub fn settle<G: Sites, L: Ledger>(
     ensures rooms { IfOk result (λ _.
         HasRoomOutside G.system (G.now sites.old) links.old.dirty (G.room sites.old)
         → HasRoom G.system (G.now sites.new) (G.room sites.new)) }
+    ensures course { G.system.course (G.now sites.new) ≡ G.system.course (G.now sites.old) }
     ensures room { G.room sites.old ≤ G.room sites.new }
     ensures follows { Follows links.old links.new }
     ensures sites { links.new.sites ≡ links.old.sites }

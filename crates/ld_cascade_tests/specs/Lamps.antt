@@ -1,7 +1,7 @@
-use Rattle.std.proofs.Common.{◌≡◌, ℕ, ◌-◌, ◌<◌, Bool, false, cond, [], ◌∷◌, length, set, get_or, Some, nat_lt, refl, sym, ◌∙◌, ap, arith, Contains, inl, inr}
+use Rattle.std.proofs.Common.{◌≡◌, ℕ, ◌-◌, ◌<◌, ◌≤◌, Bool, true, false, cond, List, [], ◌∷◌, length, set, get_or, Some, nat_lt, refl, sym, ◌∙◌, ap, arith, Contains, inl, inr}
 use Rattle.std.proofs.lemmas.List.{length-set, get_or-set_other, get_or-set_same, get_or_past}
 use Rattle.std.proofs.lemmas.List.Elements.{Contains-push}
-use Rattle.std.proofs.lemmas.Bool.{le-ltb, lt-ltb, cases_lt}
+use Rattle.std.proofs.lemmas.Bool.{le-ltb, lt-ltb, ltb-true, ltb-false, cases_lt}
 use Rattle.ld_cascade_tests.specs.declared.lamps.Lamps.{Lamps}
 use Rattle.ld_cascade.specs.System.{System, Lawful}
 use Rattle.ld_cascade_tests.specs.Row.{Row}
@@ -15,6 +15,7 @@ lamps = record {
   Course = ℕ;
   IsSound = λ s. length s.lit ≡ length s.marks;
   course = λ s. length s.lit;
+  is_site = λ s i. nat_lt i (length s.lit);
   count = λ s. length s.lit;
   slots = λ s. length s.lit;
   content = λ s k. get_or s.lit k false;
@@ -37,6 +38,14 @@ row_of t = record { lit = t.lit.items; marks = t.marks.items }
 pub is_sound : (t : Lamps) → length (row_of t).lit ≡ length (row_of t).marks
 is_sound t = t.even
 
+-- a lamp is below their number
+below : (i : ℕ) (lit : List Bool) → nat_lt i (length lit) ≡ true → i < length lit
+below i lit there = ltb-true i (length lit) there
+
+-- what is no lamp is not
+beyond : (i : ℕ) (lit : List Bool) → nat_lt i (length lit) ≡ false → length lit ≤ i
+beyond i lit out = ltb-false i (length lit) out
+
 -- the one member of a list of one number
 one_below : (i k n : ℕ) → i < n → Contains (i ∷ []) k → k < n
 one_below i k n lt member =
@@ -54,20 +63,22 @@ reads_one n i k member = elim (cases_lt i n) [
 -- rows of lamps keep the laws
 pub is_lawful : Lawful lamps
 is_lawful = record {
-  same_test = λ s t i a. a.agree i (rw (lt-ltb i (length s.lit) a.there) (Contains-push [] i));
+  same_test = λ s t i a. a.agree i (rw a.there (Contains-push [] i));
   same_reads = λ s t i a. ap (λ (n : ℕ). cond (nat_lt i n) (i ∷ []) []) a.same_course;
   keeps_sound = λ s i m. length-set s.lit (i - 1) (get_or s.lit i false) ∙ (m.sound ∙ sym (length-set s.marks i (get_or s.lit i false)));
   keeps_course = λ s i m. length-set s.lit (i - 1) (get_or s.lit i false);
+  keeps_sites = λ s i j m. ap (λ (n : ℕ). nat_lt j n) (length-set s.lit (i - 1) (get_or s.lit i false));
   keeps_count = λ s i m. length-set s.lit (i - 1) (get_or s.lit i false);
   keeps_slots = λ s i m. length-set s.lit (i - 1) (get_or s.lit i false);
   keeps_size = λ s i j m. refl;
-  own_mark = λ s i m. ap (λ (b : Bool). Some b) (get_or-set_same s.marks i (get_or s.lit i false) false (let a = m.there in let b = m.sound in omega arith));
+  own_mark = λ s i m. ap (λ (b : Bool). Some b) (get_or-set_same s.marks i (get_or s.lit i false) false (let a = below i s.lit m.there in let b = m.sound in omega arith));
   other_marks = λ s i j m ne. ap (λ (b : Bool). Some b) (get_or-set_other s.marks i j (get_or s.lit i false) false ne);
   reported = λ s i k m out. get_or-set_other s.lit (i - 1) k (get_or s.lit i false) false (λ e. out (rw e (Contains-push [] (i - 1))));
-  no_test = λ s i _ past. get_or_past s.lit i false past;
-  no_mark = λ s i e past. ap (λ (b : Bool). Some b) (get_or_past s.marks i false (omega arith));
-  no_reads = λ s i _ past. rw (le-ltb i (length s.lit) past) refl;
+  within = λ s i _ there. below i s.lit there;
+  no_test = λ s i _ out. get_or_past s.lit i false (beyond i s.lit out);
+  no_mark = λ s i e out. ap (λ (b : Bool). Some b) (get_or_past s.marks i false (let past = beyond i s.lit out in omega arith));
+  no_reads = λ s i _ out. rw out refl;
   no_size = λ s i _ _. refl;
   reads_below = λ s i k _ member. reads_one (length s.lit) i k member;
-  changes_below = λ s i k m member. one_below (i - 1) k (length s.lit) (let a = m.there in omega arith) member;
+  changes_below = λ s i k m member. one_below (i - 1) k (length s.lit) (let a = below i s.lit m.there in omega arith) member;
 }

@@ -1,4 +1,5 @@
-use Rattle.std.proofs.Common.{ℕ, false, [], Some, refl, arith}
+use Rattle.std.proofs.Common.{ℕ, false, [], Some, nat_lt, refl, arith}
+use Rattle.std.proofs.lemmas.Bool.{ltb-true}
 use Rattle.ld_cascade_tests.specs.declared.still.Still.{Still}
 use Rattle.ld_cascade.specs.System.{System, Lawful}
 
@@ -10,6 +11,7 @@ still = record {
   Course = ℕ;
   IsSound = λ s. Unit {0};
   course = λ s. s;
+  is_site = λ s i. nat_lt i s;
   count = λ s. s;
   slots = λ s. 0;
   content = λ s k. 0;
@@ -39,16 +41,18 @@ is_lawful = record {
   same_reads = λ s t i a. refl;
   keeps_sound = λ s i m. tt;
   keeps_course = λ s i m. refl;
+  keeps_sites = λ s i j m. refl;
   keeps_count = λ s i m. refl;
   keeps_slots = λ s i m. refl;
   keeps_size = λ s i j m. refl;
   own_mark = λ s i m. refl;
   other_marks = λ s i j m ne. refl;
   reported = λ s i k m out. refl;
-  no_test = λ s i _ past. refl;
-  no_mark = λ s i _ past. refl;
-  no_reads = λ s i _ past. refl;
-  no_size = λ s i _ past. refl;
+  within = λ s i _ there. ltb-true i s there;
+  no_test = λ s i _ out. refl;
+  no_mark = λ s i _ out. refl;
+  no_reads = λ s i _ out. refl;
+  no_size = λ s i _ out. refl;
   reads_below = λ s i k _ member. absurd (let lt = member.1 in omega arith);
   changes_below = λ s i k m member. absurd (let lt = member.1 in omega arith);
 }

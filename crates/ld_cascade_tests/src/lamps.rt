@@ -43,6 +43,26 @@ impl Lamps {
         };
         Ok(Lamps { lit, marks, list })
     }
+
+    /// Switches a lamp off.
+    pub fn switch_off(&mut self, lamp: u32)
+        requires lamp { lamp < length self.old.lit.items }
+        ensures lit { self.new.lit.items ≡ set self.old.lit.items lamp false }
+        ensures marks { self.new.marks.items ≡ self.old.marks.items }
+    {
+        self.lit[lamp as usize] = false;
+    }
+
+    /// Takes the lamps and the marks back to these, of which there are as many.
+    pub fn take_back(&mut self, lit: Vec<bool>, marks: Vec<bool>)
+        requires lit { length lit.items ≡ length self.old.lit.items }
+        requires marks { length marks.items ≡ length self.old.lit.items }
+        ensures lit { self.new.lit.items ≡ lit.items }
+        ensures marks { self.new.marks.items ≡ marks.items }
+    {
+        self.lit = lit;
+        self.marks = marks;
+    }
 }
 
 impl Sites for Lamps {

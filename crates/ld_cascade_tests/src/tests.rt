@@ -1,10 +1,16 @@
-ghost use Rattle.std.specs.Prelude.{◌≡◌, ℕ, ◌<◌, ◌≤◌, length};
+ghost use Rattle.std.specs.Prelude.{◌≡◌, ℕ, ◌<◌, ◌≤◌, length, IfOk};
+ghost use Rattle.ld_cascade.specs.Rooms.{Restorable};
+ghost use Rattle.ld_cascade.specs.Tidy.{IsTidy, Tidy, Covers};
+ghost use Rattle.ld_cascade_tests.specs.Lamps.{lamps, row_of};
+ghost use Rattle.ld_cascade_tests.specs.Row.{Row};
 
 use crate::lamps::Lamps;
 use crate::still::Still;
 use ld_base::steps::Steps;
+use ld_cascade::laws::{begins_restorable, stays_restorable, stays_tidy};
 use ld_cascade::links::Links;
 use ld_cascade::plain::settle_plainly;
+use ld_cascade::restore::restore;
 use ld_cascade::settle::settle;
 use ld_cascade::settled::{Settled, Stop};
 use std::alloc::Global;
@@ -76,27 +82,36 @@ fn both_settlings_give_the_same(rt: HostRuntime) -> Result<(), Fail> {
     Ok(())
 }
 
+/// Links for the lamps, each of whose sites is new.
+fn link_lamps(alloc: Global, row: &Lamps) -> Result<Links, Fail>
+    ensures tidy { IfOk result (λ l. Tidy lamps (row_of row.now) l) }
+    ensures covers { IfOk result (λ l. Covers lamps (row_of row.now) l) }
+{
+    let mut links = Links::new(alloc);
+    let count = row.lit.len() as u32;
+    links.grow(count, count)?;
+    for site in 0..count {
+        links.fresh(site);
+    }
+    Ok(links)
+}
+
 /// Settles the lamps, each of whose sites is new.
 fn settle_lamps<L: Ledger>(
     alloc: Global,
-    lamps: &mut Lamps,
+    row: &mut Lamps,
     turns: u32,
     blank: Blank,
 ) -> Result<Result<Settled, Stop>, Fail>
     requires name { blank.name ≡ L.name }
     requires parts { blank.parts ≡ L.parts }
     requires some { 0 < L.parts }
-    requires few { length lamps.old.lit.items ≤ 4000000 }
+    requires few { length row.old.lit.items ≤ 4000000 }
     requires turns { turns ≤ 256 }
 {
     let mut steps = Steps::<L>::new(blank);
-    let mut links = Links::new(alloc);
-    let count = lamps.lit.len() as u32;
-    links.grow(count, count)?;
-    for site in 0..count {
-        links.fresh(site);
-    }
-    Ok(settle(alloc, lamps, &mut links, turns, &mut steps))
+    let mut links = link_lamps(alloc, row)?;
+    Ok(settle(alloc, row, &mut links, turns, &mut steps))
 }
 
 /// Settles the lamps by plain sweeps.
@@ -115,4 +130,75 @@ fn settle_lamps_plainly<L: Ledger>(
     let mut steps = Steps::<L>::new(blank);
     let count = lamps.lit.len() as u32;
     settle_plainly(alloc, lamps, count, turns, &mut steps)
+}
+
+/// Five lamps are settled, and the last is switched off. Two turns are too few to hand that on to
+/// the first. The lamps are taken back and their links restored, and then five turns do it.
+#[test]
+fn refused_settling_is_taken_back(rt: HostRuntime) -> Result<(), Fail> {
+    let alloc = rt.alloc();
+    let mut row = Lamps::new(alloc, 5)?;
+    let wanted = Settled {
+        turns: 5,
+        fired: 5,
+        rejected: 0,
+        sent: 0,
+    };
+    let second = settle_again::<Brand>(alloc, &mut row, Blank::new(1))?;
+    assert_eq!(rt; second, Some(Ok(wanted)));
+    assert_eq!(rt; row.lit.as_slice(), [false; 5].as_slice());
+    assert_eq!(rt; row.marks.as_slice(), [false; 5].as_slice());
+    Ok(())
+}
+
+/// Settles the lamps, switches the last off within two turns, takes that back where it is refused,
+/// and switches the last off again.
+fn settle_again<L: Ledger>(
+    alloc: Global,
+    row: &mut Lamps,
+    blank: Blank,
+) -> Result<Option<Result<Settled, Stop>>, Fail>
+    requires name { blank.name ≡ L.name }
+    requires parts { blank.parts ≡ L.parts }
+    requires enough { 0 < L.parts }
+    requires some { 0 < length row.old.lit.items }
+    requires few { length row.old.lit.items ≤ 4000000 }
+{
+    let mut steps = Steps::<L>::new(blank);
+    let mut links = link_lamps(alloc, row)?;
+    let _settled = settle(alloc, row, &mut links, 256, &mut steps)?;
+    links.begin();
+    let lit = row.lit.clone()?;
+    let marks = row.marks.clone()?;
+    begins_restorable(row);
+    let Err(_) = switch_last_off(alloc, row, &mut links, 2, &mut steps) else {
+        return Ok(None);
+    };
+    row.take_back(lit, marks);
+    restore(row, &mut links, &mut steps);
+    Ok(Some(switch_last_off(alloc, row, &mut links, 256, &mut steps)))
+}
+
+/// Switches the last lamp off, and settles.
+fn switch_last_off<L: Ledger>(
+    alloc: Global,
+    row: &mut Lamps,
+    links: &mut Links,
+    turns: u32,
+    steps: &mut Steps<L>,
+) -> Result<Settled, Stop>
+    requires tidy { (i : ℕ) → IsTidy lamps (row_of row.old) links.old.edges i }
+    requires covers { Covers lamps (row_of row.old) links.old }
+    requires some { 0 < length row.old.lit.items }
+    requires few { length row.old.lit.items ≤ 4000000 }
+    requires turns { turns ≤ 256 }
+    ensures count { length row.new.lit.items ≡ length row.old.lit.items }
+    ensures restorable { (s : Row) → Restorable lamps s links.old → Restorable lamps s links.new }
+{
+    let last = row.lit.len() as u32 - 1;
+    stays_tidy(row);
+    stays_restorable(row);
+    row.switch_off(last);
+    links.touch(last);
+    settle(alloc, row, links, turns, steps)
 }

@@ -20,4 +20,4 @@ sweeps-preserved g c =
     let m = c.sweep.ensures.moves is in
     let lt : c.sweeps.done < c.args.turns = let t = m.1 in omega (arith, ltb-true) in
     taking_next g.met.G.Sites.lawful c.sweeps.invariant (g.met.G.Sites.sound c.sweeps.sites) c.requires.few lt
-    (g.G.Sites.now c.sweep.new.sites) c.sweep.new.walk.totals e.state e.totals e.few m.0
+    (g.G.Sites.now c.sweep.new.sites) c.sweep.new.walk.totals e.state c.sweep.ensures.course e.totals e.few m.0

@@ -43,7 +43,7 @@ loop-site-preserved g c =
     let sound = g.met.G.Sites.sound c.args.sites.now in
     let w = c.loop-site.invariant in
     let e = c.in_default.ensures in
-    walking_next w (g.G.Sites.now c.visit.new.sites) c.visit.new.walk.totals e.state e.totals e.allowed
+    walking_next w (g.G.Sites.now c.visit.new.sites) c.visit.new.walk.totals e.state c.visit.ensures.course e.totals e.allowed
 
 pub returns-clause-state : goal.returns-clause-state
 returns-clause-state g c =

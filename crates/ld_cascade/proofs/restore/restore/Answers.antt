@@ -26,7 +26,7 @@ loop-site-preserved g c =
 
 pub returns-clause-edges : goal.returns-clause-edges
 returns-clause-edges g c i =
-    subst (λ (x : Edges). EdgesAre x i (g.G.Sites.system.reads (g.G.Sites.now c.args.sites.now) i)) (sym c.rest.ensures.edges)
+    subst (λ (x : Edges). EdgesAre x i (g.G.Sites.system.reads (g.G.Sites.now c.args.sites.now) i)) (sym c.empty_tables.ensures.edges)
     (restoring_edges c.loop-site.invariant c.in_default.ensures.none i)
 
 pub returns-clause-ticks : goal.returns-clause-ticks

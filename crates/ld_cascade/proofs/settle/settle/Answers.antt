@@ -1,9 +1,10 @@
-use Rattle.std.proofs.Common.{arith, ◌≡◌, ◌<◌, ◌≤◌, true, false, [], Ok}
+use Rattle.std.proofs.Common.{arith, ◌≡◌, ◌<◌, ◌≤◌, true, false, [], Ok, inl, inr, refl}
+use Rattle.std.proofs.lemmas.Bool.{cases_lt, le-ltb}
 use borrow.Author.Tests.{ltb-true, ltb-false}
 use Rattle.ld_cascade.specs.Settling.{no_sums, sweep_firings, all_firings, fired_below, firings_to}
 use Rattle.ld_cascade.specs.Wiring.{IsEmpty}
 use Rattle.ld_cascade.specs.Standing.{Standing, standing, Goes, Arrives}
-use Rattle.ld_cascade.proofs.Turns.{Turning, turning_first, turning_next, turning_still, turning_end, turning_stops, turning_spent}
+use Rattle.ld_cascade.proofs.Turns.{Turning, turning_first, turning_next, turning_still, turning_end, turning_stops, turning_rests, turning_spent}
 use Rattle.ld_cascade.proofs.settle.settle.Goals as goal
 
 pub sweeps-init : goal.sweeps-init
@@ -24,7 +25,7 @@ returns-in-Err-clause-spends_budget g c is =
     let r : Standing y = standing y (g.G.Sites.now c.sweep.new.sites) c.sweep.new.links c.sweep.new.walk.totals (g.G.Sites.room c.sweep.new.sites) c.sweep.new.steps in
     let w : Turning y c.args.turns p q c.sweeps.done = c.sweeps.invariant in
     let b = c.in-Err.ensures.budget (cc) in
-    let goes : Goes y [] q r = c.in-Err.ensures.stopped (cc) in
+    let goes : Goes y [] q r = c.in-Err.ensures.stopped b.1 in
     let last : c.args.turns ≤ c.sweeps.done = let t = b.1 in omega (arith, ltb-false) in
     let all : Goes y (all_firings y s0 c.args.turns) p r = turning_spent w last goes in
     record { ticks = all.steps; stirs = all.stirs }
@@ -41,7 +42,13 @@ returns-in-Err-clause-spends_err g c =
     let e = c.in-Err.ensures.goes in
     let goes : Goes y (fired_below y q.situation e.0) q r = e.1 in
     let all : Goes y (firings_to y s0 c.sweeps.done e.0) p r = turning_stops w e.0 goes in
-    (c.sweeps.done, e.0, w.within, record { ticks = all.steps; stirs = all.stirs })
+    elim (cases_lt c.sweeps.done c.args.turns) [
+      | inl early ↦ (c.sweeps.done, e.0, w.within, inl early, record { ticks = all.steps; stirs = all.stirs })
+      | inr last ↦
+          let still : Goes y [] q r = c.in-Err.ensures.stopped (le-ltb c.sweeps.done c.args.turns last) in
+          let none : Goes y (firings_to y s0 c.sweeps.done 0) p r = turning_rests w still in
+          (c.sweeps.done, 0, w.within, inr refl, record { ticks = none.steps; stirs = none.stirs })
+    ]
 
 pub returns-in-Ok-false-clause-state : goal.returns-in-Ok-false-clause-state
 returns-in-Ok-false-clause-state g c =

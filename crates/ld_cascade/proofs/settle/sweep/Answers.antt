@@ -77,9 +77,8 @@ returns-in-Err-clause-stopped g c is =
     let found = c.in-Some.ensures.found in
     let least = c.in-Some.ensures.least in
     let m = c.in-Some.site in
-    let b = c.in-Err.ensures.budget (cc) in
-    let goes : Goes y [] q r = c.in-Err.ensures.stopped (cc) in
-    let w' : Sweeping y false p q c.loop-site.from = subst (λ (may : Bool). Sweeping y may p q c.loop-site.from) b.1 w in
+    let goes : Goes y [] q r = c.in-Err.ensures.stopped is in
+    let w' : Sweeping y false p q c.loop-site.from = subst (λ (may : Bool). Sweeping y may p q c.loop-site.from) is w in
     sweeping_stops w' goes
 
 pub overflow_add-from : goal.overflow_add-from

@@ -16,14 +16,30 @@ returns-in-Err-clause-goes g c =
     let m = c.args.site in
     let p : Standing y = standing y s c.args.links.now c.args.walk.now.totals (g.G.Sites.room c.args.sites.now) c.args.steps.now in
     let q : Standing y = standing y (g.G.Sites.now c.link.new.sites) c.link.new.links c.args.walk.now.totals (g.G.Sites.room c.link.new.sites) c.link.new.steps in
-    let j = c.judge_now.ensures in
+    let j = c.clear_dirty.ensures in
     let k = c.link.ensures in
-    let clear : Cleared c.args.links.now c.judge_now.new.self m = record { dirty = j.dirty; edges = j.edges; relinked = j.relinked; sites = j.sites } in
-    let link : Linked c.judge_now.new.self c.link.new.links m =
+    let clear : Cleared c.args.links.now c.clear_dirty.new.self m = record { dirty = j.dirty; edges = j.edges; relinked = j.relinked; sites = j.sites } in
+    let link : Linked c.clear_dirty.new.self c.link.new.links m =
     record { others = k.others; follows = k.follows; relinked = k.relinked; dirty = k.dirty; sites = k.sites } in
-    let l : Looked y p q m = looked y p q c.judge_now.new.self c.judge-judged.new.steps m clear link c.requires.site c.requires.marked
+    let l : Looked y p q m = looked y p q c.clear_dirty.new.self c.judge-judged.new.steps m clear link c.requires.site c.requires.marked
     k.state refl k.room c.judge-judged.ensures.ticks k.ticks in
     looked_goes l (fired y s m)
+
+pub returns-in-Err-clause-stopped : goal.returns-in-Err-clause-stopped
+returns-in-Err-clause-stopped g c _ =
+    let y = g.G.Sites.system in
+    let s = g.G.Sites.now c.args.sites.now in
+    let m = c.args.site in
+    let p : Standing y = standing y s c.args.links.now c.args.walk.now.totals (g.G.Sites.room c.args.sites.now) c.args.steps.now in
+    let q : Standing y = standing y (g.G.Sites.now c.link.new.sites) c.link.new.links c.args.walk.now.totals (g.G.Sites.room c.link.new.sites) c.link.new.steps in
+    let j = c.clear_dirty.ensures in
+    let k = c.link.ensures in
+    let clear : Cleared c.args.links.now c.clear_dirty.new.self m = record { dirty = j.dirty; edges = j.edges; relinked = j.relinked; sites = j.sites } in
+    let link : Linked c.clear_dirty.new.self c.link.new.links m =
+    record { others = k.others; follows = k.follows; relinked = k.relinked; dirty = k.dirty; sites = k.sites } in
+    let l : Looked y p q m = looked y p q c.clear_dirty.new.self c.judge-judged.new.steps m clear link c.requires.site c.requires.marked
+    k.state refl k.room c.judge-judged.ensures.ticks k.ticks in
+    looked_goes l []
 
 pub returns-then-not-is_due-clause-arrives : goal.returns-then-not-is_due-clause-arrives
 returns-then-not-is_due-clause-arrives g c =
@@ -32,15 +48,15 @@ returns-then-not-is_due-clause-arrives g c =
     let m = c.args.site in
     let p : Standing y = standing y s c.args.links.now c.args.walk.now.totals (g.G.Sites.room c.args.sites.now) c.args.steps.now in
     let q : Standing y = standing y (g.G.Sites.now c.link.new.sites) c.link.new.links c.args.walk.now.totals (g.G.Sites.room c.link.new.sites) c.link.new.steps in
-    let j = c.judge_now.ensures in
+    let j = c.clear_dirty.ensures in
     let k = c.link.ensures in
-    let clear : Cleared c.args.links.now c.judge_now.new.self m = record { dirty = j.dirty; edges = j.edges; relinked = j.relinked; sites = j.sites } in
-    let link : Linked c.judge_now.new.self c.link.new.links m =
+    let clear : Cleared c.args.links.now c.clear_dirty.new.self m = record { dirty = j.dirty; edges = j.edges; relinked = j.relinked; sites = j.sites } in
+    let link : Linked c.clear_dirty.new.self c.link.new.links m =
     record { others = k.others; follows = k.follows; relinked = k.relinked; dirty = k.dirty; sites = k.sites } in
-    let l : Looked y p q m = looked y p q c.judge_now.new.self c.judge-judged.new.steps m clear link c.requires.site c.requires.marked
+    let l : Looked y p q m = looked y p q c.clear_dirty.new.self c.judge-judged.new.steps m clear link c.requires.site c.requires.marked
     k.state refl k.room c.judge-judged.ensures.ticks k.ticks in
     let v : Visiting y s c.args.links.now c.link.new.links.edges c.link.new.links.dirty m =
-    visiting y s c.args.links.now c.judge_now.new.self c.link.new.links m c.requires.tidy clear link c.in_default.ensures.own in
+    visiting y s c.args.links.now c.clear_dirty.new.self c.link.new.links m c.requires.tidy clear link c.in_default.ensures.own in
     let quiet : fires y s m ≡ false = search rules in
     quiet_arrives l v quiet c.requires.covers c.in_default.ensures.own_room
 
@@ -51,12 +67,12 @@ returns-then-not-is_due-clause-goes g c =
     let m = c.args.site in
     let p : Standing y = standing y s c.args.links.now c.args.walk.now.totals (g.G.Sites.room c.args.sites.now) c.args.steps.now in
     let q : Standing y = standing y (g.G.Sites.now c.link.new.sites) c.link.new.links c.args.walk.now.totals (g.G.Sites.room c.link.new.sites) c.link.new.steps in
-    let j = c.judge_now.ensures in
+    let j = c.clear_dirty.ensures in
     let k = c.link.ensures in
-    let clear : Cleared c.args.links.now c.judge_now.new.self m = record { dirty = j.dirty; edges = j.edges; relinked = j.relinked; sites = j.sites } in
-    let link : Linked c.judge_now.new.self c.link.new.links m =
+    let clear : Cleared c.args.links.now c.clear_dirty.new.self m = record { dirty = j.dirty; edges = j.edges; relinked = j.relinked; sites = j.sites } in
+    let link : Linked c.clear_dirty.new.self c.link.new.links m =
     record { others = k.others; follows = k.follows; relinked = k.relinked; dirty = k.dirty; sites = k.sites } in
-    let l : Looked y p q m = looked y p q c.judge_now.new.self c.judge-judged.new.steps m clear link c.requires.site c.requires.marked
+    let l : Looked y p q m = looked y p q c.clear_dirty.new.self c.judge-judged.new.steps m clear link c.requires.site c.requires.marked
     k.state refl k.room c.judge-judged.ensures.ticks k.ticks in
     looked_goes l (fired y s m)
 
@@ -67,12 +83,12 @@ returns-then-not-may_fire-clause-goes g c =
     let m = c.args.site in
     let p : Standing y = standing y s c.args.links.now c.args.walk.now.totals (g.G.Sites.room c.args.sites.now) c.args.steps.now in
     let q : Standing y = standing y (g.G.Sites.now c.link.new.sites) c.link.new.links c.args.walk.now.totals (g.G.Sites.room c.link.new.sites) c.link.new.steps in
-    let j = c.judge_now.ensures in
+    let j = c.clear_dirty.ensures in
     let k = c.link.ensures in
-    let clear : Cleared c.args.links.now c.judge_now.new.self m = record { dirty = j.dirty; edges = j.edges; relinked = j.relinked; sites = j.sites } in
-    let link : Linked c.judge_now.new.self c.link.new.links m =
+    let clear : Cleared c.args.links.now c.clear_dirty.new.self m = record { dirty = j.dirty; edges = j.edges; relinked = j.relinked; sites = j.sites } in
+    let link : Linked c.clear_dirty.new.self c.link.new.links m =
     record { others = k.others; follows = k.follows; relinked = k.relinked; dirty = k.dirty; sites = k.sites } in
-    let l : Looked y p q m = looked y p q c.judge_now.new.self c.judge-judged.new.steps m clear link c.requires.site c.requires.marked
+    let l : Looked y p q m = looked y p q c.clear_dirty.new.self c.judge-judged.new.steps m clear link c.requires.site c.requires.marked
     k.state refl k.room c.judge-judged.ensures.ticks k.ticks in
     looked_goes l (fired y s m)
 
@@ -83,12 +99,12 @@ returns-then-not-may_fire-clause-stopped g c _ =
     let m = c.args.site in
     let p : Standing y = standing y s c.args.links.now c.args.walk.now.totals (g.G.Sites.room c.args.sites.now) c.args.steps.now in
     let q : Standing y = standing y (g.G.Sites.now c.link.new.sites) c.link.new.links c.args.walk.now.totals (g.G.Sites.room c.link.new.sites) c.link.new.steps in
-    let j = c.judge_now.ensures in
+    let j = c.clear_dirty.ensures in
     let k = c.link.ensures in
-    let clear : Cleared c.args.links.now c.judge_now.new.self m = record { dirty = j.dirty; edges = j.edges; relinked = j.relinked; sites = j.sites } in
-    let link : Linked c.judge_now.new.self c.link.new.links m =
+    let clear : Cleared c.args.links.now c.clear_dirty.new.self m = record { dirty = j.dirty; edges = j.edges; relinked = j.relinked; sites = j.sites } in
+    let link : Linked c.clear_dirty.new.self c.link.new.links m =
     record { others = k.others; follows = k.follows; relinked = k.relinked; dirty = k.dirty; sites = k.sites } in
-    let l : Looked y p q m = looked y p q c.judge_now.new.self c.judge-judged.new.steps m clear link c.requires.site c.requires.marked
+    let l : Looked y p q m = looked y p q c.clear_dirty.new.self c.judge-judged.new.steps m clear link c.requires.site c.requires.marked
     k.state refl k.room c.judge-judged.ensures.ticks k.ticks in
     looked_goes l []
 
@@ -99,18 +115,18 @@ returns-in_default-fire-clause-goes g c =
     let m = c.args.site in
     let p : Standing y = standing y s c.args.links.now c.args.walk.now.totals (g.G.Sites.room c.args.sites.now) c.args.steps.now in
     let q : Standing y = standing y (g.G.Sites.now c.link.new.sites) c.link.new.links c.args.walk.now.totals (g.G.Sites.room c.link.new.sites) c.link.new.steps in
-    let j = c.judge_now.ensures in
+    let j = c.clear_dirty.ensures in
     let k = c.link.ensures in
-    let clear : Cleared c.args.links.now c.judge_now.new.self m = record { dirty = j.dirty; edges = j.edges; relinked = j.relinked; sites = j.sites } in
-    let link : Linked c.judge_now.new.self c.link.new.links m =
+    let clear : Cleared c.args.links.now c.clear_dirty.new.self m = record { dirty = j.dirty; edges = j.edges; relinked = j.relinked; sites = j.sites } in
+    let link : Linked c.clear_dirty.new.self c.link.new.links m =
     record { others = k.others; follows = k.follows; relinked = k.relinked; dirty = k.dirty; sites = k.sites } in
-    let l : Looked y p q m = looked y p q c.judge_now.new.self c.judge-judged.new.steps m clear link c.requires.site c.requires.marked
+    let l : Looked y p q m = looked y p q c.clear_dirty.new.self c.judge-judged.new.steps m clear link c.requires.site c.requires.marked
     k.state refl k.room c.judge-judged.ensures.ticks k.ticks in
     let is_due : fires y s m ≡ true = search rules in
     let may : MayFire y s m = may_fire y g.met.G.Sites.lawful s m (g.met.G.Sites.sound c.args.sites.now) is_due in
     let cost : c.fire.new.steps ≤ c.link.new.steps + y.cost s m = rw k.state at c.fire.ensures.ticks in
     failed_goes l is_due (standing y (g.G.Sites.now c.fire.new.self) c.link.new.links c.args.walk.now.totals (g.G.Sites.room c.fire.new.self) c.fire.new.steps)
-    refl c.fire.ensures.room cost
+    c.fire.ensures.course refl c.fire.ensures.room cost
 
 pub touch_all-requires : goal.touch_all-requires
 touch_all-requires g c =
@@ -127,7 +143,7 @@ touch_all-requires g c =
           let below = g.met.G.Sites.lawful.changes_below s m n may (subst (λ (xs : List ℕ). Contains xs n) list changes) in
           let a = c.requires.covers.slots in
           let b = k.follows.slots in
-          let d : c.judge_now.new.self.edges.slots ≡ c.args.links.now.edges.slots = ap (λ (e : Edges). e.slots) c.judge_now.ensures.edges in
+          let d : c.clear_dirty.new.self.edges.slots ≡ c.args.links.now.edges.slots = ap (λ (e : Edges). e.slots) c.clear_dirty.ensures.edges in
           omega arith;
     }
 
@@ -138,15 +154,15 @@ returns-clause-arrives g c =
     let m = c.args.site in
     let p : Standing y = standing y s c.args.links.now c.args.walk.now.totals (g.G.Sites.room c.args.sites.now) c.args.steps.now in
     let q : Standing y = standing y (g.G.Sites.now c.link.new.sites) c.link.new.links c.args.walk.now.totals (g.G.Sites.room c.link.new.sites) c.link.new.steps in
-    let j = c.judge_now.ensures in
+    let j = c.clear_dirty.ensures in
     let k = c.link.ensures in
-    let clear : Cleared c.args.links.now c.judge_now.new.self m = record { dirty = j.dirty; edges = j.edges; relinked = j.relinked; sites = j.sites } in
-    let link : Linked c.judge_now.new.self c.link.new.links m =
+    let clear : Cleared c.args.links.now c.clear_dirty.new.self m = record { dirty = j.dirty; edges = j.edges; relinked = j.relinked; sites = j.sites } in
+    let link : Linked c.clear_dirty.new.self c.link.new.links m =
     record { others = k.others; follows = k.follows; relinked = k.relinked; dirty = k.dirty; sites = k.sites } in
-    let l : Looked y p q m = looked y p q c.judge_now.new.self c.judge-judged.new.steps m clear link c.requires.site c.requires.marked
+    let l : Looked y p q m = looked y p q c.clear_dirty.new.self c.judge-judged.new.steps m clear link c.requires.site c.requires.marked
     k.state refl k.room c.judge-judged.ensures.ticks k.ticks in
     let v : Visiting y s c.args.links.now c.link.new.links.edges c.link.new.links.dirty m =
-    visiting y s c.args.links.now c.judge_now.new.self c.link.new.links m c.requires.tidy clear link c.in_default.ensures.own in
+    visiting y s c.args.links.now c.clear_dirty.new.self c.link.new.links m c.requires.tidy clear link c.in_default.ensures.own in
     let is_due : fires y s m ≡ true = search rules in
     let may : MayFire y s m = may_fire y g.met.G.Sites.lawful s m (g.met.G.Sites.sound c.args.sites.now) is_due in
     let cost : c.fire.new.steps ≤ c.link.new.steps + y.cost s m = rw k.state at c.fire.ensures.ticks in
@@ -181,15 +197,15 @@ returns-clause-goes g c =
     let m = c.args.site in
     let p : Standing y = standing y s c.args.links.now c.args.walk.now.totals (g.G.Sites.room c.args.sites.now) c.args.steps.now in
     let q : Standing y = standing y (g.G.Sites.now c.link.new.sites) c.link.new.links c.args.walk.now.totals (g.G.Sites.room c.link.new.sites) c.link.new.steps in
-    let j = c.judge_now.ensures in
+    let j = c.clear_dirty.ensures in
     let k = c.link.ensures in
-    let clear : Cleared c.args.links.now c.judge_now.new.self m = record { dirty = j.dirty; edges = j.edges; relinked = j.relinked; sites = j.sites } in
-    let link : Linked c.judge_now.new.self c.link.new.links m =
+    let clear : Cleared c.args.links.now c.clear_dirty.new.self m = record { dirty = j.dirty; edges = j.edges; relinked = j.relinked; sites = j.sites } in
+    let link : Linked c.clear_dirty.new.self c.link.new.links m =
     record { others = k.others; follows = k.follows; relinked = k.relinked; dirty = k.dirty; sites = k.sites } in
-    let l : Looked y p q m = looked y p q c.judge_now.new.self c.judge-judged.new.steps m clear link c.requires.site c.requires.marked
+    let l : Looked y p q m = looked y p q c.clear_dirty.new.self c.judge-judged.new.steps m clear link c.requires.site c.requires.marked
     k.state refl k.room c.judge-judged.ensures.ticks k.ticks in
     let v : Visiting y s c.args.links.now c.link.new.links.edges c.link.new.links.dirty m =
-    visiting y s c.args.links.now c.judge_now.new.self c.link.new.links m c.requires.tidy clear link c.in_default.ensures.own in
+    visiting y s c.args.links.now c.clear_dirty.new.self c.link.new.links m c.requires.tidy clear link c.in_default.ensures.own in
     let is_due : fires y s m ≡ true = search rules in
     let may : MayFire y s m = may_fire y g.met.G.Sites.lawful s m (g.met.G.Sites.sound c.args.sites.now) is_due in
     let cost : c.fire.new.steps ≤ c.link.new.steps + y.cost s m = rw k.state at c.fire.ensures.ticks in

@@ -1,9 +1,9 @@
 use Rattle.std.proofs.Common.{◌≡◌, ℕ, ◌<◌, ◌≤◌, true, [], get_or}
 use Rattle.ld_graph.specs.Table.{has}
-use Rattle.ld_cascade_tests.proofs.tests.settle_lamps.Given as goal
+use Rattle.ld_cascade_tests.proofs.tests.link_lamps.Given as goal
 
 abbrev pub invariant-loop-site : goal.invariant-loop-site
-invariant-loop-site g l =
+invariant-loop-site l =
     ((i : ℕ) → get_or l.links.edges.rows i [] ≡ [])
     × (l.count ≤ l.links.sites)
     × (l.count ≤ l.links.edges.slots)
