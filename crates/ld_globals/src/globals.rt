@@ -53,7 +53,8 @@ impl Model for Globals {
 
     ghost Value = { Store };
 
-    ghost view = { λ s. store_of s.declared.entries s.persons.keys s.cells.entries s.stamp s.spare };
+    ghost view = { λ s. store_of s.declared.entries s.persons.keys s.cells.entries s.stamp
+        s.spare };
 
     ghost invariant = { λ s. IsNumbering s.declared.entries s.persons.keys
         × AllByRecursion IsWhole s.declared.entries

@@ -71,7 +71,8 @@ pub(crate) fn write_cell(
     cell: Cell,
 ) -> usize
     requires { 0 < by_key.spare cells.old }
-    ensures entries { cells.new.entries ≡ by_key.insert_entry same_number cells.old.entries number cell }
+    ensures entries { cells.new.entries
+        ≡ by_key.insert_entry same_number cells.old.entries number cell }
     ensures slot { result ≡ position_or_len (same_number number) (keys_of cells.old.entries) }
     ensures within { result < length cells.new.entries }
     ensures count { length cells.new.entries ≤ length cells.old.entries + 1 }
