@@ -103,9 +103,9 @@ impl Cells {
         self.values[slot as usize].as_ref()
     }
 
-    /// Gives the slot this value, or none, and answers whether that changed what it holds. A refusal,
-    /// for want of memory, changes nothing, and cannot come within the spare or where there is no
-    /// mark.
+    /// Gives the slot this value, or none, and answers whether that changed what it holds. A
+    /// refusal, for want of memory, changes nothing, and cannot come within the spare or where
+    /// there is no mark.
     pub fn write(&mut self, slot: u32, value: Option<Value>) -> Result<bool, Refused>
         requires { slot < length self.old.cells }
         ensures cells { OnOk result (self.new.cells ≡ with_value self.old.cells slot value) }

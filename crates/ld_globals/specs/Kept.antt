@@ -1,5 +1,6 @@
 -- How the program keeps the store: keys by numbers, and what holds of them.
-use Rattle.std.specs.Prelude.{◌≡◌, ◌≤◌, ◌<◌, ◌++◌, ℕ, List, [], map, slice_get, is_some, Bool, true, false, ◌&&◌, nat_eq, nat_lt, IsTrue, Option, Some, None, option_map, Result}
+use Rattle.std.specs.Prelude.{◌≡◌, ◌≤◌, ◌<◌, ◌++◌, ℕ, List, [], map, slice_get, Result}
+use Rattle.std.specs.Prelude.{is_some, Bool, true, false, ◌&&◌, nat_eq, nat_lt, IsTrue, Option, Some, None, option_map}
 use Rattle.std.specs.List.{AllByRecursion, IsDistinct}
 use Rattle.std.specs.Map.{keys_of, lookup}
 use Rattle.std.specs.Option.{option_eq}
@@ -40,7 +41,12 @@ written_of declared persons e = (key_of declared persons e.0, write_of e.1)
 
 -- The store that is kept so.
 abbrev pub store_of : List (Roomy × Declared) → List (List ℕ) → List (KeyNumber × Cell) → ℕ → ℕ → Store
-store_of declared persons cells stamp spare = record { declared = map pair_of declared; written = map (written_of declared persons) cells; stamp = stamp; spare = spare }
+store_of declared persons cells stamp spare = record {
+  declared = map pair_of declared;
+  written = map (written_of declared persons) cells;
+  stamp = stamp;
+  spare = spare;
+}
 
 -- A store that declares these and holds no value.
 abbrev pub declaring : List (Roomy × Declared) → Store

@@ -3,3 +3,4 @@ pub mod Declarations
 pub mod Kept
 pub mod Recent
 pub mod Store
+pub mod Given

@@ -1,5 +1,7 @@
 -- The store of global values, as contracts see it.
-use Rattle.std.specs.Prelude.{◌≡◌, ◌≢◌, ◌≤◌, ℕ, ◌+◌, ◌-◌, ◌^◌, min, max, List, ◌∷◌, ◌++◌, [], take, slice_get, Bool, true, false, ◌&&◌, ◌||◌, ◌==◌, nat_lt, is_some, if◌then◌else◌, IsTrue, Option, Some, None, Result, Ok, Err}
+use Rattle.std.specs.Prelude.{◌≡◌, ◌≢◌, ◌≤◌, ℕ, ◌+◌, ◌-◌, ◌^◌, min, max, List, ◌∷◌, ◌++◌, [], take, slice_get}
+use Rattle.std.specs.Prelude.{Bool, true, false, ◌&&◌, ◌||◌, ◌==◌, nat_lt, is_some, if◌then◌else◌, IsTrue}
+use Rattle.std.specs.Prelude.{Option, Some, None, Result, Ok, Err}
 use Rattle.std.specs.List.{fold, AllByRecursion}
 use Rattle.std.specs.Map.{lookup}
 use Rattle.std.specs.Option.{option_and_then, option_eq}
@@ -121,7 +123,10 @@ get_answer store key = get_declared (declared_at store key.uri) store key
 unfoldable pub put_in : Store → Key → Option Datum → Store
 put_in store key value =
     if option_eq same_datum (value_at store key) value then store
-    else record store { written = insert_entry same_key store.written key (record { value = value; number = next_stamp store.stamp }); stamp = next_stamp store.stamp }
+    else record store {
+      written = insert_entry same_key store.written key (record { value = value; number = next_stamp store.stamp });
+      stamp = next_stamp store.stamp;
+    }
 
 -- The store with one write less to spare.
 abbrev pub spend : Store → Store
@@ -191,4 +196,5 @@ written_since store stamp key = is_since stamp (last_write store key)
 pub record KeepsWrites (old new : Store) : Type 0 where
   pub stamp : old.stamp ≤ new.stamp
   pub written : (since : ℕ) (key : Key) → since ≤ old.stamp → IsTrue (written_since old since key) → IsTrue (written_since new since key)
-  pub changed : (since : ℕ) (key : Key) → since ≤ old.stamp → IsTrue (is_some (declared_at old key.uri)) → value_at new key ≢ value_at old key → IsTrue (written_since new since key)
+  pub changed : (since : ℕ) (key : Key) → since ≤ old.stamp → IsTrue (is_some (declared_at old key.uri))
+      → value_at new key ≢ value_at old key → IsTrue (written_since new since key)

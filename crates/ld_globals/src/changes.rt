@@ -33,7 +33,8 @@ impl<'a> Model for Changes<'a> {
 
     ghost Value = { List Key };
 
-    ghost view = { λ c. map (key_at_slot c.declared.now.entries c.persons.now.keys c.cells.now.entries)
+    ghost view = { λ c. map
+        (key_at_slot c.declared.now.entries c.persons.now.keys c.cells.now.entries)
         (take c.left (walk_left c.slots)) };
 
     ghost invariant = { λ c. (c.left ≤ length (walk_left c.slots))

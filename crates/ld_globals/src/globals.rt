@@ -5,6 +5,7 @@ ghost use Rattle.std.specs.Map.{keys_of};
 ghost use Rattle.std.specs.Str.{bytes_eq};
 ghost use Rattle.ld_value.specs.Datum.{datum_of};
 ghost use Rattle.ld_globals.specs.Answers.{got, key_given, meaning};
+ghost use Rattle.ld_globals.specs.Given.{IsLent, given_text};
 ghost use Rattle.ld_globals.specs.Kept.{IsWhole, pairs_of};
 ghost use Rattle.ld_globals.specs.Store.{Key, Agrees, KeepsWrites, IsRefused, IsTold, IsSet, IsWritable, bound_of as bound_after, declare_in, get_answer, key_at, put_in, reserve_in, same_key, set_answer, spend, written_since};
 
@@ -13,8 +14,9 @@ use crate::changes::Changes;
 use crate::declared::{Declared, DeclaredList, suits};
 use crate::declaring::{declare_pairs, first_to_differ};
 use crate::faults::{DeclareFault, GlobalFault, SetFault};
+use crate::given::Given;
 use crate::key_number::{KeyNumber, find_cell};
-use crate::reading::{copy_person, read_declared};
+use crate::reading::read_declared;
 use crate::recency::Recency;
 use crate::writing::{has_value, next_number, number_person, write_cell};
 use indexmap::{IndexMap, IndexSet};
@@ -53,7 +55,8 @@ impl Model for Globals {
 
     ghost Value = { Store };
 
-    ghost view = { λ s. store_of s.declared.entries s.persons.keys s.cells.entries s.stamp s.spare };
+    ghost view = { λ s. store_of s.declared.entries s.persons.keys s.cells.entries s.stamp
+        s.spare };
 
     ghost invariant = { λ s. IsNumbering s.declared.entries s.persons.keys
         × AllByRecursion IsWhole s.declared.entries
@@ -150,29 +153,9 @@ impl Globals {
             (option_map datum_of value)) }
         ensures kept { KeepsWrites self.old self.new }
     {
-        let number = next_number(self.stamp);
-        self.spare -= 1;
-        if has_value(
-            &self.declared,
-            &self.persons,
-            &self.cells,
-            &uri,
-            person.as_ref(),
-            &value,
-        ) {
-            return;
-        }
-        let Some((uri, _, _)) = self.declared.get_full(&uri) else {
+        let Ok(_) = self.give(&uri, Given::own(person), value) else {
             unreachable!();
         };
-        let person = number_person(&mut self.persons, person);
-        let slot = write_cell(
-            &mut self.cells,
-            KeyNumber { uri, person },
-            Cell { value, number },
-        );
-        self.recency.touch(slot, number);
-        self.stamp = number;
     }
 
     /// Gives the key the text's value. It may take memory, and leaves as many writes to spare as
@@ -186,13 +169,57 @@ impl Globals {
         ensures err { OnErr result (self.new ≡ self.old) }
     {
         let value = self.read(uri, person, text)?;
-        let person = copy_person(person)?;
-        let uri = Text::of(self.alloc, uri.as_str())?;
-        let Some(room) = self.spare.checked_add(1) else {
+        let spare = self.spare;
+        let Some(room) = spare.checked_add(1) else {
             return Err(SetFault::NoMemory);
         };
         self.make_room(room)?;
-        self.put(uri, person, Some(value));
+        let Ok(_) = self.give(uri, Given::lent(person), Some(value)) else {
+            self.spare = spare;
+            return Err(SetFault::NoMemory);
+        };
+        Ok(())
+    }
+
+    /// Gives the key the value. It takes one of the writes that are to spare, and no memory but for
+    /// the copy of a person's identifier who has no number. Where memory is wanting for that the
+    /// store stays as it was.
+    fn give(&mut self, uri: &Text, person: Given<'_>, value: Option<Value>) -> Result<(), NoMemory>
+        requires spare { 0 < self.old.spare }
+        requires writable { IsWritable self.old (key_at uri.now.bytes (given_text person))
+            (option_map datum_of value) }
+        ensures ok { OnOk result (self.new
+            ≡ spend (put_in self.old (key_at uri.now.bytes (given_text person.entry))
+            (option_map datum_of value))) }
+        ensures kept { OnOk result (KeepsWrites self.old self.new) }
+        ensures err { OnErr result (self.new ≡ self.old) }
+        ensures lent { OnErr result (IsLent person.entry) }
+    {
+        let number = next_number(self.stamp);
+        let spare = self.spare - 1;
+        if has_value(
+            &self.declared,
+            &self.persons,
+            &self.cells,
+            uri,
+            person.id(),
+            &value,
+        ) {
+            self.spare = spare;
+            return Ok(());
+        }
+        let Some((uri, _, _)) = self.declared.get_full(uri) else {
+            unreachable!();
+        };
+        let person = number_person(&mut self.persons, person)?;
+        let slot = write_cell(
+            &mut self.cells,
+            KeyNumber { uri, person },
+            Cell { value, number },
+        );
+        self.recency.touch(slot, number);
+        self.stamp = number;
+        self.spare = spare;
         Ok(())
     }
 

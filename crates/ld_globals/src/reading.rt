@@ -1,5 +1,5 @@
 //! Reading the value that a key is to be set to.
-ghost use Rattle.std.specs.Prelude.{◌≡◌, ◌≢◌, Ok, Err, IfOk, IfErr, is_some, option_copied};
+ghost use Rattle.std.specs.Prelude.{◌≡◌, ◌≢◌, Ok, Err, IfOk, IfErr, is_some};
 ghost use Rattle.ld_value.specs.Datum.{datum_of};
 ghost use Rattle.ld_globals.specs.Declarations.{declaration_of, suits as is_suited};
 ghost use Rattle.ld_globals.specs.Kept.{read_in};
@@ -8,7 +8,6 @@ ghost use Rattle.ld_globals.specs.Store.{IsRefused};
 use crate::declared::{Declared, suits};
 use crate::faults::SetFault;
 use ld_base::id::Id;
-use ld_base::memory::NoMemory;
 use ld_value::fault::ValueFault;
 use ld_value::fits::fits;
 use ld_value::read::read_value;
@@ -39,14 +38,4 @@ pub(crate) fn read_declared(
         return Err(SetFault::NotAllowed);
     }
     Ok(value)
-}
-
-/// An identifier of its own, where there is one.
-pub(crate) fn copy_person(person: Option<&Id>) -> Result<Option<Id>, NoMemory>
-    ensures { IfOk result (λ copy. copy ≡ option_copied person.entry) }
-{
-    match person {
-        Some(id) => Ok(Some(id.copy()?)),
-        None => Ok(None),
-    }
 }

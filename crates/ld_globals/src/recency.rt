@@ -122,7 +122,8 @@ impl Recency {
 /// Uses a slot of the cache.
 fn use_slot(cache: &mut LruCache<usize, u64>, slot: usize, number: u64)
     requires { IsSome (lookup (nat_eq slot) cache.old.entries) }
-    ensures slots { cache.new.entries ≡ (slot, number) ∷ remove_entry (nat_eq slot) cache.old.entries }
+    ensures slots { cache.new.entries
+        ≡ (slot, number) ∷ remove_entry (nat_eq slot) cache.old.entries }
     ensures others { AllByRecursion (λ e. nat_eq slot e.0
         ≡ false) (remove_entry (nat_eq slot) cache.old.entries) }
     ensures count { length cache.new.entries ≡ length cache.old.entries }

@@ -1,5 +1,5 @@
 //! Writing a value, part by part. What it takes was reserved.
-ghost use Rattle.std.specs.Prelude.{◌≡◌, ◌≢◌, ◌≤◌, ◌<◌, ◌+◌, ◌++◌, List, ℕ, Some, IsTrue, length, map, slice_get, option_map, option_copied, is_some};
+ghost use Rattle.std.specs.Prelude.{◌≡◌, ◌≢◌, ◌≤◌, ◌<◌, ◌+◌, ◌++◌, List, ℕ, Some, IsTrue, length, map, slice_get, option_map, option_copied, is_some, IfOk, OnErr};
 ghost use Rattle.std.specs.List.{AllByRecursion, IsDistinct, position_or_len};
 ghost use Rattle.std.specs.Map.{keys_of, lookup};
 ghost use Rattle.std.specs.Option.{option_eq};
@@ -9,15 +9,18 @@ ghost use Rattle.indexmap.specs.IndexSet as members;
 ghost use Rattle.ld_value.specs.Datum.{datum_of, same_datum};
 ghost use Rattle.ld_globals.specs.Declarations.{declaration_of, fits_declared, suits};
 ghost use Rattle.ld_globals.specs.Answers.{key_given};
+ghost use Rattle.ld_globals.specs.Given.{IsLent, given_text};
 ghost use Rattle.ld_globals.specs.Kept.{IsAmong, IsCell, IsNumbering, IsPersonNumber, same_number, store_of};
 ghost use Rattle.ld_globals.specs.Store.{key_at, last_stamp, next_stamp, value_at};
 ghost use Rattle.ld_globals.specs.declared.declared.Declared.{Declared};
 
 use crate::cell::Cell;
 use crate::declared::{Declared, same_optional};
+use crate::given::Given;
 use crate::key_number::{KeyNumber, find_cell};
 use indexmap::{IndexMap, IndexSet};
 use ld_base::id::Id;
+use ld_base::memory::NoMemory;
 use ld_base::text::Text;
 use ld_value::value::Value;
 
@@ -47,21 +50,45 @@ pub(crate) fn has_value(
     same_optional(&declared.initial, value)
 }
 
-/// The number of the person, who is given one where there was none.
-pub(crate) fn number_person(persons: &mut IndexSet<Id>, person: Option<Id>) -> Option<usize>
+/// The number of the person, who is given one where there was none. It takes no memory where the
+/// identifier may be kept, or has a number; where memory is wanting nothing changes.
+pub(crate) fn number_person(
+    persons: &mut IndexSet<Id>,
+    person: Given<'_>,
+) -> Result<Option<usize>, NoMemory>
     requires { 0 < members.spare persons.old }
-    ensures number { IsPersonNumber persons.new.keys person result }
+    ensures number { IfOk result (IsPersonNumber persons.new.keys (given_text person.entry)) }
+    ensures keeps { (added : List (List ℕ)) × (persons.new.keys ≡ persons.old.keys ++ added) }
+    ensures unique { IsDistinct bytes_eq persons.old.keys → IsDistinct bytes_eq persons.new.keys }
+    ensures spare { members.spare persons.old ≤ members.spare persons.new + 1 }
+    ensures err { OnErr result (persons.new ≡ persons.old) }
+    ensures lent { OnErr result (IsLent person.entry) }
+{
+    match person {
+        Given::Nobody => Ok(None),
+        Given::Own(id) => Ok(Some(keep_person(persons, id))),
+        Given::Lent(id) => {
+            if let Some((number, _)) = persons.get_full(id) {
+                return Ok(Some(number));
+            }
+            let copy = id.copy()?;
+            Ok(Some(keep_person(persons, copy)))
+        }
+    }
+}
+
+/// The number of the person, who is given one where there was none.
+fn keep_person(persons: &mut IndexSet<Id>, id: Id) -> usize
+    requires { 0 < members.spare persons.old }
+    ensures number { slice_get persons.new.keys result ≡ Some id }
     ensures keeps { (added : List (List ℕ)) × (persons.new.keys ≡ persons.old.keys ++ added) }
     ensures unique { IsDistinct bytes_eq persons.old.keys → IsDistinct bytes_eq persons.new.keys }
     ensures spare { members.spare persons.old ≤ members.spare persons.new + 1 }
 {
-    let Some(id) = person else {
-        return None;
-    };
     let Ok((number, _)) = persons.insert_full(id) else {
         unreachable!();
     };
-    Some(number)
+    number
 }
 
 /// Writes the cell of the key with these numbers, and gives its slot.
@@ -71,7 +98,8 @@ pub(crate) fn write_cell(
     cell: Cell,
 ) -> usize
     requires { 0 < by_key.spare cells.old }
-    ensures entries { cells.new.entries ≡ by_key.insert_entry same_number cells.old.entries number cell }
+    ensures entries { cells.new.entries
+        ≡ by_key.insert_entry same_number cells.old.entries number cell }
     ensures slot { result ≡ position_or_len (same_number number) (keys_of cells.old.entries) }
     ensures within { result < length cells.new.entries }
     ensures count { length cells.new.entries ≤ length cells.old.entries + 1 }

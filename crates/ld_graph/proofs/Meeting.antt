@@ -1,4 +1,4 @@
-use Rattle.std.proofs.Common.{◌≡◌, ◌≢◌, ℕ, zero, suc, ◌<◌, ◌≤◌, inl, inr, true, false, eqb, ltb, List, [], ◌∷◌, length, get_or, map, Contains, All, refl, sym, ◌∙◌, ap, subst, arith}
+use Rattle.std.proofs.Common.{◌≡◌, ◌≢◌, ◌-◌, ℕ, zero, suc, ◌<◌, ◌≤◌, inl, inr, true, false, eqb, ltb, List, [], ◌∷◌, length, get_or, map, Contains, All, refl, sym, ◌∙◌, ap, subst, arith}
 use Rattle.std.proofs.lemmas.Bool.{cases_lt, cases_eq, cond-true, cond-false, lt-ltb, le-ltb, or_cases, eqb-true, ne_eqb}
 use Rattle.std.proofs.lemmas.List.{length-map, get_or-map, get_or_past}
 use Rattle.std.proofs.lemmas.List.Elements.{All-from_get_or}
@@ -9,11 +9,27 @@ use Rattle.ld_graph.specs.Slots.{AreDistinct}
 use Rattle.ld_graph.specs.Edges.{Edges, IsLinked}
 use Rattle.ld_graph.specs.Linked.{none_at, Among, Follows, row_of}
 use Rattle.ld_graph.specs.Columns.{slots_of, sites_of, nexts_of, IsGraph}
-use Rattle.ld_graph.specs.Readings.{walk}
+use Rattle.ld_graph.specs.Readings.{sites_met, walk}
 use Rattle.ld_graph.proofs.Chains.{Fresh, follows_fresh, follows_within, forget}
 use Rattle.ld_graph.proofs.Rowed.{among_contains, contains_among, row_edge, edge_row, row_yes, row_no}
 use Rattle.ld_graph.proofs.Graphs.{seen_sites, seen_row}
 use Rattle.ld_graph.specs.Columns.{seen}
+
+-- the first edge's site is met first, and then those from the edge after it
+pub met_first : (edges : List Edge) (at left : ℕ) (e : Edge) → 0 < left → at < length edges → e ≡ get_or edges at e
+    → sites_met edges at left ≡ e.site ∷ sites_met edges e.next (left - 1)
+met_first edges at zero e pos lt is = absurd (omega arith)
+met_first edges at (suc left) e pos lt is =
+    let len = length-map edges (λ (x : Edge). x.next) in
+    let site : get_or (sites_of edges) at none_at ≡ e.site = get_or-map (λ (x : Edge). x.site) edges at e none_at lt ∙ ap (λ (x : Edge). x.site) (sym is) in
+    let next : get_or (nexts_of edges) at none_at ≡ e.next = get_or-map (λ (x : Edge). x.next) edges at e none_at lt ∙ ap (λ (x : Edge). x.next) (sym is) in
+    let rest : ℕ → List ℕ = λ (n : ℕ). walk left (nexts_of edges) n in
+    let fewer : left ≡ suc left - 1 = omega arith in
+    let of : List ℕ → List ℕ = λ (ns : List ℕ). map (λ (n : ℕ). get_or (sites_of edges) n none_at) ns in
+    ap of (cond-true (ltb at (length (nexts_of edges))) (at ∷ rest (get_or (nexts_of edges) at none_at)) [] (lt-ltb at (length (nexts_of edges)) (omega arith)))
+    ∙ (ap (λ (s : ℕ). s ∷ of (rest (get_or (nexts_of edges) at none_at))) site
+    ∙ ap (λ (n : ℕ). e.site ∷ of (rest n)) next
+    ∙ ap (λ (n : ℕ). e.site ∷ sites_met edges e.next n) fewer)
 
 -- a walk meets what the links lead through
 pub walk_meets : (next : List ℕ) → length next ≤ none_at → (at : ℕ) (xs : List ℕ) (left : ℕ) → Follows next at xs → length xs ≤ left → walk left next at ≡ xs

@@ -16,8 +16,9 @@ const LEVELS: usize = 4;
 /// number of the range.
 ///
 /// The bits of the sites stand in words of 64. Above them stand smaller levels, in which a bit says
-/// that a word of the level below is not zero. So `next_from` passes over the empty words without a
-/// look at them.
+/// that a word of the level below is not zero. So `next_from` passes over the empty words below the
+/// top level without a look at them; the top level, where a word stands for 2^24 sites, is walked
+/// word by word.
 #[derive(Drop)]
 pub struct Dirty {
     levels: [Level; LEVELS],

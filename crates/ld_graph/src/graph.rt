@@ -2,7 +2,6 @@
 ghost use Rattle.std.specs.Prelude.{◌≡◌, ◌≢◌, ℕ, ◌+◌, ◌^◌, ◌<◌, ◌≤◌, ◌⊎◌, ◌↔◌, true, false, [], List, length, get_or, Contains, All, IfOk, OnErr};
 ghost use Rattle.ld_graph.specs.Slots.{AreDistinct};
 ghost use Rattle.ld_graph.specs.Edges.{Edges, IsLinked, Changes, Grows, SameRange, row_at, edge_room};
-ghost use Rattle.ld_graph.specs.Readings.{rest};
 ghost use Rattle.ld_graph.specs.Table.{has};
 
 use crate::dirty::Dirty;
@@ -41,9 +40,11 @@ impl Model for Graph {
 
     ghost use Rattle.ld_graph.specs.Columns.{seen, IsGraph};
 
-    ghost view = { λ g. seen g.edges.items (length g.site_firsts.items) (length g.firsts.items) g.spare };
+    ghost view = { λ g. seen g.edges.items (length g.site_firsts.items) (length g.firsts.items)
+        g.spare };
 
-    ghost invariant = { λ g. IsGraph g.edges.items g.firsts.items g.site_firsts.items g.free g.spare };
+    ghost invariant = { λ g. IsGraph g.edges.items g.firsts.items g.site_firsts.items g.free
+        g.spare };
 }
 
 impl Graph {
@@ -110,9 +111,9 @@ impl Graph {
     /// The sites that have an edge to the slot. It costs what it gives.
     pub fn readers(&self, slot: u32) -> Readers<'_>
         requires { slot < self.now.slots }
-        ensures sites { (i : ℕ) → Contains (rest result) i ↔ IsLinked self.now slot i }
-        ensures once { AreDistinct (rest result) }
-        ensures range { All (λ i. i < length self.now.rows) (rest result) }
+        ensures sites { (i : ℕ) → Contains result i ↔ IsLinked self.now slot i }
+        ensures once { AreDistinct result }
+        ensures range { All (λ i. i < length self.now.rows) result }
     {
         Readers {
             edges: &self.edges,
@@ -134,7 +135,8 @@ impl Graph {
         set_all(self.readers(slot), dirty);
     }
 
-    /// What is true of every graph: no site has a slot twice, edges are in range, and the ranges fit.
+    /// What is true of every graph: no site has a slot twice, edges are in range, and the ranges
+    /// fit.
     pub fn facts(&self)
         ensures once { (i : ℕ) → AreDistinct (row_at self.now i) }
         ensures slots { (k i : ℕ) → IsLinked self.now k i → k < self.now.slots }

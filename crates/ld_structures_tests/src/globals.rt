@@ -265,5 +265,49 @@ fn compare<L: Ledger>(
             later = later.saturating_add(1);
         }
     }
-    check(changed(store, since, steps) == later, "written since")
+    check(changed(store, since, steps) == later, "written since")?;
+    check(
+        are_latest_first(store, plain, since, steps),
+        "the keys that were written since",
+    )
+}
+
+/// Whether each key that the store gives was written since, and before the one that it gave last:
+/// so none is given twice.
+fn are_latest_first<L: Ledger>(
+    store: &Globals,
+    plain: &Plain,
+    since: u64,
+    steps: &mut Steps<L>,
+) -> bool {
+    let mut last = u64::MAX;
+    for (uri, person) in store.changed_since(since, steps) {
+        let write = match plain.writes.get(place_of(uri, person)) {
+            Some(write) => *write,
+            None => 0,
+        };
+        if write <= since || write >= last {
+            return false;
+        }
+        last = write;
+    }
+    true
+}
+
+/// The place of a key in the plain list, or one past its end.
+fn place_of(uri: &Text, person: Option<&Id>) -> usize {
+    let Some(person) = person else {
+        return 6;
+    };
+    let first = match uri.as_str() {
+        "urn:p" => 0,
+        "urn:q" => 3,
+        _ => return 6,
+    };
+    match person.as_str() {
+        "ann" => first,
+        "bob" => first + 1,
+        "cay" => first + 2,
+        _ => 6,
+    }
 }

@@ -1,5 +1,6 @@
 //! What no clause says: that calls succeed where there is memory, and answers worked out by hand.
-ghost use Rattle.std.specs.Prelude.{◌≡◌, ℕ, ◌<◌, true, Contains};
+ghost use Rattle.std.specs.Prelude.{◌≡◌, ℕ, ◌<◌, true, length, Contains};
+ghost use Rattle.ld_graph.specs.Edges.{row_at};
 
 mod random;
 
@@ -37,16 +38,36 @@ fn all_below(slots: &[u32], bound: u32) -> bool
     true
 }
 
+/// Whether the site and the slots are in the ranges of the graph.
+fn are_in_range(graph: &Graph, site: u32, list: &SlotList) -> bool
+    ensures site { result ≡ true → site < length graph.now.rows }
+    ensures slots { result ≡ true → (k : ℕ) → Contains list.now.items k → k < graph.now.slots }
+{
+    site < graph.sites() && all_below(list.as_slice(), graph.slots())
+}
+
 /// Relinks the site where the condition of the call holds, and answers whether it does.
-fn relink(graph: &mut Graph, site: u32, list: &SlotList) -> bool {
-    if site >= graph.sites() || !all_below(list.as_slice(), graph.slots()) {
-        return false;
-    }
-    if list.len() > graph.spare() as usize {
+fn relink(graph: &mut Graph, site: u32, list: &SlotList) -> bool
+    ensures { result ≡ true → length (row_at graph.new site) ≡ length list.now.items }
+{
+    if !are_in_range(graph, site, list) || list.len() > graph.spare() as usize {
         return false;
     }
     graph.relink(site, list);
     true
+}
+
+/// Relinks the site to one list and then, in the room of these edges, to another. Answers whether
+/// it reads slot 0 first, and afterwards slot 1 alone.
+fn moves_to_slot_1(graph: &mut Graph, site: u32, list: &SlotList, other: &SlotList) -> bool {
+    if !relink(graph, site, list) || readers(graph, 0) != Some(1 << (site % 64)) {
+        return false;
+    }
+    if !are_in_range(graph, site, other) || other.len() > list.len() {
+        return false;
+    }
+    graph.relink(site, other);
+    readers(graph, 0) == Some(0) && readers(graph, 1) == Some(1 << (site % 64))
 }
 
 /// The readers of a slot as a number with a bit for each site, or None where one is given twice.
@@ -98,6 +119,30 @@ fn sites_are_found_in_order(rt: HostRuntime) -> Result<(), Fail> {
     dirty.empty();
     assert_eq!(rt; dirty.next_from(0), None);
     assert_eq!(rt; dirty.range(), 5_000_000);
+    Ok(())
+}
+
+#[test]
+fn a_site_is_found_until_it_is_cleared(rt: HostRuntime) -> Result<(), Fail> {
+    let mut dirty = Dirty::new(rt.alloc(), 3)?;
+    if 2 < dirty.range() {
+        dirty.set(2);
+    }
+    assert_eq!(rt; dirty.next_from(0), Some(2));
+    if 2 < dirty.range() {
+        dirty.clear(2);
+    }
+    assert_eq!(rt; dirty.next_from(0), None);
+    Ok(())
+}
+
+#[test]
+fn the_old_edge_goes(rt: HostRuntime) -> Result<(), Fail> {
+    let both = list_of(rt.alloc(), &[0, 1])?;
+    let one = list_of(rt.alloc(), &[1])?;
+    let mut graph = Graph::new(rt.alloc());
+    graph.reserve(2, 1, 2)?;
+    assert!(rt; moves_to_slot_1(&mut graph, 0, &both, &one));
     Ok(())
 }
 
