@@ -1,4 +1,4 @@
-use Rattle.std.proofs.Common.{arith, ◌≡◌, ℕ, ◌<◌, true, List, Contains, sym, subst}
+use Rattle.std.proofs.Common.{arith, ℕ, List, Contains, sym, subst}
 use Rattle.ld_structures_tests.proofs.graph.are_in_range.Goals as goal
 
 pub returns-then-site-sites-clause-slots : goal.returns-then-site-sites-clause-slots
