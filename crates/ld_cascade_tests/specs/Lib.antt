@@ -1,3 +1,2 @@
 pub mod Row
 pub mod Lamps
-pub mod Still

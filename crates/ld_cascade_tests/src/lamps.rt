@@ -8,14 +8,16 @@ use ld_cascade::judged::Judged;
 use ld_cascade::sites::Sites;
 use ld_graph::slots::SlotList;
 use std::alloc::Global;
+use std::cell::Cell;
 use std::sync::ledger::Ledger;
 
-/// Lamps, the marks of their sites, and the list that lends a site's reads.
+/// Lamps, the marks of their sites, the list that lends a site's reads, and how often a site was judged.
 #[derive(Drop)]
 pub struct Lamps {
     pub lit: Vec<bool>,
     pub marks: Vec<bool>,
     list: SlotList,
+    judged: Cell<u32>,
     ghost even: { length lit.items ≡ length marks.items },
     ghost small: { length lit.items < 2 ^ 32 },
     ghost spacious: { 0 < list.room },
@@ -41,7 +43,17 @@ impl Lamps {
         let Ok(list) = SlotList::with_room(alloc, 1) else {
             return Err(NoMemory)
         };
-        Ok(Lamps { lit, marks, list })
+        Ok(Lamps {
+            lit,
+            marks,
+            list,
+            judged: Cell::new(0),
+        })
+    }
+
+    /// How often a site was judged.
+    pub fn judged(&self) -> u32 {
+        self.judged.get()
     }
 
     /// Switches a lamp off.
@@ -76,6 +88,7 @@ impl Sites for Lamps {
 
     fn judge<L: Ledger>(&self, site: u32, steps: &mut Steps<L>) -> Judged {
         steps.tick();
+        self.judged.set(self.judged.get().wrapping_add(1));
         if site as usize >= self.lit.len() {
             return Judged {
                 test: false,

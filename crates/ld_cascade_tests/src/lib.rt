@@ -2,6 +2,5 @@
 #![tactic(auto)]
 
 pub mod lamps;
-pub mod still;
 #[cfg(test)]
 mod tests;

@@ -5,7 +5,6 @@ ghost use Rattle.ld_cascade_tests.specs.Lamps.{lamps, row_of};
 ghost use Rattle.ld_cascade_tests.specs.Row.{Row};
 
 use crate::lamps::Lamps;
-use crate::still::Still;
 use ld_base::steps::Steps;
 use ld_cascade::laws::{begins_restorable, stays_restorable, stays_tidy};
 use ld_cascade::links::Links;
@@ -18,28 +17,39 @@ use std::marker::Brand;
 use std::sync::ledger::{Blank, Ledger};
 use std::test::Fail;
 
-/// One site of 1,000 is dirty and does not fire: no other site is judged.
+/// 1,000 lamps are off, and settled. One site is to be looked at again, and does not fire: no other
+/// site is judged.
 #[test]
 fn quiet_sites_are_not_judged(rt: HostRuntime) -> Result<(), Fail> {
-    let judged = settle_still::<Brand>(rt.alloc(), Blank::new(1))?;
+    let alloc = rt.alloc();
+    let mut row = Lamps::new(alloc, 1000)?;
+    row.switch_off(999);
+    let judged = judgements::<Brand>(alloc, &mut row, 500, Blank::new(1))?;
     assert!(rt; judged <= 3, "a site was judged {judged} times");
     assert!(rt; judged >= 1, "no site was judged");
     Ok(())
 }
 
-/// How often a site was judged when 1,000 still sites were settled, of which one is dirty.
-fn settle_still<L: Ledger>(alloc: Global, blank: Blank) -> Result<u32, Fail>
+/// How often a site is judged when settled lamps are settled again, one of whose sites is dirty.
+fn judgements<L: Ledger>(
+    alloc: Global,
+    row: &mut Lamps,
+    site: u32,
+    blank: Blank,
+) -> Result<u32, Fail>
     requires name { blank.name ≡ L.name }
     requires parts { blank.parts ≡ L.parts }
-    requires some { 0 < L.parts }
+    requires enough { 0 < L.parts }
+    requires site { site < length row.old.lit.items }
+    requires few { length row.old.lit.items ≤ 4000000 }
 {
     let mut steps = Steps::<L>::new(blank);
-    let mut sites = Still::new(alloc, 1000)?;
-    let mut links = Links::new(alloc);
-    links.grow(0, 1000)?;
-    links.fresh(500);
-    let _settled = settle(alloc, &mut sites, &mut links, 256, &mut steps)?;
-    Ok(sites.judged())
+    let mut links = link_lamps(alloc, row)?;
+    let _first = settle(alloc, row, &mut links, 256, &mut steps)?;
+    let before = row.judged();
+    links.fresh(site);
+    let _second = settle(alloc, row, &mut links, 256, &mut steps)?;
+    Ok(row.judged().wrapping_sub(before))
 }
 
 /// Of five lamps the last is lit. Each sweep hands the light on to one lamp more, so five sweeps
