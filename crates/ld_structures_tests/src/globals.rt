@@ -1,4 +1,4 @@
-//! The store with ample memory: each call once, a worked row, and many calls against a plain list.
+//! The store with ample memory: each call once, a history worked out by hand, and many calls against a plain list.
 ghost use Rattle.std.specs.Prelude.{◌≡◌, ◌<◌};
 
 use ld_base::id::Id;
@@ -80,7 +80,7 @@ fn changed<L: Ledger>(store: &Globals, stamp: u64, steps: &mut Steps<L>) -> usiz
     store.changed_since(stamp, steps).count()
 }
 
-/// The texts and identifiers of the worked row.
+/// The texts and identifiers of the history worked out by hand.
 #[derive(Drop)]
 struct Names {
     g: Text,

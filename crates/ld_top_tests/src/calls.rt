@@ -61,6 +61,7 @@ pub fn first<'a>(lines: &'a [u8]) -> Case<'a> {
     }
 }
 
+/// The bytes as a list.
 pub fn bytes(alloc: Global, from: &[u8]) -> Result<Bytes, NoMemory> {
     Ok(Items::from_vec(Vec::from_slice(alloc, from)?))
 }
@@ -74,6 +75,7 @@ fn call(alloc: Global, number: u64) -> Result<CallList, NoMemory> {
     Ok(calls)
 }
 
+/// A file of the folder `u1`.
 pub fn file(alloc: Global, name: &str, content: &[u8]) -> Result<File, NoMemory> {
     Ok(File {
         folder: Text::of(alloc, "u1")?,
@@ -82,6 +84,7 @@ pub fn file(alloc: Global, name: &str, content: &[u8]) -> Result<File, NoMemory>
     })
 }
 
+/// The documents of the first course.
 pub fn first_files(alloc: Global) -> Result<FileList, NoMemory> {
     let mut files = Items::new(alloc);
     for (name, content) in FIRST_FILES {
