@@ -1,22 +1,27 @@
 #!/usr/bin/env python3
 """Measures the plain data structures of a run beside the same work in plain Rust.
 
-    tests/measure_structures/run.py [RUNS [STRUCTURE..]]
+    tests/measure_structures/run.py [RUNS [STRUCTURE..]]     the time
+    tests/measure_structures/run.py count [STRUCTURE..]      the instructions, by valgrind, in some minutes
 
 Each folder beside this file is a structure. It holds `program` (a crate `measure_STRUCTURE`: its src and
-proofs, each file with `.text` behind its name, since `rt` reads no crate here), `libraries` (the crates on which that stands), `plain.rs` (the same work in plain Rust) and
-`words` (a line for each measurement: the words that both are called with). In a temporary folder the
-crate is proved and built by `rt run`, over copies of this repository's crates with what their checks
-kept, and the plain program by `rustc -O`. Both have to print the same. Each is called RUNS times (11
-where no number is given), in turn, and the median and the least time of the whole call are printed.
+proofs, each file with `.text` behind its name, since `rt` reads no crate here), `libraries` (the
+crates on which that stands), `plain.rs` (the same work in plain Rust) and `words` (a line for each
+measurement: the word that both are called with). In a temporary folder the crate is proved and built by
+`rt run`, over copies of this repository's crates with what their checks kept, and the plain program by
+`rustc -O`. Both have to print the same. Each is called RUNS times (11 where no number is given), in turn,
+and the median and the least time of the whole call are printed: the processor's time, which other work
+on the machine disturbs less than what passes on a clock.
 """
+import functools
 import os
+import re
+import resource
 import shutil
 import statistics
 import subprocess
 import sys
 import tempfile
-import time
 
 HERE = os.path.dirname(os.path.abspath(__file__))
 ROOT = os.path.dirname(os.path.dirname(HERE))
@@ -78,20 +83,34 @@ def build(structure, work):
 
 
 def timed(command):
-    start = time.perf_counter()
+    """The seconds of processor time of one call, and what it printed."""
+    before = resource.getrusage(resource.RUSAGE_CHILDREN)
     done = subprocess.run(command, capture_output=True, check=True)
-    return time.perf_counter() - start, done.stdout
+    after = resource.getrusage(resource.RUSAGE_CHILDREN)
+    return after.ru_utime + after.ru_stime - before.ru_utime - before.ru_stime, done.stdout
 
 
-def measure(structure, runs):
+def counted(command):
+    """The instructions of one call, in millions."""
+    tool = ["valgrind", "--tool=callgrind", "--callgrind-out-file=/dev/null"]
+    done = subprocess.run(tool + command, capture_output=True, check=True, text=True)
+    return int(re.search(r"Collected : (\d+)", done.stderr).group(1)) / 1e6
+
+
+def measure(structure, look):
     work = tempfile.mkdtemp()
     try:
         program, plain = build(structure, work)
         with open(os.path.join(HERE, structure, "words")) as file:
             for line in file:
-                compare(structure, program, plain, line.split(), runs)
+                look(structure, program, plain, line.split())
     finally:
         shutil.rmtree(work)
+
+
+def count(structure, program, plain, words):
+    ours, theirs = counted([program] + words), counted([plain] + words)
+    print(f"{structure} {' '.join(words)}: {ours:.0f} and {theirs:.0f} million instructions, {ours / theirs:.2f} times")
 
 
 def compare(structure, program, plain, words, runs):
@@ -113,10 +132,11 @@ def compare(structure, program, plain, words, runs):
 
 
 def main():
-    runs = int(sys.argv[1]) if len(sys.argv) > 1 else 11
+    first = sys.argv[1] if len(sys.argv) > 1 else "11"
+    look = count if first == "count" else functools.partial(compare, runs=int(first))
     every = sorted(each for each in os.listdir(HERE) if os.path.isdir(os.path.join(HERE, each, "program")))
     for structure in sys.argv[2:] or every:
-        measure(structure, runs)
+        measure(structure, look)
 
 
 main()

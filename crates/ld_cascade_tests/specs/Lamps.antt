@@ -31,11 +31,11 @@ lamps = record {
 }
 
 -- the situation that a row of lamps means
-abbrev pub row_of : Lamps → Row
-row_of t = record { lit = t.lit.items; marks = t.marks.items }
+abbrev pub lamps_of : Lamps → Row
+lamps_of t = record { lit = t.lit.items; marks = t.marks.items }
 
 -- there are as many marks as lamps
-pub is_sound : (t : Lamps) → length (row_of t).lit ≡ length (row_of t).marks
+pub is_sound : (t : Lamps) → length (lamps_of t).lit ≡ length (lamps_of t).marks
 is_sound t = t.even
 
 -- a lamp is below their number

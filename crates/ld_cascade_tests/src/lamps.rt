@@ -78,11 +78,11 @@ impl Lamps {
 }
 
 impl Sites for Lamps {
-    ghost use Rattle.ld_cascade_tests.specs.Lamps.{lamps, row_of, is_lawful, is_sound};
+    ghost use Rattle.ld_cascade_tests.specs.Lamps.{lamps, lamps_of, is_lawful, is_sound};
 
     ghost system = { lamps };
 
-    ghost now = { row_of };
+    ghost now = { lamps_of };
 
     ghost room = { λ l. l.list.room };
 

@@ -1,7 +1,7 @@
 ghost use Rattle.std.specs.Prelude.{◌≡◌, ℕ, ◌<◌, ◌≤◌, length, IfOk};
 ghost use Rattle.ld_cascade.specs.Rooms.{Restorable};
 ghost use Rattle.ld_cascade.specs.Tidy.{IsTidy, Tidy, Covers};
-ghost use Rattle.ld_cascade_tests.specs.Lamps.{lamps, row_of};
+ghost use Rattle.ld_cascade_tests.specs.Lamps.{lamps, lamps_of};
 ghost use Rattle.ld_cascade_tests.specs.Row.{Row};
 
 use crate::lamps::Lamps;
@@ -94,8 +94,8 @@ fn both_settlings_give_the_same(rt: HostRuntime) -> Result<(), Fail> {
 
 /// Links for the lamps, each of whose sites is new.
 fn link_lamps(alloc: Global, row: &Lamps) -> Result<Links, Fail>
-    ensures tidy { IfOk result (λ l. Tidy lamps (row_of row.now) l) }
-    ensures covers { IfOk result (λ l. Covers lamps (row_of row.now) l) }
+    ensures tidy { IfOk result (λ l. Tidy lamps (lamps_of row.now) l) }
+    ensures covers { IfOk result (λ l. Covers lamps (lamps_of row.now) l) }
 {
     let mut links = Links::new(alloc);
     let count = row.lit.len() as u32;
@@ -197,8 +197,8 @@ fn switch_last_off<L: Ledger>(
     turns: u32,
     steps: &mut Steps<L>,
 ) -> Result<Settled, Stop>
-    requires tidy { (i : ℕ) → IsTidy lamps (row_of row.old) links.old.edges i }
-    requires covers { Covers lamps (row_of row.old) links.old }
+    requires tidy { (i : ℕ) → IsTidy lamps (lamps_of row.old) links.old.edges i }
+    requires covers { Covers lamps (lamps_of row.old) links.old }
     requires some { 0 < length row.old.lit.items }
     requires few { length row.old.lit.items ≤ 4000000 }
     requires turns { turns ≤ 256 }

@@ -76,12 +76,10 @@ pub fn record(
     if let Err(_) = changes.reserve(1) {
         return Err(Refused(value));
     }
-    // What was there is moved straight into its place, which costs one copy less.
-    let last = changes.len();
-    let Ok(()) = changes.push(Change { slot, before: None }) else {
+    let before = mem::replace(&mut values[slot as usize], value);
+    let Ok(()) = changes.push(Change { slot, before }) else {
         unreachable!();
     };
-    changes[last].before = mem::replace(&mut values[slot as usize], value);
     Ok(())
 }
 

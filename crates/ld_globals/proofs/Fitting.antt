@@ -8,7 +8,7 @@ use Rattle.std.specs.Str.{bytes_eq}
 use Rattle.ld_base.specs.Roomy.{Roomy}
 use Rattle.ld_value.specs.Datum.{datum_of}
 use Rattle.ld_globals.specs.Declarations.{declaration_of, fits_declared}
-use Rattle.ld_globals.specs.Kept.{AreDistinct, IsCell, IsWhole, key_of, uri_in, written_of}
+use Rattle.ld_globals.specs.Kept.{DeclareOnce, IsCell, IsWhole, key_of, uri_in, written_of}
 use Rattle.ld_globals.specs.Store.{Key, Write, same_key}
 use Rattle.ld_globals.specs.declared.cell.Cell.{Cell}
 use Rattle.ld_globals.specs.declared.declared.Declared.{Declared}
@@ -34,7 +34,7 @@ apart uri (e ∷ es) zero f a all there here same =
 apart uri (e ∷ es) (suc j) f a all there here same = apart uri es j f a all.1 there here same
 
 -- The entry of a uri is the one that declares it.
-own-entry : (es : List (Roomy × Declared)) (i : ℕ) (e : Roomy × Declared) (uri : List ℕ) → AreDistinct es → slice_get es i ≡ Some e → bytes_eq uri e.0.bytes ≡ true → lookup (λ k. bytes_eq uri k.bytes) es ≡ Some e.1
+own-entry : (es : List (Roomy × Declared)) (i : ℕ) (e : Roomy × Declared) (uri : List ℕ) → DeclareOnce es → slice_get es i ≡ Some e → bytes_eq uri e.0.bytes ≡ true → lookup (λ k. bytes_eq uri k.bytes) es ≡ Some e.1
 unfolding IsDistinct
 own-entry [] i e uri distinct there same = cc
 own-entry (f ∷ es) zero e uri distinct there same = let is : f ≡ e = cc in rw (ap (λ x. bytes_eq uri x.0.bytes) is ∙ same) (ap (λ x. Some x.1) is)
@@ -45,7 +45,7 @@ own-entry (f ∷ es) (suc i) e uri distinct there same = by (own-entry es i e ur
     by on false other = on
 
 -- A written value fits.
-pub written-fits : (declared : List (Roomy × Declared)) (persons : List (List ℕ)) (cells : List (KeyNumber × Cell)) (key : Key) (d : Declared) (w : Write) → AreDistinct declared → AllByRecursion (IsCell declared persons) cells
+pub written-fits : (declared : List (Roomy × Declared)) (persons : List (List ℕ)) (cells : List (KeyNumber × Cell)) (key : Key) (d : Declared) (w : Write) → DeclareOnce declared → AllByRecursion (IsCell declared persons) cells
     → lookup (λ k. bytes_eq key.uri k.bytes) declared ≡ Some d → lookup (same_key key) (map (written_of declared persons) cells) ≡ Some w → IsTrue (fits_declared (declaration_of d) w.value)
 written-fits declared persons cells key d w distinct all found written =
     let f = found-cell (key_of declared persons) key cells w written in

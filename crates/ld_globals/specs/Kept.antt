@@ -18,11 +18,12 @@ use Rattle.ld_globals.specs.declared.key_number.KeyNumber.{KeyNumber}
 abbrev pub pair_of : Roomy × Declared → List ℕ × Declaration
 pair_of e = (e.0.bytes, declaration_of e.1)
 
--- The uri of an entry, and the text of a person; nothing where there is none.
+-- The uri of an entry; nothing where there is none.
 abbrev pub uri_in : Option (Roomy × Declared) → List ℕ
 uri_in None = []
 uri_in (Some e) = e.0.bytes
 
+-- The text of a person; nothing where there is none.
 abbrev pub text_in : Option (List ℕ) → List ℕ
 text_in None = []
 text_in (Some text) = text
@@ -96,8 +97,8 @@ pub record IsNumberOf (declared : List (Roomy × Declared)) (persons : List (Lis
   pub person : IsPersonNumber persons key.person k.person
 
 -- No uri is declared twice.
-abbrev pub AreDistinct : List (Roomy × Declared) → Type 0
-AreDistinct declared = IsDistinct (λ a b. bytes_eq a.bytes b.bytes) (keys_of declared)
+abbrev pub DeclareOnce : List (Roomy × Declared) → Type 0
+DeclareOnce declared = IsDistinct (λ a b. bytes_eq a.bytes b.bytes) (keys_of declared)
 
 -- The uri is declared.
 abbrev pub IsAmong : List (Roomy × Declared) → List ℕ → Type 0
@@ -105,7 +106,7 @@ IsAmong declared uri = (e : Declared) × (lookup (λ k. bytes_eq uri k.bytes) de
 
 -- No uri is declared twice, and no person has two numbers.
 abbrev pub IsNumbering : List (Roomy × Declared) → List (List ℕ) → Type 0
-IsNumbering declared persons = AreDistinct declared × IsDistinct bytes_eq persons
+IsNumbering declared persons = DeclareOnce declared × IsDistinct bytes_eq persons
 
 -- The key's numbers are of a declaration and of a person, as its kind wants, and its value fits.
 pub record IsCell (declared : List (Roomy × Declared)) (persons : List (List ℕ)) (e : KeyNumber × Cell) : Type 0 where

@@ -20,9 +20,9 @@ pub record Grows (old new : List (ℕ × ℕ)) : Type 0 where
   pub unused : AllByRecursion (λ e. (e.1 ≡ 0) × (length old ≤ e.0)) added
 
 -- The slots of a cache; before it is made there are none.
-abbrev pub slots_of : Option (LruCache ℕ ℕ) → List (ℕ × ℕ)
-slots_of None = []
-slots_of (Some cache) = cache.entries
+abbrev pub slots_in : Option (LruCache ℕ ℕ) → List (ℕ × ℕ)
+slots_in None = []
+slots_in (Some cache) = cache.entries
 
 -- The cache, if it is made, never puts a slot out.
 abbrev pub IsEndless : Option (LruCache ℕ ℕ) → Type 0

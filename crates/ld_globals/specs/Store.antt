@@ -22,6 +22,7 @@ pub record Key : Type 0 where
   pub uri : List ℕ
   pub person : Option (List ℕ)
 
+-- The key of a uri and a person.
 abbrev pub key_at : List ℕ → Option (List ℕ) → Key
 key_at uri person = record { uri = uri; person = person }
 
@@ -68,10 +69,11 @@ with_declared declared pair = if is_some (declared_in declared pair.0) then decl
 abbrev pub declare_in : Store → List (List ℕ × Declaration) → Store
 declare_in store pairs = record store { declared = fold with_declared store.declared pairs }
 
--- The store declares the pair's uri with other contents, or not so.
+-- The store declares the pair's uri with other contents.
 abbrev pub Differs : Store → List ℕ × Declaration → Type 0
 Differs store pair = (d : Declaration) × (declared_at store pair.0 ≡ Some d) × (d ≢ pair.1)
 
+-- The store declares the pair's uri with the same contents, or not at all.
 abbrev pub Agrees : Store → List ℕ × Declaration → Type 0
 Agrees store pair = (d : Declaration) → declared_at store pair.0 ≡ Some d → d ≡ pair.1
 

@@ -4,7 +4,7 @@ ghost use Rattle.std.specs.List.{AllByRecursion, fold};
 ghost use Rattle.std.specs.Str.{bytes_eq};
 ghost use Rattle.indexmap.specs.IndexMap as by_key;
 ghost use Rattle.ld_base.specs.Roomy.{Roomy};
-ghost use Rattle.ld_globals.specs.Kept.{AreDistinct, Extends, IsWhole, declaring, pair_of, pairs_of};
+ghost use Rattle.ld_globals.specs.Kept.{DeclareOnce, Extends, IsWhole, declaring, pair_of, pairs_of};
 ghost use Rattle.ld_globals.specs.Store.{Agrees, Differs, IsFirstToDiffer, with_declared};
 ghost use Rattle.ld_globals.specs.declared.declared.Declared.{Declared};
 
@@ -54,7 +54,7 @@ pub(crate) fn declare_pairs(declared: &mut IndexMap<Text, Declared>, pairs: Vec<
     ensures pairs { pairs_of declared.new.entries
         ≡ fold with_declared (pairs_of declared.old.entries) (pairs_of pairs.items) }
     ensures keeps { Extends declared.old.entries declared.new.entries }
-    ensures unique { AreDistinct declared.old.entries → AreDistinct declared.new.entries }
+    ensures unique { DeclareOnce declared.old.entries → DeclareOnce declared.new.entries }
 {
     for (uri, contents) in pairs {
         declare_pair(declared, uri, contents);
@@ -68,7 +68,7 @@ fn declare_pair(declared: &mut IndexMap<Text, Declared>, uri: Text, contents: De
     ensures pairs { pairs_of declared.new.entries
         ≡ with_declared (pairs_of declared.old.entries) (pair_of (uri, contents)) }
     ensures keeps { Extends declared.old.entries declared.new.entries }
-    ensures unique { AreDistinct declared.old.entries → AreDistinct declared.new.entries }
+    ensures unique { DeclareOnce declared.old.entries → DeclareOnce declared.new.entries }
     ensures spare { by_key.spare declared.old ≤ by_key.spare declared.new + 1 }
 {
     if declared.contains_key(&uri) {

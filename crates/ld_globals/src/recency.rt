@@ -22,13 +22,13 @@ pub(crate) struct Recency {
 
 impl Model for Recency {
     ghost use Rattle.std.specs.Prelude.{ℕ, List};
-    ghost use Rattle.ld_globals.specs.Recent.{slots_of, IsRecency, IsEndless};
+    ghost use Rattle.ld_globals.specs.Recent.{slots_in, IsRecency, IsEndless};
 
     ghost Value = { List (ℕ × ℕ) };
 
-    ghost view = { λ s. slots_of s.cache };
+    ghost view = { λ s. slots_in s.cache };
 
-    ghost invariant = { λ s. IsRecency (slots_of s.cache) × IsEndless s.cache };
+    ghost invariant = { λ s. IsRecency (slots_in s.cache) × IsEndless s.cache };
 }
 
 impl Recency {

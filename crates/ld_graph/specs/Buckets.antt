@@ -1,9 +1,9 @@
-use Rattle.std.specs.Prelude.{◌≡◌, ◌≢◌, ℕ, ◌-◌, ◌*◌, ◌/◌, ◌%◌, ◌^◌, ◌<◌, ◌≤◌, ◌⊎◌, List, length, get_or}
+use Rattle.std.specs.Prelude.{◌≡◌, ◌≢◌, ℕ, ◌-◌, ◌*◌, ◌/◌, ◌^◌, bit_and, ◌<◌, ◌≤◌, ◌⊎◌, List, length, get_or}
 use Rattle.ld_graph.specs.Slots.{AreDistinct}
 
--- the bucket that a slot falls into
+-- the bucket that a slot falls into: a mask, which is one less than their number, leaves the lower bits
 unfoldable pub bucket_of : ℕ → ℕ → ℕ
-bucket_of slot buckets = slot * 2654435761 / 2 ^ 16 % buckets
+bucket_of slot buckets = bit_and (slot * 2654435761 / 2 ^ 16) (buckets - 1)
 
 -- the bucket of a slot of the list
 abbrev pub bucket_at : List ℕ → ℕ → ℕ → ℕ

@@ -10,8 +10,9 @@ use std::marker::Model;
 /// A list of distinct slots with a bound on their number, seen by contracts as its slots in the
 /// order in which they came, and the bound.
 ///
-/// A slot is found by the bucket that it falls into. There are more buckets than the list has room
-/// for slots, so a bucket has few slots.
+/// A slot is found by the bucket that it falls into. There are four times as many buckets as the
+/// list has room for slots, or more, so most of them are empty; their number is a power of two, so
+/// that a mask picks one.
 #[derive(Drop)]
 pub struct SlotList {
     slots: Vec<u32>,
@@ -44,7 +45,7 @@ impl SlotList {
         let slots = Vec::with_capacity(alloc, room as usize)?;
         let before = Vec::with_capacity(alloc, room as usize)?;
         let mut heads = Vec::new(alloc);
-        heads.resize(room as usize + 1, 0)?;
+        heads.resize(bucket_count(room), 0)?;
         Ok(SlotList {
             slots,
             before,
@@ -139,14 +140,21 @@ impl SlotList {
     }
 }
 
+/// How many buckets a list with room for so many slots has.
+fn bucket_count(room: u32) -> usize
+    ensures { 0 < result }
+{
+    ((room as usize + 1) * 4).next_power_of_two()
+}
+
 /// The bucket of a slot: its product with an odd number near 2^32 over the golden ratio spreads the
-/// slots that differ by a fixed step.
+/// slots that differ by a fixed step, and a mask leaves the lower bits of what is spread.
 fn bucket_of(slot: u32, buckets: usize) -> usize
     requires { 0 < buckets }
     ensures value { result ≡ bucket_of slot buckets }
     ensures below { result < buckets }
 {
-    (slot as u64 * 2_654_435_761 >> 16) as usize % buckets
+    (slot as u64 * 2_654_435_761 >> 16) as usize & (buckets - 1)
 }
 
 /// Empties the buckets of the slots.

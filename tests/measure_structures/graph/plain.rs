@@ -1,11 +1,9 @@
 //! The same work as the Rattle program beside this one, with a slab of edges, a bit set of two
 //! levels and a small list, as one would write them in plain Rust.
 
-const SITES: u32 = 200_000;
-const SLOTS: u32 = 100_000;
 const ROW: u32 = 8;
-const ROUNDS: u32 = 10;
 const RANGE: u32 = 4_000_000;
+const WALKS: u32 = 200;
 const NONE: u32 = u32::MAX;
 
 struct Random(u64);
@@ -144,47 +142,77 @@ impl Bits {
     }
 }
 
-fn main() {
+fn relink_all(graph: &mut Graph, list: &mut Vec<u32>, random: &mut Random) {
+    let slots = graph.firsts.len() as u32;
+    for site in 0..graph.site_firsts.len() as u32 {
+        list.clear();
+        for _ in 0..ROW {
+            let slot = random.below(slots);
+            if !list.contains(&slot) {
+                list.push(slot);
+            }
+        }
+        graph.relink(site, list);
+    }
+}
+
+fn read_all(graph: &Graph) -> u64 {
+    let mut total = 0u64;
+    for slot in 0..graph.firsts.len() as u32 {
+        let mut at = graph.firsts[slot as usize];
+        while at != NONE {
+            let edge = &graph.edges[at as usize];
+            total = total.wrapping_add((edge.site ^ slot) as u64);
+            at = edge.next;
+        }
+    }
+    total
+}
+
+fn relink_often(sites: u32, rounds: u32) -> u64 {
     let mut random = Random(7);
-    let mut graph = Graph::new(SLOTS, SITES, SITES * ROW + ROW);
-    let mut list: Vec<u32> = Vec::with_capacity(ROW as usize);
-    for _ in 0..ROUNDS {
-        for site in 0..SITES {
-            list.clear();
-            for _ in 0..ROW {
-                let slot = random.below(SLOTS);
-                if !list.contains(&slot) {
-                    list.push(slot);
-                }
-            }
-            graph.relink(site, &list);
-        }
-        let mut total = 0u64;
-        for slot in 0..SLOTS {
-            let mut at = graph.firsts[slot as usize];
-            while at != NONE {
-                let edge = &graph.edges[at as usize];
-                total = total.wrapping_add((edge.site ^ slot) as u64);
-                at = edge.next;
-            }
-        }
-        println!("{total}");
+    let mut graph = Graph::new(sites / 2, sites, sites * ROW + ROW);
+    let mut list = Vec::with_capacity(ROW as usize);
+    let mut total = 0u64;
+    for _ in 0..rounds {
+        relink_all(&mut graph, &mut list, &mut random);
+        total = total.wrapping_add(read_all(&graph));
     }
+    total
+}
+
+fn walk(dirty: &mut Bits, random: &mut Random) -> u64 {
+    let mut sum = 0u64;
+    for _ in 0..300_000u32 {
+        dirty.set(random.below(RANGE) as usize);
+    }
+    let mut from = 0;
+    for _ in 0..300_000u32 {
+        let Some(site) = dirty.next_from(from) else {
+            break;
+        };
+        sum = sum.wrapping_add(site as u64);
+        dirty.clear(site);
+        from = site;
+    }
+    sum
+}
+
+fn walk_often() -> u64 {
+    let mut random = Random(7);
     let mut dirty = Bits::new(RANGE as usize);
-    for _ in 0..ROUNDS * 3 {
-        let mut sum = 0u64;
-        for _ in 0..300_000u32 {
-            dirty.set(random.below(RANGE) as usize);
-        }
-        let mut from = 0;
-        for _ in 0..300_000u32 {
-            let Some(site) = dirty.next_from(from) else {
-                break;
-            };
-            sum = sum.wrapping_add(site as u64);
-            dirty.clear(site);
-            from = site;
-        }
-        println!("{sum}");
+    let mut total = 0u64;
+    for _ in 0..WALKS {
+        total = total.wrapping_add(walk(&mut dirty, &mut random));
     }
+    total
+}
+
+fn main() {
+    let total = match std::env::args().nth(1).as_deref() {
+        Some("large") => relink_often(200_000, 10),
+        Some("small") => relink_often(10_000, 600),
+        _ => walk_often(),
+    };
+    println!("{total}");
 }

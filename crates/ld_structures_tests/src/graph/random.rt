@@ -1,4 +1,4 @@
-//! Random calls, beside a plain set of sites and a plain set of pairs.
+//! Random calls, beside a plain set of sites, a plain list of slots and a plain set of pairs.
 ghost use Rattle.std.specs.Prelude.{◌<◌};
 
 use super::{put, readers, relink};
@@ -56,6 +56,29 @@ fn a_set_of_sites(rt: HostRuntime) -> Result<(), Fail> {
             Some(after) => assert_eq!(rt; found, Some((from + after as u32) * STEP)),
             None => assert_eq!(rt; found, None),
         }
+    }
+    Ok(())
+}
+
+#[test]
+fn a_list_of_slots(rt: HostRuntime) -> Result<(), Fail> {
+    const ROOM: u32 = 12;
+    let mut random = Random(3);
+    let mut plain: Vec<u32> = Vec::new(rt.alloc());
+    let mut list = SlotList::with_room(rt.alloc(), ROOM)?;
+    for round in 0..800 {
+        if random.below(24) == 0 {
+            list.clear();
+            plain.clear();
+        }
+        let slot = random.below(30) * 1_000_003;
+        put(&mut list, slot);
+        if plain.len() < ROOM as usize && !plain.contains(&slot) {
+            plain.push(slot)?;
+        }
+        assert_eq!(rt; list.as_slice(), plain.as_slice(), "round {round}");
+        let index = random.below(ROOM) as usize;
+        assert_eq!(rt; list.get(index), plain.get(index), "round {round}");
     }
     Ok(())
 }

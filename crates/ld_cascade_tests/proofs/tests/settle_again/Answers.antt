@@ -5,19 +5,19 @@ use Rattle.ld_cascade.specs.System.{fires}
 use Rattle.ld_cascade.specs.Wiring.{EdgesAre}
 use Rattle.ld_cascade.specs.Tidy.{Covers}
 use Rattle.ld_cascade.specs.Rooms.{Restorable}
-use Rattle.ld_cascade_tests.specs.Lamps.{lamps, row_of, is_sound}
+use Rattle.ld_cascade_tests.specs.Lamps.{lamps, lamps_of, is_sound}
 use Rattle.ld_cascade_tests.specs.Row.{Row}
 use Rattle.ld_cascade_tests.proofs.Fresh.{rows_same}
 use Rattle.ld_cascade_tests.proofs.tests.settle_again.Goals as goal
 
 pub restore-requires-clause-begun : goal.restore-requires-clause-begun
 restore-requires-clause-begun g c =
-    let s = row_of c.settle.new.sites in
+    let s = lamps_of c.settle.new.sites in
     let lit : c.take_back.new.self.lit.items ≡ c.settle.new.sites.lit.items =
     c.take_back.ensures.lit ∙ each_same c.settle.new.sites.lit.items c.in_ok-lit.lit.items c.in_ok-lit.ensures.cases.0 in
     let marks : c.take_back.new.self.marks.items ≡ c.settle.new.sites.marks.items =
     c.take_back.ensures.marks ∙ each_same c.settle.new.sites.marks.items c.in_ok-marks.marks.items c.in_ok-marks.ensures.cases.0 in
-    let same : row_of c.take_back.new.self ≡ s = rows_same (row_of c.take_back.new.self) s lit marks in
+    let same : lamps_of c.take_back.new.self ≡ s = rows_same (lamps_of c.take_back.new.self) s lit marks in
     let settled = c.in_ok-_settled.ensures in
     let edges : c.begin.new.self.edges ≡ c.settle.new.links.edges = c.begin.ensures.edges in
     let covers : Covers lamps s c.begin.new.self = record {
@@ -30,12 +30,12 @@ restore-requires-clause-begun g c =
 
 pub switch_last_off-requires-2-clause-tidy : goal.switch_last_off-requires-2-clause-tidy
 switch_last_off-requires-2-clause-tidy g c i =
-    let s = row_of c.settle.new.sites in
+    let s = lamps_of c.settle.new.sites in
     let lit : c.take_back.new.self.lit.items ≡ c.settle.new.sites.lit.items =
     c.take_back.ensures.lit ∙ each_same c.settle.new.sites.lit.items c.in_ok-lit.lit.items c.in_ok-lit.ensures.cases.0 in
     let marks : c.take_back.new.self.marks.items ≡ c.settle.new.sites.marks.items =
     c.take_back.ensures.marks ∙ each_same c.settle.new.sites.marks.items c.in_ok-marks.marks.items c.in_ok-marks.ensures.cases.0 in
-    let same : row_of c.restore.new.sites ≡ s = c.restore.ensures.state ∙ rows_same (row_of c.take_back.new.self) s lit marks in
+    let same : lamps_of c.restore.new.sites ≡ s = c.restore.ensures.state ∙ rows_same (lamps_of c.take_back.new.self) s lit marks in
     record {
       marked = subst (λ (u : Row). fires lamps u i ≡ false) (sym same) (c.in_ok-_settled.ensures.tidy i).marked;
       edges_are = subst (λ (u : Row). EdgesAre c.restore.new.links.edges i (lamps.reads u i)) (sym c.restore.ensures.state) (c.restore.ensures.edges i);
