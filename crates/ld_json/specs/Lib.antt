@@ -10,4 +10,3 @@ pub mod Reads
 pub mod Steps
 pub mod TreeCode
 pub mod Json
-pub mod Walk

@@ -14,16 +14,6 @@ pub enum FileNo {
 }
 
 impl FileNo {
-    /// The six documents in their order.
-    pub const ALL: [FileNo; 6] = [
-        FileNo::Roles,
-        FileNo::Properties,
-        FileNo::Environments,
-        FileNo::Activities,
-        FileNo::Unit,
-        FileNo::Conditions,
-    ];
-
     /// The document's number in that order, counted from 0.
     pub fn index(self) -> usize
         ensures { result ≡ file_index self }

@@ -13,7 +13,7 @@
 //! ```
 //!
 //! Contracts see a node as its file, its place and its tree. What may be wrong with it is a list of
-//! faults, in the order in which they are looked for (`specs/Access.antt`, `specs/Walk.antt`). A
+//! faults, in the order in which they are looked for (`specs/Access.antt`). A
 //! reader over nodes says `faultless` (it gives a value only where its list is empty) and `first`
 //! (a refusal is the first of its list, or want of memory).
 #![tactic(auto)]

@@ -1,5 +1,5 @@
 //! A part of a document that knows its place.
-ghost use Rattle.std.specs.Prelude.{◌≡◌, ◌<◌, ◌++◌, List, [], Some, None, OnOk, IfOk, IfErr, IfSome, IfNone, IsSome, option_map, slice_get, length, map};
+ghost use Rattle.std.specs.Prelude.{◌≡◌, ◌<◌, ◌++◌, List, [], Some, None, OnOk, IfOk, IfErr, IfSome, IfNone, IsSome, is_some, option_map, slice_get, length, map};
 ghost use Rattle.serde_json.specs.Data.{Data};
 ghost use Rattle.serde_json.specs.Find.{get, at, as_str, as_bool, as_object};
 ghost use Rattle.serde_json.specs.View.{view, members_view};
@@ -136,6 +136,13 @@ impl<'a> Node<'a> {
             Some(flag) => Ok(flag),
             None => Err(self.fault(alloc, Code::WrongShape)),
         }
+    }
+
+    /// Whether the node is an object. It takes no memory.
+    pub fn is_object(&self) -> bool
+        ensures { result ≡ is_some (as_object self.now.tree) }
+    {
+        self.tree.as_object().is_some()
     }
 
     /// The name of the only member. `wrong-shape` exactly where the node is no object, or has not

@@ -1,3 +1,1 @@
-pub mod Making
-pub mod FormedMethods
-pub mod FormedUnits
+pub mod Formed

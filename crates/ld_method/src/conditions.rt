@@ -1,23 +1,80 @@
-//! The document of the conditions, which are left out of this engine so far.
-ghost use Rattle.std.specs.Prelude.{◌≡◌, [], Some, IfOk, OnOk, IfErr};
-ghost use Rattle.ld_json.specs.Fault.{SaysFirst};
-ghost use Rattle.ld_method.specs.Units.{conditions_in, conditions_faults};
+//! Conditions and what they do.
+ghost use Rattle.ld_formats.specs.Conditions.{action, condition, conditions_document};
 
+use crate::tests::TestShape;
+use ld_json::code::Code;
 use ld_json::fault::ReadFault;
 use ld_json::node::Node;
-use ld_model::condition::{Condition, ConditionList};
-use ld_reader::lists::empty_list_at;
+use ld_model::condition::{Action, Condition, ConditionList};
+use ld_reader::changes::{ChangeShape, NoticeShape};
+use ld_shape::lists::{ListOf, list_at};
+use ld_shape::members::needed_at;
+use ld_shape::reads::Reads;
+use ld_shape::texts::Identifier;
 use std::alloc::Global;
 
-/// The conditions of their document: none. `not-in-profile` exactly where a condition stands there, at
-/// the first one.
-#[tactic(auto, unfolding(crate::specs::Units::conditions_in, crate::specs::Units::conditions_faults, ld_reader::specs::Walks::only), using(ld_json::proofs::First::first_of_both))]
-pub fn read_conditions(alloc: Global, node: &Node<'_>) -> Result<ConditionList, ReadFault>
-    ensures value { IfOk result (λ conditions. conditions_in node.now.tree ≡ Some conditions) }
-    ensures faultless { OnOk result (conditions_faults node.now ≡ []) }
-    ensures first { IfErr result (SaysFirst (conditions_faults node.now)) }
-{
-    node.only(alloc, &["conditions"])?;
-    let conditions = empty_list_at::<Condition>(alloc, node, "conditions")?;
-    Ok(conditions)
+/// What a condition does.
+pub struct ActionShape;
+
+impl Reads for ActionShape {
+    type Value = Action;
+
+    ghost shape = { action };
+
+    #[tactic(auto, unfolding(ld_formats::specs::Conditions::action), using(ld_json::proofs::First::says_more))]
+    fn read(alloc: Global, node: &Node<'_>) -> Result<Action, ReadFault> {
+        match node.sole(alloc)? {
+            "show" => {
+                let things = needed_at::<ListOf<Identifier, 1>>(alloc, node, "show")?;
+                Ok(Action::Show(things))
+            }
+            "hide" => {
+                let things = needed_at::<ListOf<Identifier, 1>>(alloc, node, "hide")?;
+                Ok(Action::Hide(things))
+            }
+            "change" => {
+                let change = needed_at::<ChangeShape>(alloc, node, "change")?;
+                Ok(Action::Change(change))
+            }
+            "notify" => {
+                let notice = needed_at::<NoticeShape>(alloc, node, "notify")?;
+                Ok(Action::Notify(notice))
+            }
+            _ => Err(node.fault(alloc, Code::UnknownMember)),
+        }
+    }
+}
+
+/// A condition.
+pub struct ConditionShape;
+
+impl Reads for ConditionShape {
+    type Value = Condition;
+
+    ghost shape = { condition };
+
+    #[tactic(auto, unfolding(ld_formats::specs::Conditions::condition), using(ld_json::proofs::First::says_more))]
+    fn read(alloc: Global, node: &Node<'_>) -> Result<Condition, ReadFault> {
+        node.only(alloc, &["if", "then", "else"])?;
+        Ok(Condition {
+            test: needed_at::<TestShape>(alloc, node, "if")?,
+            yes: needed_at::<ListOf<ActionShape, 1>>(alloc, node, "then")?,
+            no: list_at::<ActionShape>(alloc, node, "else")?,
+        })
+    }
+}
+
+/// The document of conditions.
+pub struct ConditionsDocument;
+
+impl Reads for ConditionsDocument {
+    type Value = ConditionList;
+
+    ghost shape = { conditions_document };
+
+    #[tactic(auto, unfolding(ld_formats::specs::Conditions::conditions_document), using(ld_json::proofs::First::says_more))]
+    fn read(alloc: Global, node: &Node<'_>) -> Result<ConditionList, ReadFault> {
+        node.only(alloc, &["conditions"])?;
+        list_at::<ConditionShape>(alloc, node, "conditions")
+    }
 }

@@ -1,27 +1,135 @@
-//! The method of a unit.
-ghost use Rattle.ld_method.specs.Methods.{method_of, method_faults};
+//! The method of a unit: plays, acts and role-parts.
+ghost use Rattle.ld_formats.specs.Methods.{role_part, act, play, method};
 
-use crate::completions::unit_complete_at;
-use crate::lists::parts_at;
-use crate::part::MethodPart;
+use crate::completions::{ActCompletion, PlayCompletion, UnitCompletion, ending_at};
 use ld_json::fault::ReadFault;
 use ld_json::node::Node;
-use ld_model::completion::OnCompletion;
-use ld_model::method::{Method, Play};
-use ld_reader::members::optional_at;
+use ld_model::method::{Act, Method, Play, RolePart};
+use ld_shape::lists::ListOf;
+use ld_shape::members::{absent_at, default_at, needed_at, optional_at};
+use ld_shape::reads::Reads;
+use ld_shape::texts::{Identifier, Title};
+use ld_shape::values::Flag;
 use std::alloc::Global;
 
-impl MethodPart for Method {
-    ghost of = { method_of };
+/// A role-part.
+pub struct RolePartShape;
 
-    ghost faults = { method_faults };
+impl Reads for RolePartShape {
+    type Value = RolePart;
 
-    #[tactic(auto, unfolding(crate::specs::Methods::method_of, crate::specs::Methods::method_faults, ld_reader::specs::Walks::only), using(ld_json::proofs::First::first_of_both))]
+    ghost shape = { role_part };
+
+    #[tactic(auto, unfolding(ld_formats::specs::Methods::role_part), using(ld_json::proofs::First::says_more))]
+    fn read(alloc: Global, node: &Node<'_>) -> Result<RolePart, ReadFault> {
+        node.only(
+            alloc,
+            &[
+                "identifier",
+                "title",
+                "role",
+                "ref",
+                "unit-of-learning-href",
+            ],
+        )?;
+        let identifier = needed_at::<Identifier>(alloc, node, "identifier")?;
+        let title = optional_at::<Title>(alloc, node, "title")?;
+        let role = needed_at::<Identifier>(alloc, node, "role")?;
+        let target = needed_at::<Identifier>(alloc, node, "ref")?;
+        absent_at(alloc, node, "unit-of-learning-href")?;
+        Ok(RolePart {
+            identifier,
+            title,
+            role,
+            target,
+        })
+    }
+}
+
+/// An act.
+pub struct ActShape;
+
+impl Reads for ActShape {
+    type Value = Act;
+
+    ghost shape = { act };
+
+    #[tactic(auto, unfolding(ld_formats::specs::Methods::act, ld_formats::specs::Completions::ending), using(ld_json::proofs::First::says_more))]
+    fn read(alloc: Global, node: &Node<'_>) -> Result<Act, ReadFault> {
+        node.only(
+            alloc,
+            &[
+                "identifier",
+                "title",
+                "role-parts",
+                "complete",
+                "on-completion",
+            ],
+        )?;
+        let identifier = needed_at::<Identifier>(alloc, node, "identifier")?;
+        let title = optional_at::<Title>(alloc, node, "title")?;
+        let role_parts = needed_at::<ListOf<RolePartShape, 1>>(alloc, node, "role-parts")?;
+        let (complete, on_completion) = ending_at::<ActCompletion>(alloc, node)?;
+        Ok(Act {
+            identifier,
+            title,
+            role_parts,
+            complete,
+            on_completion,
+        })
+    }
+}
+
+/// A play.
+pub struct PlayShape;
+
+impl Reads for PlayShape {
+    type Value = Play;
+
+    ghost shape = { play };
+
+    #[tactic(auto, unfolding(ld_formats::specs::Methods::play, ld_formats::specs::Completions::ending), using(ld_json::proofs::First::says_more))]
+    fn read(alloc: Global, node: &Node<'_>) -> Result<Play, ReadFault> {
+        node.only(
+            alloc,
+            &[
+                "identifier",
+                "title",
+                "visible",
+                "acts",
+                "complete",
+                "on-completion",
+            ],
+        )?;
+        let identifier = needed_at::<Identifier>(alloc, node, "identifier")?;
+        let title = optional_at::<Title>(alloc, node, "title")?;
+        let visible = default_at::<Flag>(alloc, node, "visible", true)?;
+        let acts = needed_at::<ListOf<ActShape, 1>>(alloc, node, "acts")?;
+        let (complete, on_completion) = ending_at::<PlayCompletion>(alloc, node)?;
+        Ok(Play {
+            identifier,
+            title,
+            visible,
+            acts,
+            complete,
+            on_completion,
+        })
+    }
+}
+
+/// The method of a unit.
+pub struct MethodShape;
+
+impl Reads for MethodShape {
+    type Value = Method;
+
+    ghost shape = { method };
+
+    #[tactic(auto, unfolding(ld_formats::specs::Methods::method, ld_formats::specs::Completions::ending), using(ld_json::proofs::First::says_more))]
     fn read(alloc: Global, node: &Node<'_>) -> Result<Method, ReadFault> {
         node.only(alloc, &["plays", "complete", "on-completion"])?;
-        let plays = parts_at::<Play>(alloc, node, "plays")?;
-        let complete = unit_complete_at(alloc, node)?;
-        let on_completion = optional_at::<OnCompletion>(alloc, node, "on-completion")?;
+        let plays = needed_at::<ListOf<PlayShape, 1>>(alloc, node, "plays")?;
+        let (complete, on_completion) = ending_at::<UnitCompletion>(alloc, node)?;
         Ok(Method {
             plays,
             complete,

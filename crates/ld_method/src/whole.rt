@@ -1,67 +1,85 @@
 //! The whole unit of its documents.
-ghost use Rattle.std.specs.Prelude.{◌≡◌, List, [], true, Some, IfOk, OnOk, IfErr};
-ghost use Rattle.ld_json.specs.Fault.{SaysFirst};
-ghost use Rattle.ld_json.specs.declared.file.FileNo.TheVariants as file_no;
-ghost use Rattle.ld_method.specs.Units.{unit_in, method_document_faults, own_unit, unit_faults, with_conditions, conditions_in, conditions_faults};
-ghost use Rattle.ld_model.specs.WellFormed.{has_formed_parts, is_well_formed};
-ghost use Rattle.ld_model.specs.declared.condition.Condition.{Condition};
-ghost use Rattle.ld_reader.specs.Documents.{HasRequired, document_or, in_document};
+ghost use Rattle.std.specs.Prelude.{◌≡◌, true, [], Some, IfOk};
+ghost use Rattle.ld_formats.specs.Units.{parts as parts_shape, method_with, unit as unit_shape, is_well_formed, unit_of};
+ghost use Rattle.ld_model.specs.declared.unit.Unit.{Unit as Course};
+ghost use Rattle.ld_shape.specs.Reading.{Answers};
 
-use crate::conditions::read_conditions;
-use crate::unit::read_unit;
+use crate::conditions::ConditionsDocument;
+use crate::unit::{Head, HeadShape};
 use ld_base::items::Items;
 use ld_json::docs::Docs;
 use ld_json::fault::ReadFault;
 use ld_json::file::FileNo;
 use ld_model::condition::ConditionList;
 use ld_model::unit::{Parts, Unit};
+use ld_shape::documents::{read_document_or, read_required};
 use std::alloc::Global;
+use std::mem::replace;
 
 /// The unit of these documents, with the parts that were read from them. On a refusal the parts are
-/// dropped.
-#[tactic(auto, unfolding(crate::specs::Units::unit_in, crate::specs::Units::method_document_faults), using(ld_json::proofs::First::first_of_both))]
+/// dropped. (docs/FORMATS.md, "Faults of shape")
+#[tactic(auto, using(crate::proofs::Formed::answers_formed))]
 pub fn read_method(alloc: Global, docs: &Docs, parts: Parts) -> Result<Unit, ReadFault>
-    requires { HasRequired docs.now }
-    ensures value { IfOk result (λ unit. unit_in docs.now parts ≡ Some unit) }
-    ensures formed { has_formed_parts parts.roles parts.environments parts.activities parts.structures ≡ true → parts.properties ≡ [] → IfOk result (λ unit. is_well_formed unit ≡ true) }
-    ensures faultless { OnOk result (method_document_faults docs.now ≡ []) }
-    ensures first { IfErr result (SaysFirst (method_document_faults docs.now)) }
+    requires { (parts_shape.reading docs.now).value ≡ Some parts }
+    ensures answer { Answers ((method_with parts).reading docs.now) result }
+    ensures formed { IfOk result (λ unit. is_well_formed unit ≡ true) }
 {
-    let unit = unit_document(alloc, docs, parts)?;
-    let conditions = conditions_document(alloc, docs)?;
-    Ok(give_conditions(unit, conditions))
+    read_with(alloc, docs, parts)
 }
 
-/// The unit of its own document, with these parts and with no conditions yet.
-fn unit_document(alloc: Global, docs: &Docs, parts: Parts) -> Result<Unit, ReadFault>
-    requires { HasRequired docs.now }
-    ensures value { IfOk result (λ unit. (conditions : List Condition) → own_unit docs.now parts conditions ≡ Some (with_conditions conditions unit)) }
-    ensures faultless { OnOk result (in_document file_no.Unit unit_faults docs.now ≡ []) }
-    ensures first { IfErr result (SaysFirst (in_document file_no.Unit unit_faults docs.now)) }
+/// The unit of these parts, and of what its own document and that of the conditions tell.
+#[tactic(auto, unfolding(ld_formats::specs::Units::method_documents), using(ld_json::proofs::First::says_more))]
+fn read_with(alloc: Global, docs: &Docs, parts: Parts) -> Result<Unit, ReadFault>
+    ensures { Answers ((method_with parts).reading docs.now) result }
 {
-    let document = docs.get(FileNo::Unit).unwrap();
-    let unit = read_unit(alloc, &document.root(FileNo::Unit), parts)?;
-    Ok(unit)
+    let head = read_required::<HeadShape>(alloc, docs, FileNo::Unit)?;
+    let conditions = read_document_or::<ConditionsDocument>(
+        alloc,
+        docs,
+        FileNo::Conditions,
+        Items::new(alloc),
+    )?;
+    Ok(unit_with(alloc, parts, head, conditions))
 }
 
-/// The conditions of their document; none where it is not there.
-fn conditions_document(alloc: Global, docs: &Docs) -> Result<ConditionList, ReadFault>
-    ensures value { IfOk result (λ conditions. document_or [] conditions_in docs.now file_no.Conditions ≡ Some conditions) }
-    ensures faultless { OnOk result (in_document file_no.Conditions conditions_faults docs.now ≡ []) }
-    ensures first { IfErr result (SaysFirst (in_document file_no.Conditions conditions_faults docs.now)) }
+/// The unit of these parts, and of what was read besides.
+fn unit_with(alloc: Global, parts: Parts, head: Head, conditions: ConditionList) -> Unit
+    ensures { result ≡ unit_of parts (head, conditions) }
 {
-    let Some(document) = docs.get(FileNo::Conditions) else {
-        return Ok(Items::new(alloc));
-    };
-    let conditions = read_conditions(alloc, &document.root(FileNo::Conditions))?;
-    Ok(conditions)
+    let mut parts = parts;
+    let Head {
+        format,
+        identifier,
+        level,
+        title,
+        turns,
+        metadata,
+        learning_objectives,
+        prerequisites,
+        method,
+    } = head;
+    Unit {
+        format,
+        identifier,
+        level,
+        title,
+        turns,
+        metadata,
+        learning_objectives,
+        prerequisites,
+        roles: replace(&mut parts.roles, Items::new(alloc)),
+        properties: replace(&mut parts.properties, Items::new(alloc)),
+        environments: replace(&mut parts.environments, Items::new(alloc)),
+        activities: replace(&mut parts.activities, Items::new(alloc)),
+        structures: replace(&mut parts.structures, Items::new(alloc)),
+        method,
+        conditions,
+    }
 }
 
-/// The unit with these conditions in place of its own.
-fn give_conditions(unit: Unit, conditions: ConditionList) -> Unit
-    ensures { result ≡ with_conditions conditions unit }
-{
-    let mut unit = unit;
-    unit.conditions = conditions;
-    unit
-}
+/// Documents without a fault of shape stand for a unit, which is well-formed. The body is empty: the
+/// law is about what the readers are held to, and holds for all documents.
+#[tactic(auto, using(crate::proofs::Formed::stands_for_one))]
+pub fn documents_without_a_fault_stand_for_a_unit(docs: &Docs)
+    ensures { (unit_shape.reading docs.now).faults ≡ [] → (unit : Course) × ((unit_shape.reading docs.now).value ≡ Some unit) × (is_well_formed unit ≡ true) }
+{}

@@ -1,5 +1,5 @@
-//! What a published unit is, how its parts are named and numbered, and how the state of a run is
-//! named cell by cell.
+//! What a unit of learning is, as its documents tell it, and how the state of a run is named cell by
+//! cell.
 #![tactic(auto)]
 
 pub mod activity;
@@ -8,13 +8,10 @@ pub mod completion;
 pub mod condition;
 pub mod environment;
 pub mod expression;
-pub mod identifiers;
 pub mod item;
+pub mod making;
 pub mod method;
-pub mod names;
 pub mod property;
 pub mod role;
-pub mod rule;
-pub mod thing;
 pub mod unit;
 pub mod view;

@@ -44,13 +44,15 @@ pub struct Role {
 }
 
 impl Model for Role {
-    ghost use Rattle.std.specs.Prelude.{List, ◌∷◌, length, ℕ};
+    ghost use Rattle.std.specs.Prelude.{List, [], ◌∷◌, length, ℕ};
     ghost use Rattle.std.proofs.Common.{arith};
     ghost use Rattle.ld_model.specs.RoleRows.{RoleRow, rows_within, most_rows_within};
 
     ghost Value = { List RoleRow };
 
-    ghost view = { λ role. record { identifier = role.identifier; kind = role.kind; title = role.title; create_new = role.create_new; match_persons = role.match_persons; min_persons = role.min_persons; max_persons = role.max_persons; depth = 0 } ∷ rows_within role.roles.items };
+    ghost use Rattle.ld_model.specs.RoleViews.{own_row};
+
+    ghost view = { λ role. own_row role ∷ rows_within role.roles.items };
 
     ghost size = { length };
 

@@ -9,8 +9,8 @@ use crate::role::RoleList;
 use ld_base::id::Id;
 use ld_base::plain_text::PlainText;
 
-/// Which elements a unit may have: level A has none of properties, conditions and notifications, B
-/// has the first two, and C has all.
+/// Which elements a unit may have: level A has none of properties, conditions, services that monitor
+/// and notifications, B lacks notifications alone, and C has all.
 #[derive(Clone, Copy, PartialEq, Eq)]
 pub enum Level {
     A,

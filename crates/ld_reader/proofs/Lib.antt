@@ -1,12 +1,2 @@
-pub mod Arrays
-pub mod Listing
-pub mod Objects
-pub mod RolesWithin
-pub mod Depths
-pub mod Passing
-pub mod FormedValues
-pub mod FormedCompletions
-pub mod FormedEnvironments
-pub mod FormedRoles
-pub mod FormedActivities
-pub mod FormedDocuments
+pub mod Formed
+pub mod StructureNames

@@ -1,32 +1,36 @@
 //! Activities.
-ghost use Rattle.std.specs.Prelude.{◌≡◌, [], codes, Some, IfOk, OnOk, IfErr};
-ghost use Rattle.ld_json.specs.Access.{IsObject, only_faults};
-ghost use Rattle.ld_json.specs.Fault.{SaysFirst};
-ghost use Rattle.ld_json.specs.Walk.{in_optional};
-ghost use Rattle.ld_reader.specs.Activities.{activity_words, activity_kind_of, names_by_kind, learning_names, support_names, activity_names, activity_of, activity_faults, content_faults};
-ghost use Rattle.ld_reader.specs.Completions.{activity_completion_of, activity_completion_faults, on_completion_of};
-ghost use Rattle.ld_reader.specs.Forms.{word_of};
-ghost use Rattle.ld_reader.specs.Items.{items_of, references_of};
-ghost use Rattle.ld_reader.specs.Walks.{leaf_faults, optional_of};
+ghost use Rattle.std.specs.Prelude.{◌≡◌, OnOk, IfOk};
+ghost use Rattle.ld_formats.specs.Activities.{activity_words, activity_kind, supports_by, doing, content_by, activity_members, activity_by, activity};
+ghost use Rattle.ld_json.specs.Access.{IsObject};
+ghost use Rattle.ld_shape.specs.Objects.{only_members};
+ghost use Rattle.ld_shape.specs.Reading.{Answers};
+ghost use Rattle.ld_shape.specs.Words.{one_of};
 
-use crate::completions::read_activity_completion;
-use crate::lists::list_at;
-use crate::members::{default_at, member_at, optional_at, title_at};
-use crate::part::Part;
-use ld_base::id::Id;
+use crate::changes::Follows;
+use crate::completions::ActivityCompletion;
+use crate::items::ItemShape;
+use ld_base::items::Items;
 use ld_base::memory::NoMemory;
 use ld_json::code::Code;
 use ld_json::fault::ReadFault;
 use ld_json::node::Node;
 use ld_model::activity::{Activity, ActivityKind};
 use ld_model::completion::{Completion, OnCompletion};
-use ld_model::item::{Item, ItemList, ReferenceList};
+use ld_model::item::{ItemList, ReferenceList};
+use ld_shape::lists::list_at;
+use ld_shape::members::{default_at, known_or, needed_at, optional_at};
+use ld_shape::reads::Reads;
+use ld_shape::texts::{Identifier, Title};
+use ld_shape::values::Flag;
 use std::alloc::Global;
 
-impl Part for ActivityKind {
-    ghost of = { word_of activity_words };
+/// The kind of an activity.
+pub struct ActivityWord;
 
-    ghost faults = { leaf_faults (word_of activity_words) };
+impl Reads for ActivityWord {
+    type Value = ActivityKind;
+
+    ghost shape = { one_of activity_words };
 
     fn read(alloc: Global, node: &Node<'_>) -> Result<ActivityKind, ReadFault> {
         match node.text(alloc)? {
@@ -37,120 +41,76 @@ impl Part for ActivityKind {
     }
 }
 
-impl Part for Activity {
-    ghost of = { activity_of };
+/// An activity.
+pub struct ActivityShape;
 
-    ghost faults = { activity_faults };
+impl Reads for ActivityShape {
+    type Value = Activity;
 
-    #[tactic(auto, unfolding(crate::specs::Activities::activity_faults), using(ld_json::proofs::First::first_of_both))]
+    ghost shape = { activity };
+
+    #[tactic(auto, unfolding(ld_formats::specs::Activities::activity), using(ld_json::proofs::First::says_more))]
     fn read(alloc: Global, node: &Node<'_>) -> Result<Activity, ReadFault> {
-        only_by_kind(alloc, node)?;
-        let identifier = member_at::<Id>(alloc, node, "identifier")?;
-        let kind = default_at::<ActivityKind>(alloc, node, "kind", ActivityKind::Learning)?;
-        let title = title_at(alloc, node, "title")?;
-        let visible = default_at::<bool>(alloc, node, "visible", true)?;
-        let content = content_at(alloc, node)?;
-        Ok(Activity {
-            identifier,
-            kind,
-            title,
-            visible,
-            learning_objectives: content.learning_objectives,
-            prerequisites: content.prerequisites,
-            supports: content.supports,
-            environments: content.environments,
-            items: content.items,
-            complete: content.complete,
-            on_completion: content.on_completion,
-        })
+        let kind = kind_of(alloc, node)?;
+        read_of_kind(alloc, node, kind)
     }
 }
 
-/// What an activity holds, and when it is completed.
-#[derive(Drop)]
-struct Content {
-    learning_objectives: ItemList,
-    prerequisites: ItemList,
-    supports: ReferenceList,
-    environments: ReferenceList,
-    items: ItemList,
-    complete: Option<Completion>,
-    on_completion: Option<OnCompletion>,
+/// The kind of the activity at the node: learning where none is given, support where what is given
+/// is none of the two.
+fn kind_of(alloc: Global, node: &Node<'_>) -> Result<ActivityKind, NoMemory>
+    ensures { IfOk result (λ kind. kind ≡ activity_kind node.now) }
+{
+    if !node.is_object() {
+        return Ok(ActivityKind::Learning);
+    }
+    let known = known_or::<ActivityWord>(alloc, node, "kind", ActivityKind::Learning)?;
+    Ok(known.unwrap_or(ActivityKind::Support))
 }
 
-/// What the activity holds, and when it is completed.
-#[tactic(auto, unfolding(crate::specs::Activities::content_faults), using(ld_json::proofs::First::first_of_both))]
-fn content_at(alloc: Global, node: &Node<'_>) -> Result<Content, ReadFault>
-    requires { IsObject node.now }
-    ensures objectives { IfOk result (λ content. items_of (codes "learning-objectives") node.now.tree ≡ Some content.learning_objectives) }
-    ensures prerequisites { IfOk result (λ content. items_of (codes "prerequisites") node.now.tree ≡ Some content.prerequisites) }
-    ensures supports { IfOk result (λ content. references_of (codes "supports") node.now.tree ≡ Some content.supports) }
-    ensures environments { IfOk result (λ content. references_of (codes "environments") node.now.tree ≡ Some content.environments) }
-    ensures items { IfOk result (λ content. items_of (codes "items") node.now.tree ≡ Some content.items) }
-    ensures complete { IfOk result (λ content. optional_of (codes "complete") activity_completion_of node.now.tree ≡ Some content.complete) }
-    ensures follows { IfOk result (λ content. optional_of (codes "on-completion") on_completion_of node.now.tree ≡ Some content.on_completion) }
-    ensures faultless { OnOk result (content_faults node.now ≡ []) }
-    ensures first { IfErr result (SaysFirst (content_faults node.now)) }
+/// An activity of this kind.
+#[tactic(auto, unfolding(ld_formats::specs::Activities::activity_by), using(ld_json::proofs::First::says_more))]
+fn read_of_kind(alloc: Global, node: &Node<'_>, kind: ActivityKind) -> Result<Activity, ReadFault>
+    ensures { Answers ((activity_by kind).reading node.now) result }
 {
-    let learning_objectives = list_at::<Item>(alloc, node, "learning-objectives")?;
-    let prerequisites = list_at::<Item>(alloc, node, "prerequisites")?;
-    let supports = list_at::<Id>(alloc, node, "supports")?;
-    let environments = list_at::<Id>(alloc, node, "environments")?;
-    let items = list_at::<Item>(alloc, node, "items")?;
-    let complete = complete_at(alloc, node)?;
-    let on_completion = optional_at::<OnCompletion>(alloc, node, "on-completion")?;
-    Ok(Content {
-        learning_objectives,
+    only_of_kind(alloc, node, kind)?;
+    let identifier = needed_at::<Identifier>(alloc, node, "identifier")?;
+    let own_kind = default_at::<ActivityWord>(alloc, node, "kind", ActivityKind::Learning)?;
+    let title = optional_at::<Title>(alloc, node, "title")?;
+    let visible = default_at::<Flag>(alloc, node, "visible", true)?;
+    let (objectives, (prerequisites, (supports, (environments, (items, (complete, follows)))))) =
+        content_at(alloc, node, kind)?;
+    Ok(Activity {
+        identifier,
+        kind: own_kind,
+        title,
+        visible,
+        learning_objectives: objectives,
         prerequisites,
         supports,
         environments,
         items,
         complete,
-        on_completion,
+        on_completion: follows,
     })
 }
 
-/// That the node is an object, and its members are those of an activity of the kind that it says.
-#[tactic(auto, unfolding(crate::specs::Activities::activity_names), using(crate::proofs::Listing::any_kind_first))]
-fn only_by_kind(alloc: Global, node: &Node<'_>) -> Result<(), ReadFault>
+/// That the node is an object without members but those of an activity of this kind.
+fn only_of_kind(alloc: Global, node: &Node<'_>, kind: ActivityKind) -> Result<(), ReadFault>
     ensures object { OnOk result (IsObject node.now) }
-    ensures faultless { OnOk result (only_faults (activity_names node.now.tree) node.now ≡ []) }
-    ensures first { IfErr result (SaysFirst (only_faults (activity_names node.now.tree) node.now)) }
-{
-    only_of_kind(alloc, node, None)?;
-    let kind = known_kind(alloc, node)?;
-    only_of_kind(alloc, node, kind)?;
-    Ok(())
-}
-
-/// That the node is an object, and its members are those of an activity of this kind: a learning
-/// activity supports nobody. Where the kind is none of the two, either's members are listed.
-fn only_of_kind(alloc: Global, node: &Node<'_>, kind: Option<ActivityKind>) -> Result<(), ReadFault>
-    ensures object { OnOk result (IsObject node.now) }
-    ensures faultless { OnOk result (only_faults (names_by_kind kind) node.now ≡ []) }
-    ensures first { IfErr result (SaysFirst (only_faults (names_by_kind kind) node.now)) }
+    ensures only { Answers (only_members (activity_members kind) node.now) result }
 {
     match kind {
-        Some(ActivityKind::Learning) => {
-            only_learning(alloc, node)?;
-            Ok(())
-        }
-        Some(ActivityKind::Support) => {
-            only_support(alloc, node)?;
-            Ok(())
-        }
-        None => {
-            only_support(alloc, node)?;
-            Ok(())
-        }
+        ActivityKind::Learning => only_learning(alloc, node),
+        ActivityKind::Support => only_support(alloc, node),
     }
 }
 
-/// That the node is an object, and its members are those of a learning activity.
+/// That the node is an object without members but those of a learning activity.
+#[tactic(auto, unfolding(ld_formats::specs::Activities::content_by, ld_formats::specs::Activities::doing))]
 fn only_learning(alloc: Global, node: &Node<'_>) -> Result<(), ReadFault>
     ensures object { OnOk result (IsObject node.now) }
-    ensures faultless { OnOk result (only_faults learning_names node.now ≡ []) }
-    ensures first { IfErr result (SaysFirst (only_faults learning_names node.now)) }
+    ensures only { Answers (only_members (activity_members ActivityKind.Learning) node.now) result }
 {
     node.only(
         alloc,
@@ -170,22 +130,22 @@ fn only_learning(alloc: Global, node: &Node<'_>) -> Result<(), ReadFault>
     Ok(())
 }
 
-/// That the node is an object, and its members are those of a support activity.
+/// That the node is an object without members but those of a support activity.
+#[tactic(auto, unfolding(ld_formats::specs::Activities::content_by, ld_formats::specs::Activities::doing))]
 fn only_support(alloc: Global, node: &Node<'_>) -> Result<(), ReadFault>
     ensures object { OnOk result (IsObject node.now) }
-    ensures faultless { OnOk result (only_faults support_names node.now ≡ []) }
-    ensures first { IfErr result (SaysFirst (only_faults support_names node.now)) }
+    ensures only { Answers (only_members (activity_members ActivityKind.Support) node.now) result }
 {
     node.only(
         alloc,
         &[
-            "supports",
             "identifier",
             "kind",
             "title",
             "visible",
             "learning-objectives",
             "prerequisites",
+            "supports",
             "environments",
             "items",
             "complete",
@@ -195,28 +155,55 @@ fn only_support(alloc: Global, node: &Node<'_>) -> Result<(), ReadFault>
     Ok(())
 }
 
-/// The kind that the object says, `learning` where it says none; None where it is none of the two.
-fn known_kind(alloc: Global, node: &Node<'_>) -> Result<Option<ActivityKind>, NoMemory>
+/// What an activity has people do: its items, when it is completed, and what follows then.
+type Doing = (ItemList, (Option<Completion>, Option<OnCompletion>));
+
+/// What an activity holds: objectives, prerequisites, supported roles, environments, and what is done.
+type Content = (
+    ItemList,
+    (ItemList, (ReferenceList, (ReferenceList, Doing))),
+);
+
+/// What stands behind the members that say what is shown of an activity of this kind.
+#[tactic(auto, unfolding(ld_formats::specs::Activities::content_by), using(ld_json::proofs::First::says_more))]
+fn content_at(alloc: Global, node: &Node<'_>, kind: ActivityKind) -> Result<Content, ReadFault>
     requires { IsObject node.now }
-    ensures { IfOk result (λ kind. kind ≡ activity_kind_of node.now.tree) }
+    ensures { Answers ((content_by kind).shape.reading node.now) result }
 {
-    match default_at::<ActivityKind>(alloc, node, "kind", ActivityKind::Learning) {
-        Ok(kind) => Ok(Some(kind)),
-        Err(ReadFault::Refused(_)) => Ok(None),
-        Err(ReadFault::NoMemory) => Err(NoMemory),
-    }
+    let objectives = list_at::<ItemShape>(alloc, node, "learning-objectives")?;
+    let prerequisites = list_at::<ItemShape>(alloc, node, "prerequisites")?;
+    let supports = supports_at(alloc, node, kind)?;
+    let environments = list_at::<Identifier>(alloc, node, "environments")?;
+    let doing = doing_at(alloc, node)?;
+    Ok((
+        objectives,
+        (prerequisites, (supports, (environments, doing))),
+    ))
 }
 
-/// When the activity is completed, if that is said.
-fn complete_at(alloc: Global, node: &Node<'_>) -> Result<Option<Completion>, ReadFault>
+/// What is done in an activity, when it is completed, and what follows then.
+#[tactic(auto, unfolding(ld_formats::specs::Activities::doing), using(ld_json::proofs::First::says_more))]
+fn doing_at(alloc: Global, node: &Node<'_>) -> Result<Doing, ReadFault>
     requires { IsObject node.now }
-    ensures value { IfOk result (λ complete. optional_of (codes "complete") activity_completion_of node.now.tree ≡ Some complete) }
-    ensures faultless { OnOk result (in_optional (codes "complete") activity_completion_faults node.now ≡ []) }
-    ensures first { IfErr result (SaysFirst (in_optional (codes "complete") activity_completion_faults node.now)) }
+    ensures { Answers (doing.shape.reading node.now) result }
 {
-    let Some(member) = node.optional("complete") else {
-        return Ok(None);
-    };
-    let complete = read_activity_completion(alloc, &member)?;
-    Ok(Some(complete))
+    let items = list_at::<ItemShape>(alloc, node, "items")?;
+    let complete = optional_at::<ActivityCompletion>(alloc, node, "complete")?;
+    let follows = optional_at::<Follows>(alloc, node, "on-completion")?;
+    Ok((items, (complete, follows)))
+}
+
+/// The roles that an activity of this kind supports; a learning activity supports nobody.
+fn supports_at(
+    alloc: Global,
+    node: &Node<'_>,
+    kind: ActivityKind,
+) -> Result<ReferenceList, ReadFault>
+    requires { IsObject node.now }
+    ensures { Answers ((supports_by kind).shape.reading node.now) result }
+{
+    match kind {
+        ActivityKind::Learning => Ok(Items::new(alloc)),
+        ActivityKind::Support => list_at::<Identifier>(alloc, node, "supports"),
+    }
 }

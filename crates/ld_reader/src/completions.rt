@@ -1,111 +1,94 @@
-//! When things are completed, and what follows.
-ghost use Rattle.std.specs.Prelude.{◌≡◌, [], Some, IfOk, OnOk, IfErr, codes};
+//! When an activity is completed, and what an activity, an act, a play and the unit have in common there.
+ghost use Rattle.ld_formats.specs.Cases.{value_text};
+ghost use Rattle.ld_formats.specs.Completions.{value_set, activity_completion, common_cases};
 ghost use Rattle.ld_json.specs.Access.{IsObject};
-ghost use Rattle.ld_json.specs.Fault.{SaysFirst};
-ghost use Rattle.ld_json.specs.Walk.{in_member};
-ghost use Rattle.ld_reader.specs.Completions.{activity_completion_of, activity_completion_faults, user_choice_of, time_limit_of, on_completion_of, on_completion_faults};
-ghost use Rattle.ld_reader.specs.Forms.{seconds_of, true_of};
-ghost use Rattle.ld_reader.specs.Walks.{member_of, leaf_faults, left_out};
+ghost use Rattle.ld_shape.specs.Reading.{Answers};
+ghost use Rattle.ld_shape.specs.Soles.{chosen};
 
-use crate::lists::list_at;
-use crate::members::absent_at;
-use crate::part::Part;
-use crate::values::{read_seconds, read_true};
-use ld_base::items::Items;
+use ld_base::id::Id;
+use ld_base::plain_text::PlainText;
 use ld_json::code::Code;
 use ld_json::fault::ReadFault;
 use ld_json::node::Node;
-use ld_model::completion::{Completion, OnCompletion};
-use ld_model::item::Item;
+use ld_model::completion::Completion;
+use ld_shape::members::{needed_at, optional_at};
+use ld_shape::reads::Reads;
+use ld_shape::texts::{Identifier, Seconds};
+use ld_shape::values::True;
 use std::alloc::Global;
 
-/// When an activity is completed: an object of one member, which is `user-choice` or `time-limit`.
-/// `wrong-shape` exactly where it is no such object, `unknown-member` where the member has another
-/// name; `when-property-value-is-set` is `not-in-profile`, at the member.
-#[tactic(auto, unfolding(crate::specs::Completions::activity_completion_of, crate::specs::Completions::activity_completion_faults), using(ld_json::proofs::First::first_of_both))]
-pub fn read_activity_completion(alloc: Global, node: &Node<'_>) -> Result<Completion, ReadFault>
-    ensures value { IfOk result (λ completion. activity_completion_of node.now.tree ≡ Some completion) }
-    ensures faultless { OnOk result (activity_completion_faults node.now ≡ []) }
-    ensures first { IfErr result (SaysFirst (activity_completion_faults node.now)) }
-{
-    match node.sole(alloc)? {
-        "user-choice" => {
-            let completion = user_choice_at(alloc, node)?;
-            Ok(completion)
+/// The text of a value.
+pub struct ValueText;
+
+impl Reads for ValueText {
+    type Value = PlainText;
+
+    ghost shape = { value_text };
+
+    fn read(alloc: Global, node: &Node<'_>) -> Result<PlainText, ReadFault> {
+        let text = node.text(alloc)?;
+        let own = PlainText::of(alloc, text)?;
+        Ok(own)
+    }
+}
+
+/// A property, and the text of the value that it is to have, if just one will do.
+pub struct ValueSet;
+
+impl Reads for ValueSet {
+    type Value = (Id, Option<PlainText>);
+
+    ghost shape = { value_set };
+
+    #[tactic(auto, unfolding(ld_formats::specs::Completions::value_set), using(ld_json::proofs::First::says_more))]
+    fn read(alloc: Global, node: &Node<'_>) -> Result<(Id, Option<PlainText>), ReadFault> {
+        node.only(alloc, &["property", "value"])?;
+        let property = needed_at::<Identifier>(alloc, node, "property")?;
+        let value = optional_at::<ValueText>(alloc, node, "value")?;
+        Ok((property, value))
+    }
+}
+
+/// When an activity is completed.
+pub struct ActivityCompletion;
+
+impl Reads for ActivityCompletion {
+    type Value = Completion;
+
+    ghost shape = { activity_completion };
+
+    #[tactic(auto, unfolding(ld_formats::specs::Completions::activity_completion), using(ld_json::proofs::First::says_more))]
+    fn read(alloc: Global, node: &Node<'_>) -> Result<Completion, ReadFault> {
+        match node.sole(alloc)? {
+            "user-choice" => {
+                needed_at::<True>(alloc, node, "user-choice")?;
+                Ok(Completion::UserChoice)
+            }
+            name => read_common(alloc, node, name),
         }
+    }
+}
+
+/// When a thing is completed, of whose object the only member has this name, if it is one that all
+/// things may have.
+#[tactic(auto, unfolding(ld_formats::specs::Completions::common_cases), using(ld_json::proofs::First::says_more))]
+pub fn read_common(alloc: Global, node: &Node<'_>, name: &str) -> Result<Completion, ReadFault>
+    requires { IsObject node.now }
+    ensures { Answers (chosen common_cases node.now name.now) result }
+{
+    match name {
         "time-limit" => {
-            let completion = time_limit_at(alloc, node)?;
-            Ok(completion)
+            let seconds = needed_at::<Seconds>(alloc, node, "time-limit")?;
+            Ok(Completion::TimeLimit(seconds))
         }
         "when-property-value-is-set" => {
-            Err(left_out_at(alloc, node, "when-property-value-is-set"))
+            let (property, value) = needed_at::<ValueSet>(
+                alloc,
+                node,
+                "when-property-value-is-set",
+            )?;
+            Ok(Completion::WhenPropertyValueIsSet(property, value))
         }
         _ => Err(node.fault(alloc, Code::UnknownMember)),
-    }
-}
-
-/// The completion of the member `user-choice`, which has to be true.
-fn user_choice_at(alloc: Global, node: &Node<'_>) -> Result<Completion, ReadFault>
-    requires { IsObject node.now }
-    ensures value { IfOk result (λ completion. member_of (codes "user-choice") user_choice_of node.now.tree ≡ Some completion) }
-    ensures faultless { OnOk result (in_member (codes "user-choice") (leaf_faults true_of) node.now ≡ []) }
-    ensures first { IfErr result (SaysFirst (in_member (codes "user-choice") (leaf_faults true_of) node.now)) }
-{
-    let member = node.member(alloc, "user-choice")?;
-    let _ = read_true(alloc, &member)?;
-    Ok(Completion::UserChoice)
-}
-
-/// The completion of the member `time-limit`, which has to be the text of a duration.
-pub fn time_limit_at(alloc: Global, node: &Node<'_>) -> Result<Completion, ReadFault>
-    requires { IsObject node.now }
-    ensures value { IfOk result (λ completion. member_of (codes "time-limit") time_limit_of node.now.tree ≡ Some completion) }
-    ensures faultless { OnOk result (in_member (codes "time-limit") (leaf_faults seconds_of) node.now ≡ []) }
-    ensures first { IfErr result (SaysFirst (in_member (codes "time-limit") (leaf_faults seconds_of) node.now)) }
-{
-    let member = node.member(alloc, "time-limit")?;
-    let seconds = read_seconds(alloc, &member)?;
-    Ok(Completion::TimeLimit(seconds))
-}
-
-/// The refusal of the member of this name, which this engine leaves out: `not-in-profile` at its
-/// place, or `missing` where it is not there.
-pub fn left_out_at(alloc: Global, node: &Node<'_>, name: &str) -> ReadFault
-    requires { IsObject node.now }
-    ensures { SaysFirst (in_member name.now left_out node.now) result }
-{
-    match node.member(alloc, name) {
-        Ok(member) => member.fault(alloc, Code::NotInProfile),
-        Err(fault) => fault,
-    }
-}
-
-/// What follows when a thing is completed, an object whose members are `feedback`, `change` and
-/// `notify`. The last two are left out of this engine so far, and `not-in-profile` at their places.
-#[tactic(auto, unfolding(crate::specs::Completions::on_completion_of, crate::specs::Completions::on_completion_faults, crate::specs::Walks::only), using(ld_json::proofs::First::first_of_both))]
-pub fn read_on_completion(alloc: Global, node: &Node<'_>) -> Result<OnCompletion, ReadFault>
-    ensures value { IfOk result (λ follows. on_completion_of node.now.tree ≡ Some follows) }
-    ensures faultless { OnOk result (on_completion_faults node.now ≡ []) }
-    ensures first { IfErr result (SaysFirst (on_completion_faults node.now)) }
-{
-    node.only(alloc, &["feedback", "change", "notify"])?;
-    let feedback = list_at::<Item>(alloc, node, "feedback")?;
-    absent_at(alloc, node, "change")?;
-    absent_at(alloc, node, "notify")?;
-    Ok(OnCompletion {
-        feedback,
-        change: Items::new(alloc),
-        notify: Items::new(alloc),
-    })
-}
-
-impl Part for OnCompletion {
-    ghost of = { on_completion_of };
-
-    ghost faults = { on_completion_faults };
-
-    fn read(alloc: Global, node: &Node<'_>) -> Result<OnCompletion, ReadFault> {
-        let follows = read_on_completion(alloc, node)?;
-        Ok(follows)
     }
 }

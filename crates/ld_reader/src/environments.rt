@@ -1,44 +1,46 @@
 //! Environments, and the learning objects and services in them.
-ghost use Rattle.ld_reader.specs.Environments.{object_of, object_faults, service_words, service_of, service_faults, environment_of, environment_faults};
-ghost use Rattle.ld_reader.specs.Forms.{word_of};
-ghost use Rattle.ld_reader.specs.Walks.{leaf_faults};
+ghost use Rattle.ld_formats.specs.Environments.{learning_object, service_words, service, environment};
+ghost use Rattle.ld_shape.specs.Words.{one_of};
 
-use crate::lists::list_at;
-use crate::members::{default_at, member_at, title_at};
-use crate::part::Part;
-use ld_base::id::Id;
+use crate::items::ItemShape;
 use ld_json::code::Code;
 use ld_json::fault::ReadFault;
 use ld_json::node::Node;
 use ld_model::environment::{Environment, LearningObject, Service, ServiceKind};
-use ld_model::item::Item;
+use ld_shape::lists::list_at;
+use ld_shape::members::{default_at, needed_at, optional_at};
+use ld_shape::reads::Reads;
+use ld_shape::texts::{Identifier, Title};
+use ld_shape::values::Flag;
 use std::alloc::Global;
 
-impl Part for LearningObject {
-    ghost of = { object_of };
+/// A learning object.
+pub struct ObjectShape;
 
-    ghost faults = { object_faults };
+impl Reads for ObjectShape {
+    type Value = LearningObject;
 
-    #[tactic(auto, unfolding(crate::specs::Environments::object_of, crate::specs::Environments::object_faults, crate::specs::Walks::only), using(ld_json::proofs::First::first_of_both))]
+    ghost shape = { learning_object };
+
+    #[tactic(auto, unfolding(ld_formats::specs::Environments::learning_object), using(ld_json::proofs::First::says_more))]
     fn read(alloc: Global, node: &Node<'_>) -> Result<LearningObject, ReadFault> {
         node.only(alloc, &["identifier", "title", "visible", "items"])?;
-        let identifier = member_at::<Id>(alloc, node, "identifier")?;
-        let title = title_at(alloc, node, "title")?;
-        let visible = default_at::<bool>(alloc, node, "visible", true)?;
-        let items = list_at::<Item>(alloc, node, "items")?;
         Ok(LearningObject {
-            identifier,
-            title,
-            visible,
-            items,
+            identifier: needed_at::<Identifier>(alloc, node, "identifier")?,
+            title: optional_at::<Title>(alloc, node, "title")?,
+            visible: default_at::<Flag>(alloc, node, "visible", true)?,
+            items: list_at::<ItemShape>(alloc, node, "items")?,
         })
     }
 }
 
-impl Part for ServiceKind {
-    ghost of = { word_of service_words };
+/// The kind of a service.
+pub struct ServiceWord;
 
-    ghost faults = { leaf_faults (word_of service_words) };
+impl Reads for ServiceWord {
+    type Value = ServiceKind;
+
+    ghost shape = { one_of service_words };
 
     fn read(alloc: Global, node: &Node<'_>) -> Result<ServiceKind, ReadFault> {
         match node.text(alloc)? {
@@ -51,33 +53,35 @@ impl Part for ServiceKind {
     }
 }
 
-impl Part for Service {
-    ghost of = { service_of };
+/// A service.
+pub struct ServiceShape;
 
-    ghost faults = { service_faults };
+impl Reads for ServiceShape {
+    type Value = Service;
 
-    #[tactic(auto, unfolding(crate::specs::Environments::service_of, crate::specs::Environments::service_faults, crate::specs::Walks::only), using(ld_json::proofs::First::first_of_both))]
+    ghost shape = { service };
+
+    #[tactic(auto, unfolding(ld_formats::specs::Environments::service), using(ld_json::proofs::First::says_more))]
     fn read(alloc: Global, node: &Node<'_>) -> Result<Service, ReadFault> {
         node.only(alloc, &["identifier", "kind", "title", "visible"])?;
-        let identifier = member_at::<Id>(alloc, node, "identifier")?;
-        let kind = member_at::<ServiceKind>(alloc, node, "kind")?;
-        let title = title_at(alloc, node, "title")?;
-        let visible = default_at::<bool>(alloc, node, "visible", true)?;
         Ok(Service {
-            identifier,
-            kind,
-            title,
-            visible,
+            identifier: needed_at::<Identifier>(alloc, node, "identifier")?,
+            kind: needed_at::<ServiceWord>(alloc, node, "kind")?,
+            title: optional_at::<Title>(alloc, node, "title")?,
+            visible: default_at::<Flag>(alloc, node, "visible", true)?,
         })
     }
 }
 
-impl Part for Environment {
-    ghost of = { environment_of };
+/// An environment.
+pub struct EnvironmentShape;
 
-    ghost faults = { environment_faults };
+impl Reads for EnvironmentShape {
+    type Value = Environment;
 
-    #[tactic(auto, unfolding(crate::specs::Environments::environment_of, crate::specs::Environments::environment_faults, crate::specs::Walks::only), using(ld_json::proofs::First::first_of_both))]
+    ghost shape = { environment };
+
+    #[tactic(auto, unfolding(ld_formats::specs::Environments::environment), using(ld_json::proofs::First::says_more))]
     fn read(alloc: Global, node: &Node<'_>) -> Result<Environment, ReadFault> {
         node.only(
             alloc,
@@ -90,19 +94,13 @@ impl Part for Environment {
                 "environments",
             ],
         )?;
-        let identifier = member_at::<Id>(alloc, node, "identifier")?;
-        let title = title_at(alloc, node, "title")?;
-        let visible = default_at::<bool>(alloc, node, "visible", true)?;
-        let learning_objects = list_at::<LearningObject>(alloc, node, "learning-objects")?;
-        let services = list_at::<Service>(alloc, node, "services")?;
-        let environments = list_at::<Id>(alloc, node, "environments")?;
         Ok(Environment {
-            identifier,
-            title,
-            visible,
-            learning_objects,
-            services,
-            environments,
+            identifier: needed_at::<Identifier>(alloc, node, "identifier")?,
+            title: optional_at::<Title>(alloc, node, "title")?,
+            visible: default_at::<Flag>(alloc, node, "visible", true)?,
+            learning_objects: list_at::<ObjectShape>(alloc, node, "learning-objects")?,
+            services: list_at::<ServiceShape>(alloc, node, "services")?,
+            environments: list_at::<Identifier>(alloc, node, "environments")?,
         })
     }
 }

@@ -1,31 +1,31 @@
-//! Items and references.
-ghost use Rattle.ld_reader.specs.Items.{item_of, item_faults};
+//! Items.
+ghost use Rattle.ld_formats.specs.Items.{item};
 
-use crate::members::{default_at, href_at, member_at, title_at};
-use crate::part::Part;
-use ld_base::id::Id;
 use ld_json::fault::ReadFault;
 use ld_json::node::Node;
 use ld_model::item::Item;
+use ld_shape::members::{default_at, needed_at, optional_at};
+use ld_shape::reads::Reads;
+use ld_shape::texts::{Href, Identifier, Title};
+use ld_shape::values::Flag;
 use std::alloc::Global;
 
-impl Part for Item {
-    ghost of = { item_of };
+/// An item.
+pub struct ItemShape;
 
-    ghost faults = { item_faults };
+impl Reads for ItemShape {
+    type Value = Item;
 
-    #[tactic(auto, unfolding(crate::specs::Items::item_of, crate::specs::Items::item_faults, crate::specs::Walks::only), using(ld_json::proofs::First::first_of_both))]
+    ghost shape = { item };
+
+    #[tactic(auto, unfolding(ld_formats::specs::Items::item), using(ld_json::proofs::First::says_more))]
     fn read(alloc: Global, node: &Node<'_>) -> Result<Item, ReadFault> {
         node.only(alloc, &["identifier", "href", "title", "visible"])?;
-        let identifier = member_at::<Id>(alloc, node, "identifier")?;
-        let href = href_at(alloc, node, "href")?;
-        let title = title_at(alloc, node, "title")?;
-        let visible = default_at::<bool>(alloc, node, "visible", true)?;
         Ok(Item {
-            identifier,
-            href,
-            title,
-            visible,
+            identifier: needed_at::<Identifier>(alloc, node, "identifier")?,
+            href: needed_at::<Href>(alloc, node, "href")?,
+            title: optional_at::<Title>(alloc, node, "title")?,
+            visible: default_at::<Flag>(alloc, node, "visible", true)?,
         })
     }
 }

@@ -1,37 +1,136 @@
-//! The parts of a unit that stand in the documents before its own.
-ghost use Rattle.std.specs.Prelude.{◌≡◌, [], true, Some, IsSome, IfOk, OnOk, IfErr};
-ghost use Rattle.ld_base.specs.Maybe.{◌>>=◌ as ◌then◌};
-ghost use Rattle.ld_json.specs.Fault.{SaysFirst};
-ghost use Rattle.ld_json.specs.declared.file.FileNo.TheVariants.{Roles, Properties, Environments, Activities};
-ghost use Rattle.ld_model.specs.WellFormed.{has_formed_parts};
-ghost use Rattle.ld_reader.specs.Documents.{HasRequired, tree_of, document_or, in_document, roles_in, roles_faults, properties_in, properties_faults, environments_in, environments_faults, activities_in, activities_faults, parts_in, parts_faults};
+//! The documents of roles, properties, environments and activities, and the parts of a unit that
+//! they tell.
+ghost use Rattle.std.specs.Prelude.{◌≡◌, true, IfOk};
+ghost use Rattle.ld_formats.specs.Environments.{environments_document};
+ghost use Rattle.ld_formats.specs.Properties.{properties_document};
+ghost use Rattle.ld_formats.specs.Roles.{roles_document};
+ghost use Rattle.ld_formats.specs.Structures.{activities_document};
+ghost use Rattle.ld_formats.specs.Units.{parts};
+ghost use Rattle.ld_shape.specs.Reading.{Answers};
 
-use crate::documents::{read_activities, read_environments, read_properties, read_roles};
+use crate::activities::ActivityShape;
+use crate::environments::EnvironmentShape;
+use crate::properties::PropertyShape;
+use crate::roles::RoleShape;
+use crate::structures::StructureShape;
 use ld_base::items::Items;
 use ld_json::docs::Docs;
 use ld_json::fault::ReadFault;
 use ld_json::file::FileNo;
+use ld_json::node::Node;
 use ld_model::activity::{ActivityList, StructureList};
 use ld_model::environment::EnvironmentList;
 use ld_model::property::PropertyList;
 use ld_model::role::RoleList;
 use ld_model::unit::Parts;
+use ld_shape::documents::{read_document_or, read_required};
+use ld_shape::lists::{ListOf, list_at};
+use ld_shape::members::needed_at;
+use ld_shape::reads::Reads;
 use std::alloc::Global;
 
-/// The roles, properties, environments, activities and structures of the documents.
-#[tactic(auto, unfolding(crate::specs::Documents::parts_in, crate::specs::Documents::parts_faults), using(ld_json::proofs::First::first_of_both))]
+/// The document of roles.
+pub struct RolesDocument;
+
+impl Reads for RolesDocument {
+    type Value = RoleList;
+
+    ghost shape = { roles_document };
+
+    #[tactic(auto, unfolding(ld_formats::specs::Roles::roles_document), using(ld_json::proofs::First::says_more))]
+    fn read(alloc: Global, node: &Node<'_>) -> Result<RoleList, ReadFault> {
+        node.only(alloc, &["roles"])?;
+        let roles = needed_at::<ListOf<RoleShape, 1>>(alloc, node, "roles")?;
+        Ok(roles)
+    }
+}
+
+/// The document of properties.
+pub struct PropertiesDocument;
+
+impl Reads for PropertiesDocument {
+    type Value = PropertyList;
+
+    ghost shape = { properties_document };
+
+    #[tactic(auto, unfolding(ld_formats::specs::Properties::properties_document), using(ld_json::proofs::First::says_more))]
+    fn read(alloc: Global, node: &Node<'_>) -> Result<PropertyList, ReadFault> {
+        node.only(alloc, &["properties"])?;
+        let properties = list_at::<PropertyShape>(alloc, node, "properties")?;
+        Ok(properties)
+    }
+}
+
+/// The document of environments.
+pub struct EnvironmentsDocument;
+
+impl Reads for EnvironmentsDocument {
+    type Value = EnvironmentList;
+
+    ghost shape = { environments_document };
+
+    #[tactic(auto, unfolding(ld_formats::specs::Environments::environments_document), using(ld_json::proofs::First::says_more))]
+    fn read(alloc: Global, node: &Node<'_>) -> Result<EnvironmentList, ReadFault> {
+        node.only(alloc, &["environments"])?;
+        let environments = list_at::<EnvironmentShape>(alloc, node, "environments")?;
+        Ok(environments)
+    }
+}
+
+/// The document of activities and structures.
+pub struct ActivitiesDocument;
+
+impl Reads for ActivitiesDocument {
+    type Value = (ActivityList, StructureList);
+
+    ghost shape = { activities_document };
+
+    #[tactic(auto, unfolding(ld_formats::specs::Structures::activities_document), using(ld_json::proofs::First::says_more))]
+    fn read(alloc: Global, node: &Node<'_>) -> Result<(ActivityList, StructureList), ReadFault> {
+        node.only(alloc, &["activities", "structures"])?;
+        let activities = list_at::<ActivityShape>(alloc, node, "activities")?;
+        let structures = list_at::<StructureShape>(alloc, node, "structures")?;
+        Ok((activities, structures))
+    }
+}
+
+/// The roles, properties, environments, activities and structures of the documents, each member of
+/// which has its form. (docs/FORMATS.md, "Documents")
+///
+/// # Errors
+/// The first fault of shape of these documents, in the order of the files, and `NoMemory`.
+#[tactic(auto, using(crate::proofs::Formed::answers_formed))]
 pub fn read_parts(alloc: Global, docs: &Docs) -> Result<Parts, ReadFault>
-    requires { HasRequired docs.now }
-    ensures value { IfOk result (λ parts. parts_in docs.now ≡ Some parts) }
-    ensures formed { IfOk result (λ parts. has_formed_parts parts.roles parts.environments parts.activities parts.structures ≡ true) }
-    ensures no_properties { IfOk result (λ parts. parts.properties ≡ []) }
-    ensures faultless { OnOk result (parts_faults docs.now ≡ []) }
-    ensures first { IfErr result (SaysFirst (parts_faults docs.now)) }
+    ensures answer { Answers (parts.reading docs.now) result }
+    ensures formed { IfOk result (λ read. parts.has_form read ≡ true) }
 {
-    let roles = roles_of(alloc, docs)?;
-    let properties = properties_of(alloc, docs)?;
-    let environments = environments_of(alloc, docs)?;
-    let (activities, structures) = activities_of(alloc, docs)?;
+    read_documents(alloc, docs)
+}
+
+/// What the documents tell, document by document. Those of properties and of environments may be
+/// absent: then there are none.
+#[tactic(auto, unfolding(ld_formats::specs::Units::parts), using(ld_json::proofs::First::says_more))]
+fn read_documents(alloc: Global, docs: &Docs) -> Result<Parts, ReadFault>
+    ensures { Answers (parts.reading docs.now) result }
+{
+    let roles = read_required::<RolesDocument>(alloc, docs, FileNo::Roles)?;
+    let properties = read_document_or::<PropertiesDocument>(
+        alloc,
+        docs,
+        FileNo::Properties,
+        Items::new(alloc),
+    )?;
+    let environments = read_document_or::<EnvironmentsDocument>(
+        alloc,
+        docs,
+        FileNo::Environments,
+        Items::new(alloc),
+    )?;
+    let (activities, structures) = read_required::<ActivitiesDocument>(
+        alloc,
+        docs,
+        FileNo::Activities,
+    )?;
     Ok(Parts {
         roles,
         properties,
@@ -39,58 +138,4 @@ pub fn read_parts(alloc: Global, docs: &Docs) -> Result<Parts, ReadFault>
         activities,
         structures,
     })
-}
-
-/// The roles, whose document is there.
-fn roles_of(alloc: Global, docs: &Docs) -> Result<RoleList, ReadFault>
-    requires { IsSome (tree_of docs.now Roles) }
-    ensures value { IfOk result (λ roles. (tree_of docs.now Roles then roles_in) ≡ Some roles) }
-    ensures faultless { OnOk result (in_document Roles roles_faults docs.now ≡ []) }
-    ensures first { IfErr result (SaysFirst (in_document Roles roles_faults docs.now)) }
-{
-    let Some(document) = docs.get(FileNo::Roles) else {
-        unreachable!();
-    };
-    let roles = read_roles(alloc, &document.root(FileNo::Roles))?;
-    Ok(roles)
-}
-
-/// The properties; none where their document is absent.
-fn properties_of(alloc: Global, docs: &Docs) -> Result<PropertyList, ReadFault>
-    ensures value { IfOk result (λ properties. document_or [] properties_in docs.now Properties ≡ Some properties) }
-    ensures faultless { OnOk result (in_document Properties properties_faults docs.now ≡ []) }
-    ensures first { IfErr result (SaysFirst (in_document Properties properties_faults docs.now)) }
-{
-    let Some(document) = docs.get(FileNo::Properties) else {
-        return Ok(Items::new(alloc));
-    };
-    let properties = read_properties(alloc, &document.root(FileNo::Properties))?;
-    Ok(properties)
-}
-
-/// The environments; none where their document is absent.
-fn environments_of(alloc: Global, docs: &Docs) -> Result<EnvironmentList, ReadFault>
-    ensures value { IfOk result (λ environments. document_or [] environments_in docs.now Environments ≡ Some environments) }
-    ensures faultless { OnOk result (in_document Environments environments_faults docs.now ≡ []) }
-    ensures first { IfErr result (SaysFirst (in_document Environments environments_faults docs.now)) }
-{
-    let Some(document) = docs.get(FileNo::Environments) else {
-        return Ok(Items::new(alloc));
-    };
-    let environments = read_environments(alloc, &document.root(FileNo::Environments))?;
-    Ok(environments)
-}
-
-/// The activities and the structures, whose document is there.
-fn activities_of(alloc: Global, docs: &Docs) -> Result<(ActivityList, StructureList), ReadFault>
-    requires { IsSome (tree_of docs.now Activities) }
-    ensures value { IfOk result (λ both. (tree_of docs.now Activities then activities_in) ≡ Some (both.0, both.1)) }
-    ensures faultless { OnOk result (in_document Activities activities_faults docs.now ≡ []) }
-    ensures first { IfErr result (SaysFirst (in_document Activities activities_faults docs.now)) }
-{
-    let Some(document) = docs.get(FileNo::Activities) else {
-        unreachable!();
-    };
-    let both = read_activities(alloc, &document.root(FileNo::Activities))?;
-    Ok(both)
 }

@@ -1,28 +1,33 @@
 //! Roles, and the roles within them.
-ghost use Rattle.std.specs.Prelude.{◌≡◌, ◌∷◌, [], codes, Some, IfOk, OnOk, IfErr};
-ghost use Rattle.ld_json.specs.Access.{IsObject};
+ghost use Rattle.std.specs.Prelude.{◌≡◌, codes, [], length, IfOk, IfErr};
+ghost use Rattle.ld_formats.specs.Roles.{creation, inner_role, inner_step, kind_words, match_words, role, role_kind, role_of};
+ghost use Rattle.ld_json.specs.Access.{IsArray, IsObject, item_nodes};
 ghost use Rattle.ld_json.specs.Fault.{SaysFirst};
-ghost use Rattle.ld_model.specs.RoleRows.{rows_within};
-ghost use Rattle.ld_reader.specs.Forms.{identifier_of, word_of};
-ghost use Rattle.ld_reader.specs.RoleNodes.{inner_node_faults, inner_part_faults, outer_part_faults, roles_at, in_roles, rows_of, outer_rows_of};
-ghost use Rattle.ld_reader.specs.Roles.{kind_words, match_words, creation_words, creation_faults, row_of, row_faults, inner_role, role_of, role_faults};
-ghost use Rattle.ld_reader.specs.Walks.{leaf_faults, member_of, list_of, in_list};
+ghost use Rattle.ld_shape.specs.Lists.{each, list_of};
+ghost use Rattle.ld_shape.specs.Objects.{read_or};
+ghost use Rattle.ld_shape.specs.Reading.{Answers, Gives};
+ghost use Rattle.ld_shape.specs.Recursion.{shape_of};
+ghost use Rattle.ld_shape.specs.Words.{one_of};
 
-use crate::lists::count_from;
-use crate::members::{default_at, member_at, number_at, number_or, title_at};
-use crate::part::Part;
-use ld_base::id::Id;
-use ld_base::plain_text::PlainText;
+use ld_base::memory::NoMemory;
 use ld_json::code::Code;
 use ld_json::fault::ReadFault;
 use ld_json::node::Node;
 use ld_model::role::{CreateNew, MatchPersons, Role, RoleKind};
+use ld_shape::lists::count_from;
+use ld_shape::members::{default_at, known_at, needed_at, optional_at};
+use ld_shape::reads::Reads;
+use ld_shape::texts::{Identifier, Title};
+use ld_shape::values::Number;
 use std::alloc::Global;
 
-impl Part for RoleKind {
-    ghost of = { word_of kind_words };
+/// The kind of a role.
+pub struct KindWord;
 
-    ghost faults = { leaf_faults (word_of kind_words) };
+impl Reads for KindWord {
+    type Value = RoleKind;
+
+    ghost shape = { one_of kind_words };
 
     fn read(alloc: Global, node: &Node<'_>) -> Result<RoleKind, ReadFault> {
         match node.text(alloc)? {
@@ -33,10 +38,13 @@ impl Part for RoleKind {
     }
 }
 
-impl Part for MatchPersons {
-    ghost of = { word_of match_words };
+/// Whether members may hold other roles.
+pub struct MatchWord;
 
-    ghost faults = { leaf_faults (word_of match_words) };
+impl Reads for MatchWord {
+    type Value = MatchPersons;
+
+    ghost shape = { one_of match_words };
 
     fn read(alloc: Global, node: &Node<'_>) -> Result<MatchPersons, ReadFault> {
         match node.text(alloc)? {
@@ -47,11 +55,13 @@ impl Part for MatchPersons {
     }
 }
 
-/// New occurrences of roles are left out of this engine so far: `allowed` is `not-in-profile`.
-impl Part for CreateNew {
-    ghost of = { word_of creation_words };
+/// Whether occurrences may be made.
+pub struct CreationWord;
 
-    ghost faults = { creation_faults };
+impl Reads for CreationWord {
+    type Value = CreateNew;
+
+    ghost shape = { creation };
 
     fn read(alloc: Global, node: &Node<'_>) -> Result<CreateNew, ReadFault> {
         match node.text(alloc)? {
@@ -62,86 +72,67 @@ impl Part for CreateNew {
     }
 }
 
-impl Part for Role {
-    ghost of = { role_of };
+/// A number of persons.
+pub type Persons = Number<0, 1_000_000>;
 
-    ghost faults = { role_faults };
+/// A role at the top, and the roles within it.
+pub struct RoleShape;
 
-    #[tactic(auto, unfolding(crate::specs::RoleNodes::outer_rows_of, crate::specs::RoleNodes::rows_of, crate::specs::RoleNodes::outer_part_faults), using(ld_json::proofs::First::first_of_both))]
+impl Reads for RoleShape {
+    type Value = Role;
+
+    ghost shape = { role };
+
+    #[tactic(auto, unfolding(ld_formats::specs::Roles::role), using(ld_json::proofs::First::says_more))]
     fn read(alloc: Global, node: &Node<'_>) -> Result<Role, ReadFault> {
-        only_outer(alloc, node)?;
-        let identifier = member_at::<Id>(alloc, node, "identifier")?;
-        let kind = member_at::<RoleKind>(alloc, node, "kind")?;
-        let row = read_row(alloc, node, identifier, kind)?;
-        let roles = roles_within(alloc, node, kind)?;
-        Ok(row.with(roles))
+        let kind = kind_of(alloc, node)?;
+        read_role_of(alloc, node, kind)
     }
 }
 
-/// A role without the roles within it.
-#[derive(Drop)]
-struct Row {
-    identifier: Id,
-    kind: RoleKind,
-    title: Option<PlainText>,
-    create_new: CreateNew,
-    match_persons: MatchPersons,
-    min_persons: u32,
-    max_persons: Option<u32>,
-}
-
-impl Row {
-    /// The role with these roles within it.
-    fn with(self, roles: Vec<Role>) -> Role
-        ensures { result ≡ record { identifier = self.identifier; kind = self.kind; title = self.title; create_new = self.create_new; match_persons = self.match_persons; min_persons = self.min_persons; max_persons = self.max_persons; depth = 0 } ∷ rows_within roles.items }
-    {
-        let Row {
-            identifier,
-            kind,
-            title,
-            create_new,
-            match_persons,
-            min_persons,
-            max_persons,
-        } = self;
-        Role {
-            identifier,
-            kind,
-            title,
-            create_new,
-            match_persons,
-            min_persons,
-            max_persons,
-            roles,
-        }
-    }
-}
-
-/// The row of the role of this kind whose identifier is read already.
-#[tactic(auto, unfolding(crate::specs::Roles::row_of, crate::specs::Roles::row_faults), using(ld_json::proofs::First::first_of_both))]
-fn read_row(
-    alloc: Global,
-    node: &Node<'_>,
-    identifier: Id,
-    kind: RoleKind,
-) -> Result<Row, ReadFault>
-    requires object { IsObject node.now }
-    requires identified { member_of (codes "identifier") identifier_of node.now.tree ≡ Some identifier }
-    ensures value { IfOk result (λ row. row_of kind node.now.tree ≡ Some (record { identifier = row.identifier; kind = row.kind; title = row.title; create_new = row.create_new; match_persons = row.match_persons; min_persons = row.min_persons; max_persons = row.max_persons; depth = 0 })) }
-    ensures faultless { OnOk result (row_faults node.now ≡ []) }
-    ensures first { IfErr result (SaysFirst (row_faults node.now)) }
+/// The kind of the role at the node; learner where the node tells none.
+fn kind_of(alloc: Global, node: &Node<'_>) -> Result<RoleKind, NoMemory>
+    ensures { IfOk result (λ kind. kind ≡ role_kind node.now) }
 {
-    let title = title_at(alloc, node, "title")?;
-    let create_new = default_at::<CreateNew>(alloc, node, "create-new", CreateNew::NotAllowed)?;
-    let match_persons = default_at::<MatchPersons>(
+    if !node.is_object() {
+        return Ok(RoleKind::Learner);
+    }
+    let known = known_at::<KindWord>(alloc, node, "kind")?;
+    Ok(known.unwrap_or(RoleKind::Learner))
+}
+
+/// A role at the top; the roles within it have this kind.
+#[tactic(auto, unfolding(ld_formats::specs::Roles::role_of, ld_formats::specs::Roles::told_members), using(ld_json::proofs::First::says_more))]
+fn read_role_of(alloc: Global, node: &Node<'_>, kind: RoleKind) -> Result<Role, ReadFault>
+    ensures { Answers ((role_of kind).reading node.now) result }
+{
+    node.only(
+        alloc,
+        &[
+            "identifier",
+            "kind",
+            "title",
+            "create-new",
+            "match-persons",
+            "min-persons",
+            "max-persons",
+            "roles",
+        ],
+    )?;
+    let identifier = needed_at::<Identifier>(alloc, node, "identifier")?;
+    needed_at::<KindWord>(alloc, node, "kind")?;
+    let title = optional_at::<Title>(alloc, node, "title")?;
+    let create_new = default_at::<CreationWord>(alloc, node, "create-new", CreateNew::NotAllowed)?;
+    let match_persons = default_at::<MatchWord>(
         alloc,
         node,
         "match-persons",
         MatchPersons::NotExclusively,
     )?;
-    let min_persons = number_or(alloc, node, "min-persons", 0, 0, 1_000_000)?;
-    let max_persons = number_at(alloc, node, "max-persons", 0, 1_000_000)?;
-    Ok(Row {
+    let min_persons = default_at::<Persons>(alloc, node, "min-persons", 0)?;
+    let max_persons = optional_at::<Persons>(alloc, node, "max-persons")?;
+    let roles = roles_at(alloc, node, kind)?;
+    Ok(Role {
         identifier,
         kind,
         title,
@@ -149,101 +140,104 @@ fn read_row(
         match_persons,
         min_persons,
         max_persons,
+        roles,
     })
 }
 
-/// That the node is an object whose members are those of a role at the top.
-#[tactic(auto, using(crate::proofs::RolesWithin::outer_first))]
-fn only_outer(alloc: Global, node: &Node<'_>) -> Result<(), ReadFault>
-    ensures object { OnOk result (IsObject node.now) }
-    ensures value { OnOk result (role_of node.now.tree ≡ outer_rows_of node.now.tree) }
-    ensures faults { OnOk result (role_faults node.now ≡ outer_part_faults node.now) }
-    ensures first { IfErr result (SaysFirst (role_faults node.now)) }
-{
-    node.only(
-        alloc,
-        &[
-            "kind",
-            "identifier",
-            "title",
-            "create-new",
-            "match-persons",
-            "min-persons",
-            "max-persons",
-            "roles",
-        ],
-    )?;
-    Ok(())
-}
-
-/// That the node is an object whose members are those of a role within another, which has no kind of
-/// its own.
-#[tactic(auto, using(crate::proofs::RolesWithin::inner_first))]
-fn only_inner(alloc: Global, node: &Node<'_>) -> Result<(), ReadFault>
-    ensures object { OnOk result (IsObject node.now) }
-    ensures value { OnOk result ((kind : RoleKind) → inner_role kind node.now.tree ≡ rows_of kind node.now.tree) }
-    ensures faults { OnOk result (inner_node_faults node.now ≡ inner_part_faults node.now) }
-    ensures first { IfErr result (SaysFirst (inner_node_faults node.now)) }
-{
-    node.only(
-        alloc,
-        &[
-            "identifier",
-            "title",
-            "create-new",
-            "match-persons",
-            "min-persons",
-            "max-persons",
-            "roles",
-        ],
-    )?;
-    Ok(())
-}
-
-/// The roles at the member `roles` of a role of this kind; none where it is absent.
+/// A role within one of this kind.
 #[cycle(roles)]
-#[tactic(auto, unfolding(crate::specs::RoleNodes::roles_at, crate::specs::RoleNodes::in_roles))]
-fn roles_within(alloc: Global, node: &Node<'_>, kind: RoleKind) -> Result<Vec<Role>, ReadFault>
+#[tactic(auto, using(ld_formats::proofs::Unrolled::inner_role_is))]
+fn read_inner(alloc: Global, node: &Node<'_>, kind: RoleKind) -> Result<Role, ReadFault>
+    ensures { Answers ((inner_role kind).reading node.now) result }
+{
+    read_one(alloc, &*node, kind)
+}
+
+/// A role within one of this kind, made of roles within it.
+#[cycle(roles)]
+#[tactic(auto, unfolding(ld_formats::specs::Roles::told_members), using(ld_json::proofs::First::says_more))]
+fn read_one(alloc: Global, node: &Node<'_>, kind: RoleKind) -> Result<Role, ReadFault>
+    ensures { Answers ((inner_step kind (inner_role kind)).reading node.now) result }
+{
+    node.only(
+        alloc,
+        &[
+            "identifier",
+            "title",
+            "create-new",
+            "match-persons",
+            "min-persons",
+            "max-persons",
+            "roles",
+        ],
+    )?;
+    let identifier = needed_at::<Identifier>(alloc, node, "identifier")?;
+    let title = optional_at::<Title>(alloc, node, "title")?;
+    let create_new = default_at::<CreationWord>(alloc, node, "create-new", CreateNew::NotAllowed)?;
+    let match_persons = default_at::<MatchWord>(
+        alloc,
+        node,
+        "match-persons",
+        MatchPersons::NotExclusively,
+    )?;
+    let min_persons = default_at::<Persons>(alloc, node, "min-persons", 0)?;
+    let max_persons = optional_at::<Persons>(alloc, node, "max-persons")?;
+    let roles = roles_at(alloc, node, kind)?;
+    Ok(Role {
+        identifier,
+        kind,
+        title,
+        create_new,
+        match_persons,
+        min_persons,
+        max_persons,
+        roles,
+    })
+}
+
+/// The roles of this kind at the member `roles`; none where it is absent.
+#[cycle(roles)]
+fn roles_at(alloc: Global, node: &Node<'_>, kind: RoleKind) -> Result<Vec<Role>, ReadFault>
     requires { IsObject node.now }
-    ensures value { IfOk result (λ roles. roles_at kind node.now.tree ≡ Some roles.items) }
-    ensures faultless { OnOk result (in_roles node.now ≡ []) }
-    ensures first { IfErr result (SaysFirst (in_roles node.now)) }
+    ensures value { IfOk result (λ roles. Gives (read_or (codes "roles") [] (list_of 0 (shape_of (inner_role kind))) node.now) roles.items) }
+    ensures first { IfErr result (SaysFirst (read_or (codes "roles") [] (list_of 0 (shape_of (inner_role kind))) node.now).faults) }
 {
     let Some(list) = node.optional("roles") else {
         return Ok(Vec::new(alloc));
     };
-    let roles = read_inner_list(alloc, &list, kind)?;
-    Ok(roles)
+    read_roles(alloc, &list, kind)
 }
 
 /// The roles of this kind in an array.
 #[cycle(roles)]
-#[tactic(auto, using(ld_json::proofs::First::first_of_both))]
-fn read_inner_list(alloc: Global, node: &Node<'_>, kind: RoleKind) -> Result<Vec<Role>, ReadFault>
-    ensures value { IfOk result (λ roles. list_of 0 (inner_role kind) node.now.tree ≡ Some roles.items) }
-    ensures faultless { OnOk result (in_list 0 inner_node_faults node.now ≡ []) }
-    ensures first { IfErr result (SaysFirst (in_list 0 inner_node_faults node.now)) }
+#[tactic(auto, using(ld_json::proofs::First::says_more))]
+fn read_roles(alloc: Global, node: &Node<'_>, kind: RoleKind) -> Result<Vec<Role>, ReadFault>
+    ensures value { IfOk result (λ roles. Gives ((list_of 0 (shape_of (inner_role kind))).reading node.now) roles.items) }
+    ensures first { IfErr result (SaysFirst ((list_of 0 (shape_of (inner_role kind))).reading node.now).faults) }
 {
     let count = count_from(alloc, node, 0)?;
+    let roles = read_each(alloc, node, count, kind)?;
+    Ok(roles)
+}
+
+/// The roles of this kind that are the elements of an array, which are so many.
+#[cycle(roles)]
+#[tactic(auto, using(ld_json::proofs::First::says_more, ld_json::proofs::Elements::drop_at, ld_shape::proofs::Passing::one_more))]
+fn read_each(
+    alloc: Global,
+    node: &Node<'_>,
+    count: usize,
+    kind: RoleKind,
+) -> Result<Vec<Role>, ReadFault>
+    requires array { IsArray node.now }
+    requires whole { count ≡ length (item_nodes node.now) }
+    ensures value { IfOk result (λ roles. Gives (each (shape_of (inner_role kind)) (item_nodes node.now)) roles.items) }
+    ensures first { IfErr result (SaysFirst (each (shape_of (inner_role kind)) (item_nodes node.now)).faults) }
+{
     let mut roles = Vec::new(alloc);
     for index in 0..count {
         let role = read_inner(alloc, &node.item(index), kind)?;
         roles.push(role)?;
     }
     Ok(roles)
-}
-
-/// A role within one of this kind.
-#[cycle(roles)]
-#[tactic(auto, unfolding(crate::specs::RoleNodes::rows_of, crate::specs::RoleNodes::inner_part_faults), using(ld_json::proofs::First::first_of_both))]
-fn read_inner(alloc: Global, node: &Node<'_>, kind: RoleKind) -> Result<Role, ReadFault>
-    ensures value { IfOk result (λ role. inner_role kind node.now.tree ≡ Some role) }
-    ensures faultless { OnOk result (inner_node_faults node.now ≡ []) }
-    ensures first { IfErr result (SaysFirst (inner_node_faults node.now)) }
-{
-    only_inner(alloc, node)?;
-    let identifier = member_at::<Id>(alloc, node, "identifier")?;
-    let row = read_row(alloc, node, identifier, kind)?;
-    let roles = roles_within(alloc, node, kind)?;
-    Ok(row.with(roles))
 }

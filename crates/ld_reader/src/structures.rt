@@ -1,29 +1,32 @@
 //! Structures of activities.
-ghost use Rattle.std.specs.Prelude.{◌≡◌, [], Some, IfOk, OnOk, IfErr};
-ghost use Rattle.std.specs.Option.{option_map};
-ghost use Rattle.serde_json.specs.Find.{as_array};
+ghost use Rattle.std.specs.Prelude.{◌≡◌, Some, OnOk, IfOk};
+ghost use Rattle.ld_formats.specs.Structures.{structure_words, structure_kind, count_of, children_count, from_one, some_selected, selected_by, content_by, structure_members, structure_by, structure};
 ghost use Rattle.ld_json.specs.Access.{IsObject};
-ghost use Rattle.ld_json.specs.Fault.{SaysFirst};
-ghost use Rattle.ld_reader.specs.Activities.{structure_words, structure_of, structure_faults, child_count as spec_count, number_up_to as spec_up_to, selected_of, selected_faults};
-ghost use Rattle.ld_reader.specs.Forms.{word_of};
-ghost use Rattle.ld_reader.specs.Walks.{leaf_faults, count_items};
+ghost use Rattle.ld_shape.specs.Forms.{number};
+ghost use Rattle.ld_shape.specs.Objects.{only_members};
+ghost use Rattle.ld_shape.specs.Reading.{Answers};
+ghost use Rattle.ld_shape.specs.Words.{one_of};
 
-use crate::lists::{list_at, some_at};
-use crate::members::{absent_at, default_at, member_at, title_at};
-use crate::part::Part;
-use crate::values::number_from;
-use ld_base::id::Id;
 use ld_base::memory::NoMemory;
 use ld_json::code::Code;
 use ld_json::fault::ReadFault;
 use ld_json::node::Node;
 use ld_model::activity::{Structure, StructureKind};
+use ld_model::item::ReferenceList;
+use ld_shape::lists::{ListOf, list_at};
+use ld_shape::members::{absent_at, default_at, known_at, needed_at, optional_at};
+use ld_shape::reads::Reads;
+use ld_shape::texts::{Identifier, Title};
+use ld_shape::values::Flag;
 use std::alloc::Global;
 
-impl Part for StructureKind {
-    ghost of = { word_of structure_words };
+/// The kind of a structure.
+pub struct StructureWord;
 
-    ghost faults = { leaf_faults (word_of structure_words) };
+impl Reads for StructureWord {
+    type Value = StructureKind;
+
+    ghost shape = { one_of structure_words };
 
     fn read(alloc: Global, node: &Node<'_>) -> Result<StructureKind, ReadFault> {
         match node.text(alloc)? {
@@ -34,127 +37,189 @@ impl Part for StructureKind {
     }
 }
 
-impl Part for Structure {
-    ghost of = { structure_of };
+/// A structure.
+pub struct StructureShape;
 
-    ghost faults = { structure_faults };
+impl Reads for StructureShape {
+    type Value = Structure;
 
-    #[tactic(auto, unfolding(crate::specs::Activities::structure_of, crate::specs::Activities::structure_faults, crate::specs::Walks::only), using(ld_json::proofs::First::first_of_both))]
+    ghost shape = { structure };
+
+    #[tactic(auto, unfolding(ld_formats::specs::Structures::structure), using(ld_json::proofs::First::says_more))]
     fn read(alloc: Global, node: &Node<'_>) -> Result<Structure, ReadFault> {
-        node.only(
-            alloc,
-            &[
-                "identifier",
-                "kind",
-                "title",
-                "visible",
-                "number-to-select",
-                "environments",
-                "children",
-                "sort",
-                "unit-of-learning-href",
-            ],
-        )?;
-        let identifier = member_at::<Id>(alloc, node, "identifier")?;
-        let kind = member_at::<StructureKind>(alloc, node, "kind")?;
-        let title = title_at(alloc, node, "title")?;
-        let visible = default_at::<bool>(alloc, node, "visible", true)?;
-        let number_to_select = selected_at(alloc, node, kind)?;
-        let environments = list_at::<Id>(alloc, node, "environments")?;
-        let children = some_at::<Id>(alloc, node, "children")?;
-        absent_at(alloc, node, "sort")?;
-        absent_at(alloc, node, "unit-of-learning-href")?;
-        Ok(Structure {
-            identifier,
-            kind,
-            title,
-            visible,
-            number_to_select: narrow(number_to_select)?,
-            environments,
-            children,
-        })
+        let key = key_of(alloc, node)?;
+        read_of_key(alloc, node, key)
     }
 }
 
-/// The number of children to be done, from 1 to their number where there is an array of them. In a
-/// sequence it is `not-in-profile`, whatever it holds.
-fn selected_at(
-    alloc: Global,
-    node: &Node<'_>,
-    kind: StructureKind,
-) -> Result<Option<u64>, ReadFault>
+/// What decides about the number of children to be done: the kind of a structure, and the number of
+/// its children, if there is a list of them.
+type Key = (StructureKind, Option<usize>);
+
+/// What the node tells of its kind and its children. What is none of the two kinds counts as a
+/// selection.
+fn key_of(alloc: Global, node: &Node<'_>) -> Result<Key, NoMemory>
+    ensures { IfOk result (λ key. key ≡ (structure_kind node.now, children_count node.now)) }
+{
+    if !node.is_object() {
+        return Ok((StructureKind::Selection, None));
+    }
+    let known = known_at::<StructureWord>(alloc, node, "kind")?;
+    let count = count_children(alloc, node)?;
+    Ok((known.unwrap_or(StructureKind::Selection), count))
+}
+
+/// The number of children, if there is a list of them.
+fn count_children(alloc: Global, node: &Node<'_>) -> Result<Option<usize>, NoMemory>
     requires { IsObject node.now }
-    ensures value { IfOk result (λ selected. selected_of kind node.now.tree ≡ Some selected) }
-    ensures faultless { OnOk result (selected_faults (Some kind) node.now ≡ []) }
-    ensures first { IfErr result (SaysFirst (selected_faults (Some kind) node.now)) }
-{
-    match kind {
-        StructureKind::Sequence => {
-            absent_at(alloc, node, "number-to-select")?;
-            Ok(None)
-        }
-        StructureKind::Selection => {
-            let Some(member) = node.optional("number-to-select") else {
-                return Ok(None);
-            };
-            let most = child_count(alloc, node)?;
-            let number = number_up_to(alloc, &member, most)?;
-            Ok(Some(number))
-        }
-    }
-}
-
-/// The number in 32 bits, which every number of children fits: no machine holds a list on which it
-/// fails.
-fn narrow(number: Option<u64>) -> Result<Option<u32>, NoMemory>
-    ensures { IfOk result (λ narrow. narrow ≡ number) }
-{
-    let Some(number) = number else {
-        return Ok(None);
-    };
-    match u32::try_from(number) {
-        Ok(number) => Ok(Some(number)),
-        Err(_) => Err(NoMemory),
-    }
-}
-
-/// The whole number from 1 to `most`, if that is given, that the node is.
-#[tactic(auto, unfolding(crate::specs::Forms::number_between, crate::specs::Forms::number_from))]
-fn number_up_to(alloc: Global, node: &Node<'_>, most: Option<usize>) -> Result<u64, ReadFault>
-    ensures value { IfOk result (λ number. spec_up_to most node.now.tree ≡ Some number) }
-    ensures faultless { OnOk result (leaf_faults (spec_up_to most) node.now ≡ []) }
-    ensures first { IfErr result (SaysFirst (leaf_faults (spec_up_to most) node.now)) }
-{
-    let Some(most) = most else {
-        let number = number_from(alloc, node, 1)?;
-        return Ok(number);
-    };
-    let number = number_from(alloc, node, 1)?;
-    if number > most as u64 {
-        return Err(node.fault(alloc, Code::WrongShape));
-    }
-    Ok(number)
-}
-
-/// The number of children, if there is an array of them.
-fn child_count(alloc: Global, node: &Node<'_>) -> Result<Option<usize>, NoMemory>
-    requires { IsObject node.now }
-    ensures { IfOk result (λ count. count ≡ spec_count node.now.tree) }
+    ensures { IfOk result (λ count. count ≡ children_count node.now) }
 {
     let Some(children) = node.optional("children") else {
         return Ok(None);
     };
-    let count = count_if_array(alloc, &children)?;
-    Ok(count)
+    count_if_list(alloc, &children)
 }
 
-/// The number of elements, if the node is an array.
-fn count_if_array(alloc: Global, node: &Node<'_>) -> Result<Option<usize>, NoMemory>
-    ensures { IfOk result (λ count. count ≡ option_map count_items (as_array node.now.tree)) }
+/// The number of elements, if the node is a list.
+fn count_if_list(alloc: Global, node: &Node<'_>) -> Result<Option<usize>, NoMemory>
+    ensures { IfOk result (λ count. count ≡ count_of node.now) }
 {
     match node.count(alloc) {
         Ok(count) => Ok(Some(count)),
         Err(ReadFault::Refused(_)) => Ok(None),
         Err(ReadFault::NoMemory) => Err(NoMemory),
+    }
+}
+
+/// A structure of this kind, with so many children.
+#[tactic(auto, unfolding(ld_formats::specs::Structures::structure_by), using(ld_json::proofs::First::says_more))]
+fn read_of_key(alloc: Global, node: &Node<'_>, key: Key) -> Result<Structure, ReadFault>
+    ensures { Answers ((structure_by key).reading node.now) result }
+{
+    only_structure(alloc, node, key)?;
+    let identifier = needed_at::<Identifier>(alloc, node, "identifier")?;
+    let kind = needed_at::<StructureWord>(alloc, node, "kind")?;
+    let title = optional_at::<Title>(alloc, node, "title")?;
+    let visible = default_at::<Flag>(alloc, node, "visible", true)?;
+    let (number_to_select, (environments, (children, _))) = content_at(alloc, node, key)?;
+    Ok(Structure {
+        identifier,
+        kind,
+        title,
+        visible,
+        number_to_select,
+        environments,
+        children,
+    })
+}
+
+/// That the node is an object without members but those of a structure, which are the same in all
+/// kinds.
+#[tactic(auto, using(crate::proofs::StructureNames::content_names))]
+fn only_structure(alloc: Global, node: &Node<'_>, key: Key) -> Result<(), ReadFault>
+    ensures object { OnOk result (IsObject node.now) }
+    ensures only { Answers (only_members (structure_members key) node.now) result }
+{
+    node.only(
+        alloc,
+        &[
+            "identifier",
+            "kind",
+            "title",
+            "visible",
+            "number-to-select",
+            "environments",
+            "children",
+            "sort",
+            "unit-of-learning-href",
+        ],
+    )?;
+    Ok(())
+}
+
+/// What a structure is made of: the number to be done, environments, children, and two members that
+/// are left out.
+type Content = (Option<u32>, (ReferenceList, (ReferenceList, ((), ()))));
+
+/// What stands behind the members that say what is shown of a structure of this kind, with so many
+/// children.
+#[tactic(auto, unfolding(ld_formats::specs::Structures::content_by), using(ld_json::proofs::First::says_more))]
+fn content_at(alloc: Global, node: &Node<'_>, key: Key) -> Result<Content, ReadFault>
+    requires { IsObject node.now }
+    ensures { Answers ((content_by key).shape.reading node.now) result }
+{
+    let selected = selected_at(alloc, node, key)?;
+    let environments = list_at::<Identifier>(alloc, node, "environments")?;
+    let children = needed_at::<ListOf<Identifier, 1>>(alloc, node, "children")?;
+    absent_at(alloc, node, "sort")?;
+    absent_at(alloc, node, "unit-of-learning-href")?;
+    Ok((selected, (environments, (children, ((), ())))))
+}
+
+/// The number of children to be done, from 1 to their number where there is a list of them. In a
+/// sequence it is `not-in-profile`, whatever it holds.
+fn selected_at(alloc: Global, node: &Node<'_>, key: Key) -> Result<Option<u32>, ReadFault>
+    requires { IsObject node.now }
+    ensures { Answers ((selected_by key).shape.reading node.now) result }
+{
+    match key {
+        (StructureKind::Sequence, _) => {
+            absent_at(alloc, node, "number-to-select")?;
+            Ok(None)
+        }
+        (StructureKind::Selection, None) => {
+            optional_at::<FromOne>(alloc, node, "number-to-select")?;
+            Ok(None)
+        }
+        (StructureKind::Selection, Some(count)) => selected_among(alloc, node, count),
+    }
+}
+
+/// The number of children to be done, of so many.
+fn selected_among(alloc: Global, node: &Node<'_>, count: usize) -> Result<Option<u32>, ReadFault>
+    requires { IsObject node.now }
+    ensures { Answers ((some_selected (Some count)).shape.reading node.now) result }
+{
+    let Some(member) = node.optional("number-to-select") else {
+        return Ok(None);
+    };
+    let number = number_up_to(alloc, &member, count)?;
+    Ok(Some(number))
+}
+
+/// The whole number from 1 to `most` that the node is. One that doesn't fit 32 bits is want of memory:
+/// no machine holds so long a list.
+#[tactic(auto, unfolding(ld_shape::specs::Forms::number_of))]
+fn number_up_to(alloc: Global, node: &Node<'_>, most: usize) -> Result<u32, ReadFault>
+    ensures { Answers ((number 1 most).reading node.now) result }
+{
+    let number = node.whole(alloc)?;
+    if number < 1 {
+        return Err(node.fault(alloc, Code::WrongShape));
+    }
+    if number > most as u64 {
+        return Err(node.fault(alloc, Code::WrongShape));
+    }
+    match u32::try_from(number) {
+        Ok(number) => Ok(number),
+        Err(_) => Err(ReadFault::NoMemory),
+    }
+}
+
+/// A whole number from 1 on.
+pub struct FromOne;
+
+impl Reads for FromOne {
+    type Value = u64;
+
+    ghost shape = { from_one };
+
+    #[tactic(auto, unfolding(ld_formats::specs::Structures::from_one))]
+    fn read(alloc: Global, node: &Node<'_>) -> Result<u64, ReadFault> {
+        let number = node.whole(alloc)?;
+        if number < 1 {
+            return Err(node.fault(alloc, Code::WrongShape));
+        }
+        Ok(number)
     }
 }

@@ -9,5 +9,4 @@ pub mod Moments
 pub mod Numerals
 pub mod Pattern
 pub mod Printed
-pub mod Same
 pub mod Choices

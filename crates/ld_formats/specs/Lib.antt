@@ -1,0 +1,14 @@
+pub mod Activities
+pub mod Cases
+pub mod Changes
+pub mod Completions
+pub mod Conditions
+pub mod Environments
+pub mod Items
+pub mod Methods
+pub mod Properties
+pub mod Roles
+pub mod Structures
+pub mod Terms
+pub mod Tests
+pub mod Units

@@ -1,0 +1,12 @@
+pub mod Documents
+pub mod Forms
+pub mod Keeping
+pub mod Keys
+pub mod Lists
+pub mod Objects
+pub mod Reading
+pub mod Recursion
+pub mod Shapes
+pub mod Soles
+pub mod Spans
+pub mod Words

@@ -1,0 +1,18 @@
+//! Readers by shape.
+ghost use Rattle.ld_shape.specs.Reading.{Answers};
+ghost use Rattle.ld_shape.specs.Shapes.{Shape};
+
+use ld_json::fault::ReadFault;
+use ld_json::node::Node;
+use std::alloc::Global;
+
+/// A way to read nodes. The type that implements it is a name alone, and has no values of use.
+pub trait Reads {
+    type Value: Drop;
+
+    ghost shape: { Shape Self.Value };
+
+    /// What the node stands for, or its first fault.
+    fn read(alloc: Global, node: &Node<'_>) -> Result<Self::Value, ReadFault>
+        ensures { Answers (shape.reading node.now) result };
+}

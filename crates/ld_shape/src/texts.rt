@@ -1,0 +1,149 @@
+//! Texts: identifiers, titles, addresses, durations.
+ghost use Rattle.std.specs.Prelude.{◌≡◌, [], Some, IfOk, OnOk, IfErr};
+ghost use Rattle.std.specs.List.{list_all};
+ghost use Rattle.ld_json.specs.Fault.{SaysFirst};
+ghost use Rattle.ld_shape.specs.Forms.{text as text_shape, title, identifier, href, uri, address, is_visible_ascii};
+ghost use Rattle.ld_shape.specs.Spans.{seconds};
+ghost use Rattle.ld_shape.specs.Reading.{Answers};
+
+use crate::reads::Reads;
+use ld_base::id::Id;
+use ld_base::plain_text::PlainText;
+use ld_json::code::Code;
+use ld_json::fault::ReadFault;
+use ld_json::node::Node;
+use ld_value::duration::read_duration;
+use std::alloc::Global;
+
+/// An identifier or a reference.
+pub struct Identifier;
+
+impl Reads for Identifier {
+    type Value = Id;
+
+    ghost shape = { identifier };
+
+    #[tactic(auto, unfolding(crate::specs::Forms::identifier_of))]
+    fn read(alloc: Global, node: &Node<'_>) -> Result<Id, ReadFault> {
+        let text = node.text(alloc)?;
+        match Id::read(alloc, text.as_bytes())? {
+            Some(identifier) => Ok(identifier),
+            None => Err(node.fault(alloc, Code::WrongShape)),
+        }
+    }
+}
+
+/// The text of `least` to `most` bytes that the node is.
+#[tactic(auto, unfolding(crate::specs::Forms::text_of))]
+fn text_between<'a>(
+    alloc: Global,
+    node: &Node<'a>,
+    least: usize,
+    most: usize,
+) -> Result<&'a str, ReadFault>
+    ensures value { IfOk result (λ text.
+        ((text_shape least most).reading node.now).value ≡ Some text.now) }
+    ensures faultless { OnOk result (((text_shape least most).reading node.now).faults ≡ []) }
+    ensures first { IfErr result (SaysFirst ((text_shape least most).reading node.now).faults) }
+{
+    let text = node.text(alloc)?;
+    if text.len() < least {
+        return Err(node.fault(alloc, Code::WrongShape));
+    }
+    if text.len() > most {
+        return Err(node.fault(alloc, Code::WrongShape));
+    }
+    Ok(text)
+}
+
+/// A text of `LEAST` to `MOST` bytes.
+pub struct Text<const LEAST: usize, const MOST: usize>;
+
+impl<const LEAST: usize, const MOST: usize> Reads for Text<LEAST, MOST> {
+    type Value = PlainText;
+
+    ghost shape = { text_shape LEAST MOST };
+
+    fn read(alloc: Global, node: &Node<'_>) -> Result<PlainText, ReadFault> {
+        let text = text_between(alloc, node, LEAST, MOST)?;
+        let own = PlainText::of(alloc, text)?;
+        Ok(own)
+    }
+}
+
+/// A title or a subject.
+pub struct Title;
+
+impl Reads for Title {
+    type Value = PlainText;
+
+    ghost shape = { title };
+
+    fn read(alloc: Global, node: &Node<'_>) -> Result<PlainText, ReadFault> {
+        Text::<1, 256>::read(alloc, node)
+    }
+}
+
+/// The text of 1 to `most` visible characters of ASCII that the node is.
+#[tactic(auto, unfolding(crate::specs::Forms::address_of, crate::specs::Forms::text_of))]
+fn read_address(alloc: Global, node: &Node<'_>, most: usize) -> Result<PlainText, ReadFault>
+    ensures { Answers ((address most).reading node.now) result }
+{
+    let text = text_between(alloc, node, 1, most)?;
+    if !are_visible_ascii(text.as_bytes()) {
+        return Err(node.fault(alloc, Code::WrongShape));
+    }
+    let own = PlainText::of(alloc, text)?;
+    Ok(own)
+}
+
+/// Whether each byte is from 0x21 to 0x7E.
+fn are_visible_ascii(bytes: &[u8]) -> bool
+    ensures { result ≡ list_all is_visible_ascii bytes.now }
+{
+    bytes.iter().all(|byte| byte.is_ascii_graphic())
+}
+
+/// An address: 1 to 1,024 visible characters of ASCII.
+pub struct Href;
+
+impl Reads for Href {
+    type Value = PlainText;
+
+    ghost shape = { href };
+
+    fn read(alloc: Global, node: &Node<'_>) -> Result<PlainText, ReadFault> {
+        read_address(alloc, node, 1024)
+    }
+}
+
+/// The name that properties of several units share: 1 to 4,096 visible characters of ASCII.
+pub struct Uri;
+
+impl Reads for Uri {
+    type Value = PlainText;
+
+    ghost shape = { uri };
+
+    fn read(alloc: Global, node: &Node<'_>) -> Result<PlainText, ReadFault> {
+        read_address(alloc, node, 4096)
+    }
+}
+
+/// The seconds of a duration.
+pub struct Seconds;
+
+impl Reads for Seconds {
+    type Value = u64;
+
+    ghost shape = { seconds };
+
+    #[tactic(auto, unfolding(crate::specs::Spans::span_of))]
+    fn read(alloc: Global, node: &Node<'_>) -> Result<u64, ReadFault> {
+        let text = node.text(alloc)?;
+        match read_duration(text) {
+            Some(seconds) => Ok(seconds),
+            None => Err(node.fault(alloc, Code::WrongShape)),
+        }
+    }
+}
