@@ -1,0 +1,9 @@
+pub mod Counted
+pub mod Differing
+pub mod Following
+pub mod Identified
+pub mod NameLaws
+pub mod Numbered
+pub mod OnlyThings
+pub mod SameRules
+pub mod Seen

@@ -1,0 +1,3 @@
+pub mod ExpressionSizes
+pub mod PlaceLaws
+pub mod WalkLaws

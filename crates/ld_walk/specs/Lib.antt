@@ -1,0 +1,9 @@
+pub mod CommonParts
+pub mod ExpressionParts
+pub mod Kinds
+pub mod PartView
+pub mod Parts
+pub mod PlaceRows
+pub mod Places
+pub mod SpotSteps
+pub mod Walks
