@@ -1,12 +1,6 @@
-pub mod Adding
 pub mod Beyond
-pub mod CycleLaws
 pub mod Distinct
-pub mod ExtentSums
-pub mod Indexed
-pub mod Noted
-pub mod RoleSpots
-pub mod Rounds
-pub mod SpotNames
-pub mod Stops
+pub mod Seen
+pub mod SizeSums
 pub mod Unrepeated
+pub mod ValuesKept

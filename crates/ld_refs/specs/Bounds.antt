@@ -1,24 +1,19 @@
--- The checks that look at one spot after another: levels, what follows a completion that is not said,
--- limits, and what no run is built for yet. (docs/FORMATS.md, "Order of faults")
-use Rattle.std.specs.Prelude.{ℕ, List, [], ◌∷◌, ◌++◌, Bool, false, ◌||◌, not, nat_lt, length, drop, map, if◌then◌else◌}
+-- The checks of levels, of what is left out, and of limits. (docs/FORMATS.md, "Levels", "What is left out", "Limits")
+use Rattle.std.specs.Prelude.{ℕ, List, ◌++◌, Bool, true, false, ◌||◌, not, nat_lt, length, drop, map, flat_map}
 use Rattle.std.specs.List.{filter}
-use Rattle.ld_json.specs.declared.code.Code.{Code}
 use Rattle.ld_json.specs.declared.code.Code.TheVariants.{AboveLevel, NotInProfile, TooMany}
 use Rattle.ld_json.specs.Fault.{Told}
 use Rattle.ld_model.specs.declared.unit.Level.{Level}
 use Rattle.ld_model.specs.declared.unit.Level.TheVariants.{A, B, C}
-use Rattle.ld_model.specs.declared.unit.Unit.{Unit as Course}
-use Rattle.ld_model.specs.Rules.{rules_of}
+use Rattle.ld_walk.specs.declared.kind.Kind.{Kind}
+use Rattle.ld_walk.specs.Kinds.{is_role, is_property, is_environment, is_object_or_service, is_item, is_activity, is_structure}
+use Rattle.ld_parts.specs.Listing.{method_at}
+use Rattle.ld_walk.specs.Parts.{What, Declares, Follows, Leaf, LeftOut, Part}
+use Rattle.ld_walk.specs.Places.{fault_at}
+use Rattle.ld_names.specs.Rules.{rules_in}
 use Rattle.ld_refs.specs.declared.checks.limits.Counted.{Counted}
 use Rattle.ld_refs.specs.declared.checks.limits.Counted.TheVariants as counted
-use Rattle.ld_refs.specs.declared.kind.Kind.{Kind}
-use Rattle.ld_refs.specs.Kinds.{is_role, is_property, is_environment, is_object_or_service, is_item, is_activity, is_structure}
-use Rattle.ld_refs.specs.Listing.{method_at}
-use Rattle.ld_refs.specs.Spots.{fault_at, Element, Declares, Refers, Lists, Follows, Other, Spot}
-
--- A fault of this code at each spot that passes the test.
-abbrev pub faults_where : (Spot → Bool) → Code → List Spot → List Told
-faults_where test code spots = map (λ spot. fault_at code spot.at) (filter test spots)
+use Rattle.ld_types.specs.Faults.{fault_if}
 
 -- ---- levels
 
@@ -27,38 +22,40 @@ level_number A = 0
 level_number B = 1
 level_number C = 2
 
-abbrev pub is_above : Level → Spot → Bool
-is_above level spot = nat_lt (level_number level) (level_number spot.level)
+abbrev pub is_above : Level → Level → Bool
+is_above level other = nat_lt (level_number level) (level_number other)
+
+abbrev pub level_faults_of : Level → Part → List Told
+level_faults_of level part = fault_if (is_above level part.level) AboveLevel part.at
 
 -- What stands there has a higher level than the unit.
-abbrev pub level_faults : Level → List Spot → List Told
-level_faults level spots = faults_where (is_above level) AboveLevel spots
+abbrev pub level_faults : Level → List Part → List Told
+level_faults level parts = flat_map (level_faults_of level) parts
 
--- ---- completions
+-- ---- what is left out
 
-abbrev pub follows_nothing : Element → Bool
-follows_nothing (Declares _ _) = false
-follows_nothing (Refers _ _) = false
-follows_nothing (Lists _ _) = false
-follows_nothing (Follows completes) = not completes
-follows_nothing Other = false
+-- Something follows the completion of a thing of which it is not said when it is completed; or it is a
+-- use of an element that this engine leaves out.
+abbrev pub is_left_out : What → Bool
+is_left_out (Follows completes) = not completes
+is_left_out LeftOut = true
+is_left_out _ = false
 
--- Something follows the completion of a thing of which it is not said when it is completed.
-abbrev pub follow_faults : List Spot → List Told
-follow_faults spots = faults_where (λ spot. follows_nothing spot.element) NotInProfile spots
+abbrev pub profile_faults_of : Part → List Told
+profile_faults_of part = fault_if (is_left_out part.what) NotInProfile part.at
+
+abbrev pub profile_faults : List Part → List Told
+profile_faults parts = flat_map profile_faults_of parts
 
 -- ---- limits
 
-abbrev pub declares : (Kind → Bool) → Element → Bool
-declares test (Declares kind _) = test kind
-declares test (Refers _ _) = false
-declares test (Lists _ _) = false
-declares test (Follows _) = false
-declares test Other = false
+abbrev pub declares : (Kind → Bool) → What → Bool
+declares test (Declares kind _ _) = test kind
+declares test _ = false
 
 -- The objects of a kind that stand behind the first ones, of which so many are allowed.
-abbrev pub beyond : ℕ → (Kind → Bool) → List Spot → List Told
-beyond limit test spots = map (λ spot. fault_at TooMany spot.at) (drop limit (filter (λ spot. declares test spot.element) spots))
+abbrev pub beyond : ℕ → (Kind → Bool) → List Part → List Told
+beyond limit test parts = map (λ part. fault_at TooMany part.at) (drop limit (filter (λ part. declares test part.what) parts))
 
 -- What is counted together.
 abbrev pub is_counted : Counted → Kind → Bool
@@ -69,17 +66,30 @@ is_counted counted.ObjectsAndServices kind = is_object_or_service kind
 is_counted counted.Items kind = is_item kind
 is_counted counted.ActivitiesAndStructures kind = is_activity kind || is_structure kind
 
--- More than 600 rules.
-abbrev pub rule_faults : Course → List Told
-rule_faults unit = if nat_lt 600 (length (rules_of unit)) then fault_at TooMany method_at ∷ [] else []
-
 -- At most 60 roles, 300 properties, 400 environments, 1,000 learning objects and services together,
 -- 4,000 items, 400 activities and structures together.
-abbrev pub object_limit_faults : List Spot → List Told
-object_limit_faults spots = beyond 60 (is_counted counted.Roles) spots ++ (beyond 300 (is_counted counted.Properties) spots ++ (beyond 400 (is_counted counted.Environments) spots ++ (beyond 1000 (is_counted counted.ObjectsAndServices) spots ++ (beyond 4000 (is_counted counted.Items) spots ++ beyond 400 (is_counted counted.ActivitiesAndStructures) spots))))
+unfoldable pub object_limit_faults : List Part → List Told
+object_limit_faults parts =
+    beyond 60 (is_counted counted.Roles) parts
+    ++ (beyond 300 (is_counted counted.Properties) parts
+    ++ (beyond 400 (is_counted counted.Environments) parts
+    ++ (beyond 1000 (is_counted counted.ObjectsAndServices) parts
+    ++ (beyond 4000 (is_counted counted.Items) parts
+    ++ beyond 400 (is_counted counted.ActivitiesAndStructures) parts))))
 
--- ---- what is built
+-- A leaf of an expression; if so asked, only one that is asked of each member of a role.
+abbrev pub is_leaf : Bool → What → Bool
+is_leaf of_members_only (Leaf of_members) = not of_members_only || of_members
+is_leaf of_members_only _ = false
 
--- No run of what stands there is built.
-abbrev pub running_faults : List Spot → List Told
-running_faults spots = faults_where (λ spot. not spot.runs) NotInProfile spots
+abbrev pub leaves_in : Bool → List Part → ℕ
+leaves_in of_members_only parts = length (filter (λ part. is_leaf of_members_only part.what) parts)
+
+-- The unit as a whole has more than so many.
+abbrev pub over : ℕ → ℕ → List Told
+over limit count = fault_if (nat_lt limit count) TooMany method_at
+
+-- At most 600 rules, 4,000 leaves of expressions, 100 leaves that are asked of each member of a role.
+unfoldable pub count_faults : List Part → List Told
+count_faults parts =
+    over 600 (length (rules_in parts)) ++ (over 4000 (leaves_in false parts) ++ over 100 (leaves_in true parts))

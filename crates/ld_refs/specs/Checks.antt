@@ -1,41 +1,61 @@
 -- All faults of a unit beyond the shapes of its documents, check by check, each over the whole unit in
 -- document order. (docs/FORMATS.md, "Order of faults")
-use Rattle.std.specs.Prelude.{◌≡◌, ℕ, List, [], ◌++◌, true}
+use Rattle.std.specs.Prelude.{◌≡◌, ℕ, List, [], ◌++◌, true, false}
+use Rattle.ld_formats.specs.Units.{is_well_formed}
 use Rattle.ld_json.specs.Fault.{Told}
-use Rattle.ld_model.specs.declared.unit.Level.{Level}
 use Rattle.ld_model.specs.declared.unit.Unit.{Unit as Course}
-use Rattle.ld_model.specs.Names.{NameTable}
-use Rattle.ld_model.specs.WellFormed.{is_well_formed}
-use Rattle.ld_refs.specs.Bounds.{level_faults, follow_faults, object_limit_faults, rule_faults, running_faults}
+use Rattle.ld_parts.specs.Listing.{parts_of}
+use Rattle.ld_names.specs.Names.{NameTable, names_of}
+use Rattle.ld_walk.specs.Parts.{Part}
+use Rattle.ld_refs.specs.Bounds.{level_faults, profile_faults, object_limit_faults, count_faults, leaves_in}
 use Rattle.ld_refs.specs.Extents.{size_faults}
-use Rattle.ld_refs.specs.Identified.{repeated_faults, target_faults}
-use Rattle.ld_refs.specs.Listing.{spots_of}
 use Rattle.ld_refs.specs.Reaching.{cycle_faults}
-use Rattle.ld_refs.specs.Spots.{Spot}
+use Rattle.ld_refs.specs.declared.checks.repeats.Texts.TheVariants.{Identifiers, Uris}
+use Rattle.ld_refs.specs.Repeats.{repeated_faults}
+use Rattle.ld_refs.specs.Targets.{target_faults}
+use Rattle.ld_types.specs.Typing.{type_faults}
+use Rattle.ld_refs.specs.Unbuilt.{unbuilt_faults}
 
--- Identifiers differ, and then references name what they should.
-unfoldable pub name_faults : List Spot → List Told
-name_faults spots = repeated_faults spots ++ target_faults spots
+-- References name what they should, nothing reaches itself, levels, what is left out, types.
+unfoldable pub meaning_faults : Course → NameTable → List Part → List Told
+meaning_faults unit names parts =
+    target_faults names parts
+    ++ (cycle_faults unit names ++ (level_faults unit.level parts ++ (profile_faults parts ++ type_faults unit names parts)))
 
--- Levels, then what follows completions, then the limits of objects.
-unfoldable pub bound_faults : Level → List Spot → List Told
-bound_faults level spots = level_faults level spots ++ (follow_faults spots ++ object_limit_faults spots)
+-- The limits of objects, then of rules and leaves, then of sizes.
+unfoldable pub amount_faults : Course → NameTable → List Part → List Told
+amount_faults unit names parts = object_limit_faults parts ++ (count_faults parts ++ size_faults unit names parts)
 
--- The limit of rules, and then sizes.
-unfoldable pub amount_faults : Course → List Told
-amount_faults unit = rule_faults unit ++ size_faults unit
+-- Identifiers differ, and the names of what all runs share.
+unfoldable pub text_faults : List Part → List Told
+text_faults parts = repeated_faults Identifiers parts ++ repeated_faults Uris parts
 
+-- The faults by which a unit is refused as it stands.
+unfoldable pub valid_faults : Course → List Told
+valid_faults unit =
+    text_faults (parts_of unit)
+    ++ (meaning_faults unit (names_of unit) (parts_of unit) ++ amount_faults unit (names_of unit) (parts_of unit))
+
+-- The same, and behind them that no run of it is built yet.
 unfoldable pub check_faults : Course → List Told
-check_faults unit = name_faults (spots_of unit) ++ (cycle_faults unit ++ (bound_faults unit.level (spots_of unit) ++ (amount_faults unit ++ running_faults (spots_of unit))))
+check_faults unit = valid_faults unit ++ unbuilt_faults unit
 
--- Each member of the unit has its form, and no check finds a fault in it. (Units of which no run is built
--- yet are not valid so far, as long as that check stands.)
+-- Each member of the unit has its form, and no check finds a fault in it.
 pub record IsValid (unit : Course) : Type 0 where
   pub formed : is_well_formed unit ≡ true
-  pub faultless : check_faults unit ≡ []
+  pub faultless : valid_faults unit ≡ []
+
+-- Runs of all its objects are built.
+abbrev pub IsBuilt : Course → Type 0
+IsBuilt unit = unbuilt_faults unit ≡ []
+
+-- How many leaves the unit's expressions have.
+abbrev pub leaves_of : Course → ℕ
+leaves_of unit = leaves_in false (parts_of unit)
 
 -- What contracts see of a checked unit.
 pub record CheckedUnit : Type 0 where
   pub unit : Course
   pub names : NameTable
   pub rules : ℕ
+  pub leaves : ℕ

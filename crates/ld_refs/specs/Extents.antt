@@ -1,8 +1,7 @@
 -- The check of sizes: what role-parts and the unit expand to. (docs/FORMATS.md, "Sizes")
-use Rattle.std.specs.Prelude.{ℕ, ◌+◌, List, [], ◌∷◌, ◌++◌, Option, Some, None, codes, nat_lt, length, map, position, slice_get, if◌then◌else◌}
+use Rattle.std.specs.Prelude.{ℕ, ◌+◌, List, [], ◌++◌, Option, Some, None, Bool, true, false, ◌&&◌, nat_lt, length, map, flat_map, slice_get}
 use Rattle.std.specs.List.{sum_by}
-use Rattle.std.specs.Option.{option_and_then}
-use Rattle.std.specs.Str.{bytes_eq}
+use Rattle.ld_base.specs.Maybe.{◌>>=◌}
 use Rattle.ld_json.specs.declared.code.Code.TheVariants.{TooBig}
 use Rattle.ld_json.specs.Fault.{Told}
 use Rattle.ld_model.specs.declared.activity.Activity.{Activity}
@@ -14,19 +13,36 @@ use Rattle.ld_model.specs.declared.method.Act.{Act}
 use Rattle.ld_model.specs.declared.method.Play.{Play}
 use Rattle.ld_model.specs.declared.method.RolePart.{RolePart}
 use Rattle.ld_model.specs.declared.unit.Unit.{Unit as Course}
-use Rattle.ld_model.specs.Counting.{each_numbered}
-use Rattle.ld_refs.specs.Graphs.{expanded_sizes, number_or_zero}
-use Rattle.ld_refs.specs.Listing.{method_at}
-use Rattle.ld_refs.specs.Reaching.{environment_ids, structure_ids, environment_graph, structure_graph}
-use Rattle.ld_refs.specs.Spots.{At, nth, fault_at}
+use Rattle.ld_walk.specs.declared.kind.Kind.{Kind}
+use Rattle.ld_walk.specs.declared.kind.Kind.TheVariants as kind
+use Rattle.ld_walk.specs.declared.place.Place.TheVariants as place
+use Rattle.ld_parts.specs.Listing.{method_at}
+use Rattle.ld_names.specs.Names.{NameTable}
+use Rattle.ld_walk.specs.Parts.{What, Declares, Part}
+use Rattle.ld_types.specs.Faults.{fault_if}
+use Rattle.ld_refs.specs.Reaching.{environment_graph, structure_graph}
+use Rattle.ld_refs.specs.Targets.{kind_by}
+use Rattle.ld_ways.specs.Graphs.{expanded_sizes, number_at}
 
--- The size of the thing of this identifier, where these identifiers have these sizes; 0 where it is
--- none of them.
-abbrev pub size_named : List (List ℕ) → List ℕ → List ℕ → ℕ
-size_named ids sizes id = number_or_zero (option_and_then (slice_get sizes) (position (bytes_eq id) ids))
+-- The sizes of environments, of activities and of structures, each by its number.
+pub record Sizes : Type 0 where
+  pub environments : List ℕ
+  pub activities : List ℕ
+  pub structures : List ℕ
 
-abbrev pub sizes_named : List (List ℕ) → List ℕ → List (List ℕ) → ℕ
-sizes_named ids sizes references = sum_by (size_named ids sizes) references
+-- The size of what is of this kind; 0 where it is none of the three.
+abbrev pub size_of_kind : Sizes → Option Kind → ℕ
+size_of_kind sizes (Some (kind.Thing (place.Environment e))) = number_at sizes.environments e
+size_of_kind sizes (Some (kind.Thing (place.Activity a))) = number_at sizes.activities a
+size_of_kind sizes (Some (kind.Thing (place.Structure s))) = number_at sizes.structures s
+size_of_kind sizes _ = 0
+
+-- The size of what the identifier names.
+abbrev pub size_named : Sizes → NameTable → List ℕ → ℕ
+size_named sizes names id = size_of_kind sizes (kind_by names id)
+
+abbrev pub sizes_named : Sizes → NameTable → List (List ℕ) → ℕ
+sizes_named sizes names ids = sum_by (size_named sizes names) ids
 
 abbrev pub feedback_size : Option OnCompletion → ℕ
 feedback_size None = 0
@@ -41,64 +57,88 @@ object_size object = 1 + length object.items
 abbrev pub own_environment_size : Environment → ℕ
 own_environment_size environment = 1 + (length environment.services + sum_by object_size environment.learning_objects)
 
-abbrev pub environment_sizes : Course → List ℕ
-environment_sizes unit = expanded_sizes (map own_environment_size unit.environments) (environment_graph unit)
+abbrev pub environment_sizes : Course → NameTable → List ℕ
+environment_sizes unit names = expanded_sizes (map own_environment_size unit.environments) (environment_graph unit names)
 
--- The sizes of the environments to which something refers.
-abbrev pub environments_size : Course → List (List ℕ) → ℕ
-environments_size unit references = sizes_named (environment_ids unit) (environment_sizes unit) references
+-- The sizes of environments alone.
+abbrev pub first_sizes : Course → NameTable → Sizes
+first_sizes unit names = record { environments = environment_sizes unit names; activities = []; structures = [] }
 
--- ---- activities and structures
+-- ---- activities
 
-abbrev pub activity_size : Course → Activity → ℕ
-activity_size unit activity = 1 + (length activity.items + (feedback_size activity.on_completion + environments_size unit activity.environments))
+abbrev pub activity_size : Sizes → NameTable → Activity → ℕ
+activity_size sizes names activity =
+    1 + (length activity.items + (feedback_size activity.on_completion + sizes_named sizes names activity.environments))
 
-abbrev pub activity_ids : Course → List (List ℕ)
-activity_ids unit = map (λ activity. activity.identifier) unit.activities
+abbrev pub activity_sizes : Course → NameTable → List ℕ
+activity_sizes unit names = map (activity_size (first_sizes unit names) names) unit.activities
 
-abbrev pub activity_sizes : Course → List ℕ
-activity_sizes unit = map (activity_size unit) unit.activities
+-- The sizes of environments and activities.
+abbrev pub leaf_sizes : Course → NameTable → Sizes
+leaf_sizes unit names = record { environments = environment_sizes unit names; activities = activity_sizes unit names; structures = [] }
+
+-- ---- structures
 
 -- A structure without those that are its children.
-abbrev pub own_structure_size : Course → Structure → ℕ
-own_structure_size unit structure = 1 + (environments_size unit structure.environments + sizes_named (activity_ids unit) (activity_sizes unit) structure.children)
+abbrev pub own_structure_size : Sizes → NameTable → Structure → ℕ
+own_structure_size sizes names structure = 1 + (sizes_named sizes names structure.environments + sizes_named sizes names structure.children)
 
-abbrev pub structure_sizes : Course → List ℕ
-structure_sizes unit = expanded_sizes (map (own_structure_size unit) unit.structures) (structure_graph unit)
+abbrev pub structure_sizes : Course → NameTable → List ℕ
+structure_sizes unit names = expanded_sizes (map (own_structure_size (leaf_sizes unit names) names) unit.structures) (structure_graph unit names)
+
+abbrev pub sizes_of : Course → NameTable → Sizes
+sizes_of unit names = record { environments = environment_sizes unit names; activities = activity_sizes unit names; structures = structure_sizes unit names }
 
 -- ---- role-parts and the unit
 
--- What the identifier names: an environment, an activity or a structure.
-abbrev pub target_size : Course → List ℕ → ℕ
-target_size unit id = size_named (environment_ids unit) (environment_sizes unit) id + (size_named (activity_ids unit) (activity_sizes unit) id + size_named (structure_ids unit) (structure_sizes unit) id)
+abbrev pub play_at : Course → ℕ → Option Play
+play_at unit p = slice_get unit.method.plays p
 
-abbrev pub part_size : Course → RolePart → ℕ
-part_size unit part = 1 + target_size unit part.target
+abbrev pub act_at : Course → ℕ → ℕ → Option Act
+act_at unit p a = play_at unit p >>= λ play. slice_get play.acts a
 
-abbrev pub act_size : Course → Act → ℕ
-act_size unit act = sum_by (part_size unit) act.role_parts + feedback_size act.on_completion
+abbrev pub role_part_at : Course → ℕ → ℕ → ℕ → Option RolePart
+role_part_at unit p a r = act_at unit p a >>= λ act. slice_get act.role_parts r
 
-abbrev pub play_size : Course → Play → ℕ
-play_size unit play = sum_by (act_size unit) play.acts + feedback_size play.on_completion
+-- A role-part with what it names.
+abbrev pub part_size : Sizes → NameTable → Option RolePart → ℕ
+part_size sizes names None = 0
+part_size sizes names (Some part) = 1 + size_named sizes names part.target
 
-abbrev pub unit_size : Course → ℕ
-unit_size unit = sum_by (play_size unit) unit.method.plays + feedback_size unit.method.on_completion
+-- What an object counts in the size of the unit: a role-part what it expands to; an act, a play and the
+-- unit the feedback on their completion.
+abbrev pub size_counted : Course → Sizes → NameTable → Kind → ℕ
+size_counted unit sizes names (kind.Thing (place.RolePart p a r)) = part_size sizes names (role_part_at unit p a r)
+size_counted unit sizes names (kind.Thing (place.Act p a)) = feedback_size (act_at unit p a >>= λ act. act.on_completion)
+size_counted unit sizes names (kind.Thing (place.Play p)) = feedback_size (play_at unit p >>= λ play. play.on_completion)
+size_counted unit sizes names kind.Unit = feedback_size unit.method.on_completion
+size_counted unit sizes names _ = 0
+
+abbrev pub size_in : Course → Sizes → NameTable → What → ℕ
+size_in unit sizes names (Declares kind _ _) = size_counted unit sizes names kind
+size_in unit sizes names _ = 0
+
+abbrev pub unit_size : Course → Sizes → NameTable → List Part → ℕ
+unit_size unit sizes names parts = sum_by (λ part. size_in unit sizes names part.what) parts
 
 -- ---- faults
 
+abbrev pub is_role_part : What → Bool
+is_role_part (Declares (kind.Thing (place.RolePart _ _ _)) _ _) = true
+is_role_part _ = false
+
 -- A role-part of more than 20,000.
-abbrev pub part_size_faults : Course → At → ℕ → RolePart → List Told
-part_size_faults unit at r part = if nat_lt 20000 (part_size unit part) then fault_at TooBig (nth at (codes "role-parts") r) ∷ [] else []
-
-abbrev pub act_size_faults : Course → At → ℕ → Act → List Told
-act_size_faults unit at a act = each_numbered (part_size_faults unit (nth at (codes "acts") a)) act.role_parts
-
-abbrev pub play_size_faults : Course → ℕ → Play → List Told
-play_size_faults unit p play = each_numbered (act_size_faults unit (nth method_at (codes "plays") p)) play.acts
+abbrev pub part_size_faults : Course → Sizes → NameTable → Part → List Told
+part_size_faults unit sizes names part =
+    fault_if (is_role_part part.what && nat_lt 20000 (size_in unit sizes names part.what)) TooBig part.at
 
 -- A unit of more than 200,000.
-abbrev pub unit_size_faults : Course → List Told
-unit_size_faults unit = if nat_lt 200000 (unit_size unit) then fault_at TooBig method_at ∷ [] else []
+abbrev pub unit_size_faults : ℕ → List Told
+unit_size_faults size = fault_if (nat_lt 200000 size) TooBig method_at
 
-abbrev pub size_faults : Course → List Told
-size_faults unit = each_numbered (play_size_faults unit) unit.method.plays ++ unit_size_faults unit
+abbrev pub size_faults_with : Course → Sizes → NameTable → List Part → List Told
+size_faults_with unit sizes names parts =
+    flat_map (part_size_faults unit sizes names) parts ++ unit_size_faults (unit_size unit sizes names parts)
+
+unfoldable pub size_faults : Course → NameTable → List Part → List Told
+size_faults unit names parts = size_faults_with unit (sizes_of unit names) names parts

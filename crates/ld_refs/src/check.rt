@@ -1,34 +1,38 @@
 //! The checks of a whole unit.
-ghost use Rattle.std.specs.Prelude.{◌≡◌, [], true, IfOk, OnOk, IfErr, length, map};
+ghost use Rattle.std.specs.Prelude.{◌≡◌, [], true, false, IfErr, IfOk, OnOk, length};
+ghost use Rattle.ld_formats.specs.Units.{is_well_formed};
 ghost use Rattle.ld_json.specs.Fault.{SaysFirst};
-ghost use Rattle.ld_model.specs.Identifiers.{HasDistinctIdentifiers};
-ghost use Rattle.ld_model.specs.Names.{names_of};
-ghost use Rattle.ld_model.specs.Rules.{rules_of};
-ghost use Rattle.ld_model.specs.WellFormed.{is_well_formed};
-ghost use Rattle.ld_refs.specs.Checks.{IsValid, amount_faults, bound_faults, check_faults, name_faults};
+ghost use Rattle.ld_names.specs.Identifiers.{HasDistinctIdentifiers};
+ghost use Rattle.ld_parts.specs.Listing.{parts_of};
+ghost use Rattle.ld_names.specs.Names.{names_of};
+ghost use Rattle.ld_names.specs.Rules.{rules_in, rules_of};
+ghost use Rattle.ld_refs.specs.Bounds.{leaves_in};
+ghost use Rattle.ld_refs.specs.Checks.{IsBuilt, IsValid, amount_faults, check_faults, leaves_of, meaning_faults, text_faults, valid_faults};
+ghost use Rattle.ld_refs.specs.Edges.{edges_of};
 ghost use Rattle.ld_refs.specs.Reaching.{environment_graph, structure_graph};
-ghost use Rattle.ld_refs.specs.SpotView.{spot_of};
 
 use crate::checks::cycles::{Graphs, check_cycles};
+use crate::checks::each::check_each;
 use crate::checks::extents::check_extents;
-use crate::checks::identifiers::check_identifiers;
-use crate::checks::limits::{check_limits, check_rules};
-use crate::checks::single::{check_follows, check_levels, check_running};
-use crate::checks::targets::check_targets;
-use crate::spot::Spot;
-use crate::spots::list_spots;
+use crate::checks::limits::{Counts, check_counts, check_objects};
+use crate::checks::profile::{Levels, Profile};
+use crate::checks::repeats::{Texts, check_repeats};
+use crate::checks::targets::Targets;
+use crate::unbuilt::check_built;
 use ld_json::fault::ReadFault;
-use ld_model::names::Names;
-use ld_model::unit::{Level, Unit};
+use ld_model::unit::Unit;
+use ld_names::names::Names;
+use ld_parts::listing::Listing;
+use ld_types::typing::Typing;
 use std::alloc::Global;
 use std::marker::Model;
 
-/// A valid unit: each member has its form, and no check finds a fault in it. Beside it stand its names
-/// and the number of its rules.
+/// A valid unit of which runs are built: each member has its form, and no check finds a fault in it.
+/// Beside it stand its names, the number of its rules and that of the leaves of its expressions.
 pub struct Checked {
     unit: Unit,
     names: Names,
-    rules: u32,
+    counts: Counts,
 }
 
 // By hand, so that a function which lets one go calls this and is not proved over each field anew.
@@ -37,7 +41,7 @@ impl Drop for Checked {
         let Self {
             unit: _,
             names: _,
-            rules: _,
+            counts: _,
         } = self;
     }
 }
@@ -45,20 +49,21 @@ impl Drop for Checked {
 impl Model for Checked {
     ghost use Rattle.std.specs.Prelude.{◌≡◌, length};
     ghost use Rattle.std.specs.Coded.{codes};
-    ghost use Rattle.ld_model.specs.contracts.expression.Term as term;
-    ghost use Rattle.ld_model.specs.contracts.expression.Test as test;
-    ghost use Rattle.ld_model.specs.Identifiers.{HasDistinctIdentifiers};
-    ghost use Rattle.ld_model.specs.Names.{names_of};
-    ghost use Rattle.ld_model.specs.Rules.{rules_of};
-    ghost use Rattle.ld_refs.specs.Checks.{CheckedUnit, IsValid};
+    ghost use Rattle.ld_model.specs.ExpressionCodes.{coded_term, coded_test};
+    ghost use Rattle.ld_names.specs.Identifiers.{HasDistinctIdentifiers};
+    ghost use Rattle.ld_names.specs.Names.{names_of};
+    ghost use Rattle.ld_names.specs.Rules.{rules_of};
+    ghost use Rattle.ld_refs.specs.Checks.{CheckedUnit, IsBuilt, IsValid, leaves_of};
 
     ghost Value = { CheckedUnit };
 
-    ghost coded = { Prim.hlevel (codes, test.the_row.coded, term.the_row.coded) };
+    ghost coded = { Prim.hlevel (codes, coded_term, coded_test) };
 
-    ghost view = { λ s. record { unit = s.unit; names = s.names; rules = s.rules } };
+    ghost view = { λ s. record { unit = s.unit; names = s.names; rules = s.counts.rules; leaves = s.counts.leaves } };
 
-    ghost invariant = { λ s. IsValid s.unit × HasDistinctIdentifiers s.unit × (s.names ≡ names_of s.unit) × (s.rules ≡ length (rules_of s.unit)) };
+    ghost invariant = { λ s. IsValid s.unit × IsBuilt s.unit × HasDistinctIdentifiers s.unit
+        × (s.names ≡ names_of s.unit) × (s.counts.rules ≡ length (rules_of s.unit))
+        × (s.counts.leaves ≡ leaves_of s.unit) };
 }
 
 impl Checked {
@@ -66,6 +71,7 @@ impl Checked {
     pub fn unit(&self) -> &Unit
         ensures unit { result.now ≡ self.now.unit }
         ensures valid { IsValid result.now }
+        ensures built { IsBuilt result.now }
         ensures distinct { HasDistinctIdentifiers result.now }
     {
         &self.unit
@@ -82,15 +88,14 @@ impl Checked {
     pub fn rules(&self) -> u32
         ensures { result ≡ length (rules_of self.now.unit) }
     {
-        self.rules
+        self.counts.rules
     }
 
-    /// The number of leaves of the unit's expressions: none, since no unit with an expression is valid
-    /// yet. It takes no memory.
+    /// The number of leaves of the unit's expressions. It takes no memory.
     pub fn leaves(&self) -> u32
-        ensures { result ≡ 0 }
+        ensures { result ≡ leaves_of self.now.unit }
     {
-        0
+        self.counts.leaves
     }
 
     /// The valid unit and its names. It takes no memory.
@@ -98,12 +103,13 @@ impl Checked {
         ensures unit { result.0 ≡ self.unit }
         ensures names { result.1 ≡ names_of self.unit }
         ensures valid { IsValid result.0 }
+        ensures built { IsBuilt result.0 }
         ensures distinct { HasDistinctIdentifiers result.0 }
     {
         let Checked {
             unit,
             names,
-            rules: _,
+            counts: _,
         } = self;
         (unit, names)
     }
@@ -115,77 +121,110 @@ pub fn check(alloc: Global, unit: Unit) -> Result<Checked, ReadFault>
     requires { is_well_formed unit ≡ true }
     ensures unit { IfOk result (λ checked. checked.unit ≡ unit) }
     ensures valid { OnOk result (IsValid unit) }
+    ensures built { OnOk result (IsBuilt unit) }
     ensures first { IfErr result (SaysFirst (check_faults unit)) }
 {
-    match names_and_rules(alloc, &unit) {
-        Ok((names, rules)) => Ok(Checked { unit, names, rules }),
+    match check_all(alloc, &unit) {
+        Ok((names, counts)) => Ok(Checked {
+            unit,
+            names,
+            counts,
+        }),
         Err(fault) => Err(fault),
     }
 }
 
-/// The names of the unit and the number of its rules, or its first fault.
-#[tactic(auto, using(crate::proofs::Distinct::check_distinct))]
-fn names_and_rules(alloc: Global, unit: &Unit) -> Result<(Names, u32), ReadFault>
-    ensures names { IfOk result (λ both. both.0 ≡ names_of unit.now) }
-    ensures rules { IfOk result (λ both. both.1 ≡ length (rules_of unit.now)) }
-    ensures faultless { OnOk result (check_faults unit.now ≡ []) }
-    ensures distinct { OnOk result (HasDistinctIdentifiers unit.now) }
-    ensures first { IfErr result (SaysFirst (check_faults unit.now)) }
-{
-    let rules = check_all(alloc, unit)?;
-    let names = Names::of(alloc, unit)?;
-    Ok((names, rules))
-}
-
-/// The number of the unit's rules, where no check finds a fault.
+/// The names of the unit and its counts, or its first fault.
 #[tactic(auto, unfolding(crate::specs::Checks::check_faults), using(ld_json::proofs::First::first_of_both))]
-fn check_all(alloc: Global, unit: &Unit) -> Result<u32, ReadFault>
-    ensures rules { IfOk result (λ rules. rules ≡ length (rules_of unit.now)) }
-    ensures faultless { OnOk result (check_faults unit.now ≡ []) }
+fn check_all(alloc: Global, unit: &Unit) -> Result<(Names, Counts), ReadFault>
+    ensures names { IfOk result (λ both. both.0 ≡ names_of unit.now) }
+    ensures rules { IfOk result (λ both. both.1.rules ≡ length (rules_of unit.now)) }
+    ensures leaves { IfOk result (λ both. both.1.leaves ≡ leaves_of unit.now) }
+    ensures distinct { OnOk result (HasDistinctIdentifiers unit.now) }
+    ensures valid { OnOk result (valid_faults unit.now ≡ []) }
+    ensures built { OnOk result (IsBuilt unit.now) }
     ensures first { IfErr result (SaysFirst (check_faults unit.now)) }
 {
-    let spots = list_spots(alloc, unit)?;
-    check_names(alloc, &spots)?;
-    let graphs = check_cycles(alloc, unit)?;
-    check_bounds(alloc, unit.level, &spots)?;
-    let rules = check_amounts(alloc, unit, &graphs)?;
-    check_running(alloc, &spots)?;
-    Ok(rules)
+    let listing = Listing::of(alloc, unit)?;
+    let (names, counts) = check_valid(alloc, unit, &listing)?;
+    check_built(alloc, unit, &listing)?;
+    Ok((names, counts))
 }
 
-/// That identifiers differ, and that references name what they should.
-#[tactic(auto, unfolding(crate::specs::Checks::name_faults), using(ld_json::proofs::First::first_of_both))]
-fn check_names(alloc: Global, spots: &[Spot<'_>]) -> Result<(), ReadFault>
-    ensures faultless { OnOk result (name_faults (map spot_of spots.now) ≡ []) }
-    ensures first { IfErr result (SaysFirst (name_faults (map spot_of spots.now))) }
+/// The names of the unit and its counts, or the first fault by which it is refused as it stands, where
+/// these are its parts.
+#[tactic(auto, unfolding(crate::specs::Checks::valid_faults), using(ld_json::proofs::First::first_of_both, crate::proofs::Distinct::distinct))]
+fn check_valid(
+    alloc: Global,
+    unit: &Unit,
+    listing: &Listing<'_>,
+) -> Result<(Names, Counts), ReadFault>
+    requires { listing.now ≡ parts_of unit.now }
+    ensures names { IfOk result (λ both. both.0 ≡ names_of unit.now) }
+    ensures rules { IfOk result (λ both. both.1.rules ≡ length (rules_of unit.now)) }
+    ensures leaves { IfOk result (λ both. both.1.leaves ≡ leaves_of unit.now) }
+    ensures distinct { OnOk result (HasDistinctIdentifiers unit.now) }
+    ensures faultless { OnOk result (valid_faults unit.now ≡ []) }
+    ensures first { IfErr result (SaysFirst (valid_faults unit.now)) }
 {
-    let kinds = check_identifiers(alloc, spots)?;
-    check_targets(alloc, &kinds, spots)?;
+    check_texts(alloc, listing)?;
+    let names = Names::of(alloc, unit, listing)?;
+    let graphs = check_meaning(alloc, unit, &names, listing)?;
+    let counts = check_amounts(alloc, unit, &names, &graphs, listing)?;
+    Ok((names, counts))
+}
+
+/// That identifiers differ, and the names of what all runs share.
+#[tactic(auto, unfolding(crate::specs::Checks::text_faults), using(ld_json::proofs::First::first_of_both))]
+fn check_texts(alloc: Global, listing: &Listing<'_>) -> Result<(), ReadFault>
+    ensures faultless { OnOk result (text_faults listing.now ≡ []) }
+    ensures first { IfErr result (SaysFirst (text_faults listing.now)) }
+{
+    check_repeats(alloc, Texts::Identifiers, listing)?;
+    check_repeats(alloc, Texts::Uris, listing)?;
     Ok(())
 }
 
-/// That what stands in the documents keeps to the level, to completions and to the limits of objects.
-#[tactic(auto, unfolding(crate::specs::Checks::bound_faults), using(ld_json::proofs::First::first_of_both))]
-fn check_bounds(alloc: Global, level: Level, spots: &[Spot<'_>]) -> Result<(), ReadFault>
-    ensures faultless { OnOk result (bound_faults level (map spot_of spots.now) ≡ []) }
-    ensures first { IfErr result (SaysFirst (bound_faults level (map spot_of spots.now))) }
+/// That references name what they should, that nothing reaches itself, levels, what is left out, types;
+/// the graphs of the unit.
+#[tactic(auto, unfolding(crate::specs::Checks::meaning_faults), using(ld_json::proofs::First::first_of_both))]
+fn check_meaning(
+    alloc: Global,
+    unit: &Unit,
+    names: &Names,
+    listing: &Listing<'_>,
+) -> Result<Graphs, ReadFault>
+    ensures environments { IfOk result (λ graphs. edges_of graphs.environments.items ≡ environment_graph unit.now names.now) }
+    ensures structures { IfOk result (λ graphs. edges_of graphs.structures.items ≡ structure_graph unit.now names.now) }
+    ensures faultless { OnOk result (meaning_faults unit.now names.now listing.now ≡ []) }
+    ensures first { IfErr result (SaysFirst (meaning_faults unit.now names.now listing.now)) }
 {
-    check_levels(alloc, level, spots)?;
-    check_follows(alloc, spots)?;
-    check_limits(alloc, spots)?;
-    Ok(())
+    check_each(alloc, &Targets { names }, listing)?;
+    let graphs = check_cycles(alloc, unit, names)?;
+    check_each(alloc, &Levels(unit.level), listing)?;
+    check_each(alloc, &Profile, listing)?;
+    check_each(alloc, &Typing { unit, names }, listing)?;
+    Ok(graphs)
 }
 
-/// The number of the unit's rules, where it keeps to their limit and to those of sizes.
+/// That the unit keeps to the limits of objects, of rules and leaves, and of sizes; its counts.
 #[tactic(auto, unfolding(crate::specs::Checks::amount_faults), using(ld_json::proofs::First::first_of_both))]
-fn check_amounts(alloc: Global, unit: &Unit, graphs: &Graphs) -> Result<u32, ReadFault>
-    requires environments { map (λ next. next.items) graphs.now.environments.items ≡ environment_graph unit.now }
-    requires structures { map (λ next. next.items) graphs.now.structures.items ≡ structure_graph unit.now }
-    ensures rules { IfOk result (λ rules. rules ≡ length (rules_of unit.now)) }
-    ensures faultless { OnOk result (amount_faults unit.now ≡ []) }
-    ensures first { IfErr result (SaysFirst (amount_faults unit.now)) }
+fn check_amounts(
+    alloc: Global,
+    unit: &Unit,
+    names: &Names,
+    graphs: &Graphs,
+    listing: &Listing<'_>,
+) -> Result<Counts, ReadFault>
+    requires environments { edges_of graphs.now.environments.items ≡ environment_graph unit.now names.now }
+    requires structures { edges_of graphs.now.structures.items ≡ structure_graph unit.now names.now }
+    ensures rules { IfOk result (λ counts. counts.rules ≡ length (rules_in listing.now)) }
+    ensures leaves { IfOk result (λ counts. counts.leaves ≡ leaves_in false listing.now) }
+    ensures faultless { OnOk result (amount_faults unit.now names.now listing.now ≡ []) }
+    ensures first { IfErr result (SaysFirst (amount_faults unit.now names.now listing.now)) }
 {
-    let rules = check_rules(alloc, unit)?;
-    check_extents(alloc, unit, graphs)?;
-    Ok(rules)
+    check_objects(alloc, listing)?;
+    let counts = check_counts(alloc, listing)?;
+    check_extents(alloc, unit, names, graphs, listing)?;
+    Ok(counts)
 }

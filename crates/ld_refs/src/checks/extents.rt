@@ -1,29 +1,30 @@
 //! The check of sizes: what the role-parts of a unit and the unit expand to.
-ghost use Rattle.std.specs.Prelude.{◌≡◌, [], IfErr, IfOk, OnOk, map};
+ghost use Rattle.std.specs.Prelude.{◌≡◌, [], IfErr, OnOk, min, option_map, option_copied};
 ghost use Rattle.ld_json.specs.Fault.{SaysFirst};
-ghost use Rattle.ld_model.specs.Counting.{each_numbered};
-ghost use Rattle.ld_refs.specs.Extents.{act_size_faults, part_size_faults, play_size_faults, size_faults, unit_size_faults};
+ghost use Rattle.ld_walk.specs.PartView.{what_of};
+ghost use Rattle.ld_refs.specs.Edges.{edges_of};
+ghost use Rattle.ld_refs.specs.Extents.{is_role_part, part_size, size_counted, size_faults, size_faults_with, size_in, unit_size, unit_size_faults, feedback_size};
 ghost use Rattle.ld_refs.specs.Reaching.{environment_graph, structure_graph};
-
-mod activities;
-mod environments;
-mod method;
-mod structures;
-mod table;
+ghost use Rattle.ld_refs.specs.SizeView.{sizes_by};
 
 use crate::checks::cycles::Graphs;
-use crate::checks::limits::method_position;
-use crate::position::Position;
-use activities::ActivitySizes;
-use environments::EnvironmentSizes;
-use ld_base::memory::NoMemory;
+use crate::checks::each::{PartCheck, check_each};
+use crate::checks::limits::method_fault;
+use crate::checks::sizes::{Sizes, add, feedback_size};
+use crate::checks::targets::kind_of;
+use crate::method::{act_at, play_at, role_part_at};
 use ld_json::code::Code;
 use ld_json::fault::ReadFault;
-use ld_model::method::{Act, Play, RolePart};
-use ld_model::unit::Unit;
-use method::{part_size, unit_size};
+use ld_model::completion::OnCompletion;
+use ld_model::method::RolePart;
+use ld_model::unit::{Level, Unit};
+use ld_names::names::Names;
+use ld_parts::listing::Listing;
+use ld_walk::kind::Kind;
+use ld_walk::part::What;
+use ld_walk::place::Place;
+use ld_walk::spot::Spot;
 use std::alloc::Global;
-use structures::StructureSizes;
 
 /// The greatest size of a role-part.
 const PART_LIMIT: u64 = 20_000;
@@ -32,149 +33,155 @@ const PART_LIMIT: u64 = 20_000;
 const UNIT_LIMIT: u64 = 200_000;
 
 /// That no role-part of the unit expands to more than its limit, nor the unit to more than its own,
-/// where the graphs are those of the unit.
-pub(crate) fn check_extents(alloc: Global, unit: &Unit, graphs: &Graphs) -> Result<(), ReadFault>
-    requires environments { map (λ next. next.items) graphs.now.environments.items ≡ environment_graph unit.now }
-    requires structures { map (λ next. next.items) graphs.now.structures.items ≡ structure_graph unit.now }
-    ensures faultless { OnOk result (size_faults unit.now ≡ []) }
-    ensures first { IfErr result (SaysFirst (size_faults unit.now)) }
-{
-    let sizes = sizes_of(alloc, unit, graphs)?;
-    check_sizes(alloc, &sizes)?;
-    Ok(())
-}
-
-/// The sizes of the environments, the activities and the structures of the unit.
-fn sizes_of<'a>(
+/// where these are the names, the graphs and the parts of the unit.
+#[tactic(auto, unfolding(crate::specs::Extents::size_faults))]
+pub(crate) fn check_extents(
     alloc: Global,
-    unit: &'a Unit,
+    unit: &Unit,
+    names: &Names,
     graphs: &Graphs,
-) -> Result<StructureSizes<'a>, NoMemory>
-    requires environments { map (λ next. next.items) graphs.now.environments.items ≡ environment_graph unit.now }
-    requires structures { map (λ next. next.items) graphs.now.structures.items ≡ structure_graph unit.now }
-    ensures { IfOk result (λ sizes. sizes ≡ unit.now) }
-{
-    let environments = EnvironmentSizes::of(alloc, unit, &graphs.environments)?;
-    let activities = ActivitySizes::of(alloc, environments)?;
-    let structures = StructureSizes::of(alloc, activities, &graphs.structures)?;
-    Ok(structures)
-}
-
-/// That no role-part is too big, and the unit is not.
-#[tactic(auto, using(ld_json::proofs::First::first_of_both))]
-fn check_sizes(alloc: Global, sizes: &StructureSizes<'_>) -> Result<(), ReadFault>
-    ensures faultless { OnOk result (size_faults sizes.now ≡ []) }
-    ensures first { IfErr result (SaysFirst (size_faults sizes.now)) }
-{
-    let plays = sizes.unit().method.plays.as_slice();
-    check_plays(alloc, sizes, plays)?;
-    check_unit(alloc, sizes)?;
-    Ok(())
-}
-
-/// That the unit is not too big.
-fn check_unit(alloc: Global, sizes: &StructureSizes<'_>) -> Result<(), ReadFault>
-    ensures faultless { OnOk result (unit_size_faults sizes.now ≡ []) }
-    ensures first { IfErr result (SaysFirst (unit_size_faults sizes.now)) }
-{
-    if unit_size(sizes) <= UNIT_LIMIT {
-        return Ok(());
-    }
-    let at = method_position(alloc)?;
-    Err(at.fault(alloc, Code::TooBig))
-}
-
-/// That no role-part of the plays is too big.
-#[tactic(auto, using(ld_json::proofs::First::first_of_both))]
-fn check_plays(alloc: Global, sizes: &StructureSizes<'_>, plays: &[Play]) -> Result<(), ReadFault>
-    ensures faultless { OnOk result (each_numbered (play_size_faults sizes.now) plays.now ≡ []) }
-    ensures first { IfErr result (SaysFirst (each_numbered (play_size_faults sizes.now) plays.now)) }
-{
-    for (p, play) in plays.iter().enumerate() {
-        check_play(alloc, sizes, p, play)?;
-    }
-    Ok(())
-}
-
-/// That no role-part of the play of this number is too big.
-fn check_play(
-    alloc: Global,
-    sizes: &StructureSizes<'_>,
-    p: usize,
-    play: &Play,
+    listing: &Listing<'_>,
 ) -> Result<(), ReadFault>
-    ensures faultless { OnOk result (play_size_faults sizes.now p play.now ≡ []) }
-    ensures first { IfErr result (SaysFirst (play_size_faults sizes.now p play.now)) }
+    requires environments { edges_of graphs.now.environments.items ≡ environment_graph unit.now names.now }
+    requires structures { edges_of graphs.now.structures.items ≡ structure_graph unit.now names.now }
+    ensures faultless { OnOk result (size_faults unit.now names.now listing.now ≡ []) }
+    ensures first { IfErr result (SaysFirst (size_faults unit.now names.now listing.now)) }
 {
-    let at = method_position(alloc)?.nth(alloc, "plays", p)?;
-    check_acts(alloc, sizes, &at, play.acts.as_slice())?;
+    let sizes = Sizes::of(alloc, unit, names, graphs)?;
+    let measure = Measure {
+        unit,
+        names,
+        sizes: &sizes,
+    };
+    measure.check_all(alloc, listing)?;
     Ok(())
 }
 
-/// That no role-part of the acts of the play at the place is too big.
-#[tactic(auto, using(ld_json::proofs::First::first_of_both))]
-fn check_acts(
-    alloc: Global,
-    sizes: &StructureSizes<'_>,
-    at: &Position,
-    acts: &[Act],
-) -> Result<(), ReadFault>
-    ensures faultless { OnOk result (each_numbered (act_size_faults sizes.now at.now) acts.now ≡ []) }
-    ensures first { IfErr result (SaysFirst (each_numbered (act_size_faults sizes.now at.now) acts.now)) }
-{
-    for (a, act) in acts.iter().enumerate() {
-        check_act(alloc, sizes, at, a, act)?;
+/// What the parts of a unit expand to.
+#[derive(Clone, Copy)]
+struct Measure<'a> {
+    unit: &'a Unit,
+    names: &'a Names,
+    sizes: &'a Sizes,
+}
+
+impl<'a> Measure<'a> {
+    /// That no role-part is too big, and the unit is not.
+    #[tactic(auto, using(ld_json::proofs::First::first_of_both))]
+    fn check_all(&self, alloc: Global, listing: &Listing<'_>) -> Result<(), ReadFault>
+        ensures faultless { OnOk result (size_faults_with self.now.unit.now (sizes_by self.now.sizes.now)
+            self.now.names.now listing.now ≡ []) }
+        ensures first { IfErr result (SaysFirst (size_faults_with self.now.unit.now
+            (sizes_by self.now.sizes.now) self.now.names.now listing.now)) }
+    {
+        check_each(alloc, self, listing)?;
+        self.check_unit(alloc, listing)?;
+        Ok(())
     }
-    Ok(())
-}
 
-/// That no role-part of the act of this number is too big.
-fn check_act(
-    alloc: Global,
-    sizes: &StructureSizes<'_>,
-    at: &Position,
-    a: usize,
-    act: &Act,
-) -> Result<(), ReadFault>
-    ensures faultless { OnOk result (act_size_faults sizes.now at.now a act.now ≡ []) }
-    ensures first { IfErr result (SaysFirst (act_size_faults sizes.now at.now a act.now)) }
-{
-    let own = at.nth(alloc, "acts", a)?;
-    check_parts(alloc, sizes, &own, act.role_parts.as_slice())?;
-    Ok(())
-}
-
-/// That none of the role-parts of the act at the place is too big.
-#[tactic(auto, using(ld_json::proofs::First::first_of_both))]
-fn check_parts(
-    alloc: Global,
-    sizes: &StructureSizes<'_>,
-    at: &Position,
-    parts: &[RolePart],
-) -> Result<(), ReadFault>
-    ensures faultless { OnOk result (each_numbered (part_size_faults sizes.now at.now) parts.now ≡ []) }
-    ensures first { IfErr result (SaysFirst (each_numbered (part_size_faults sizes.now at.now) parts.now)) }
-{
-    for (r, part) in parts.iter().enumerate() {
-        check_part(alloc, sizes, at, r, part)?;
+    /// That the unit is not too big.
+    fn check_unit(&self, alloc: Global, listing: &Listing<'_>) -> Result<(), ReadFault>
+        ensures faultless { OnOk result (unit_size_faults (unit_size self.now.unit.now
+            (sizes_by self.now.sizes.now) self.now.names.now listing.now) ≡ []) }
+        ensures first { IfErr result (SaysFirst (unit_size_faults (unit_size self.now.unit.now
+            (sizes_by self.now.sizes.now) self.now.names.now listing.now))) }
+    {
+        if self.unit_size(listing) > UNIT_LIMIT {
+            return Err(method_fault(alloc, Code::TooBig));
+        }
+        Ok(())
     }
-    Ok(())
+
+    /// The size of the unit, or a million where that is less.
+    fn unit_size(&self, listing: &Listing<'_>) -> u64
+        ensures { result ≡ min 1000000 (unit_size self.now.unit.now (sizes_by self.now.sizes.now)
+            self.now.names.now listing.now) }
+    {
+        let mut sum = 0;
+        for index in 0..listing.len() {
+            sum = add(sum, self.size_in(listing.what(index)));
+        }
+        sum
+    }
+
+    /// What it counts in the size of the unit.
+    fn size_in(&self, what: What<'_>) -> u64
+        ensures { result ≡ min 1000000 (size_in self.now.unit.now (sizes_by self.now.sizes.now)
+            self.now.names.now (what_of what.entry)) }
+    {
+        match what {
+            What::Declares(kind, _, _) => self.size_counted(kind),
+            _ => 0,
+        }
+    }
+
+    /// What an object of this kind counts.
+    fn size_counted(&self, kind: Kind) -> u64
+        ensures { result ≡ min 1000000 (size_counted self.now.unit.now (sizes_by self.now.sizes.now)
+            self.now.names.now kind) }
+    {
+        match kind {
+            Kind::Thing(Place::RolePart(p, a, r)) => self.part_size(role_part_at(
+                self.unit, p, a, r,
+            )),
+            Kind::Thing(Place::Act(p, a)) => match act_at(self.unit, p, a) {
+                Some(act) => feedback(&act.on_completion),
+                None => 0,
+            },
+            Kind::Thing(Place::Play(p)) => match play_at(self.unit, p) {
+                Some(play) => feedback(&play.on_completion),
+                None => 0,
+            },
+            Kind::Unit => feedback(&self.unit.method.on_completion),
+            _ => 0,
+        }
+    }
+
+    /// The role-part with what it names.
+    fn part_size(&self, part: Option<&RolePart>) -> u64
+        ensures { result ≡ min 1000000 (part_size (sizes_by self.now.sizes.now) self.now.names.now
+            (option_copied part.entry)) }
+    {
+        match part {
+            Some(part) => add(1, self.sizes.size_of(kind_of(self.names, &part.target))),
+            None => 0,
+        }
+    }
 }
 
-/// That the role-part of this number is not too big.
-fn check_part(
-    alloc: Global,
-    sizes: &StructureSizes<'_>,
-    at: &Position,
-    r: usize,
-    part: &RolePart,
-) -> Result<(), ReadFault>
-    ensures faultless { OnOk result (part_size_faults sizes.now at.now r part.now ≡ []) }
-    ensures first { IfErr result (SaysFirst (part_size_faults sizes.now at.now r part.now)) }
+/// The feedback on a completion, or a million where that is less.
+fn feedback(follows: &Option<OnCompletion>) -> u64
+    ensures { result ≡ min 1000000 (feedback_size follows.now) }
 {
-    if part_size(sizes, part) <= PART_LIMIT {
-        return Ok(());
+    add(0, feedback_size(follows))
+}
+
+impl<'a> PartCheck for Measure<'a> {
+    ghost use Rattle.ld_refs.specs.Extents.{part_size_faults};
+    ghost use Rattle.ld_refs.specs.SizeView.{sizes_by};
+
+    ghost faults = { λ s. part_size_faults s.unit.now (sizes_by s.sizes.now) s.names.now };
+
+    fn check(
+        &self,
+        alloc: Global,
+        at: &Spot<'_>,
+        _level: Level,
+        what: What<'_>,
+    ) -> Result<(), ReadFault> {
+        if is_role_part(what) && self.size_in(what) > PART_LIMIT {
+            return Err(at.fault(alloc, Code::TooBig));
+        }
+        Ok(())
     }
-    let own = at.nth(alloc, "role-parts", r)?;
-    Err(own.fault(alloc, Code::TooBig))
+}
+
+/// Whether it is a role-part.
+fn is_role_part(what: What<'_>) -> bool
+    ensures { result ≡ is_role_part (what_of what.entry) }
+{
+    match what {
+        What::Declares(Kind::Thing(Place::RolePart(_, _, _)), _, _) => true,
+        _ => false,
+    }
 }

@@ -1,22 +1,21 @@
-//! The check of the limits on what a unit may have.
-ghost use Rattle.std.specs.Prelude.{◌≡◌, [], IfErr, IfOk, OnOk, length, map};
-ghost use Rattle.ld_json.specs.Fault.{SaysFirst};
-ghost use Rattle.ld_model.specs.Rules.{rules_of};
-ghost use Rattle.ld_refs.specs.Bounds.{beyond, declares, is_counted, object_limit_faults, rule_faults};
-ghost use Rattle.ld_refs.specs.Listing.{method_at};
-ghost use Rattle.ld_refs.specs.SpotView.{element_of, spot_of};
+//! The checks of the limits on what a unit may have.
+ghost use Rattle.std.specs.Prelude.{◌≡◌, ◌≤◌, [], IfErr, IfOk, OnOk, false, length};
+ghost use Rattle.ld_json.specs.Fault.{Says, SaysFirst};
+ghost use Rattle.ld_parts.specs.Listing.{method_at};
+ghost use Rattle.ld_walk.specs.PartView.{what_of};
+ghost use Rattle.ld_walk.specs.Places.{fault_at};
+ghost use Rattle.ld_names.specs.Rules.{rules_in};
+ghost use Rattle.ld_refs.specs.Bounds.{beyond, count_faults, declares, is_counted, is_leaf, leaves_in, object_limit_faults, over};
 
-use crate::kind::Kind;
-use crate::position::Position;
-use crate::spot::{Element, Spot};
-use ld_base::memory::NoMemory;
-use ld_base::numbers::number;
 use ld_json::code::Code;
 use ld_json::fault::ReadFault;
 use ld_json::file::FileNo;
-use ld_model::names::Place;
-use ld_model::rule::list_rules;
-use ld_model::unit::Unit;
+use ld_names::rule::list_rules;
+use ld_parts::listing::Listing;
+use ld_walk::kind::Kind;
+use ld_walk::part::What;
+use ld_walk::place::Place;
+use ld_walk::spot::Spot;
 use std::alloc::Global;
 
 /// What is counted together.
@@ -31,15 +30,15 @@ pub(crate) enum Counted {
 }
 
 impl Counted {
-    /// Whether a thing of this kind is counted.
-    fn counts(self, kind: Kind) -> bool
-        ensures { result ≡ is_counted self kind }
+    /// Whether it is an object that is counted.
+    fn counts(self, what: What<'_>) -> bool
+        ensures { result ≡ declares (is_counted self) (what_of what.entry) }
     {
-        match kind {
-            Kind::Unit => false,
-            Kind::Role => self == Counted::Roles,
-            Kind::Property => self == Counted::Properties,
-            Kind::Thing(place) => self.counts_thing(place),
+        match what {
+            What::Declares(Kind::Role, _, _) => self == Counted::Roles,
+            What::Declares(Kind::Property, _, _) => self == Counted::Properties,
+            What::Declares(Kind::Thing(place), _, _) => self.counts_thing(place),
+            _ => false,
         }
     }
 
@@ -55,19 +54,21 @@ impl Counted {
             Place::Play(_) | Place::Act(_, _) | Place::RolePart(_, _, _) => false,
         }
     }
+}
 
-    /// Whether it is an object that is counted.
-    fn counts_element(self, element: &Element<'_>) -> bool
-        ensures { result ≡ declares (is_counted self) (element_of element.now) }
-    {
-        match element {
-            Element::Object(kind, _) => self.counts(*kind),
-            Element::Reference(_, _)
-            | Element::References(_, _)
-            | Element::OnCompletion(_)
-            | Element::Other => false,
-        }
-    }
+/// That the objects keep to their limits.
+#[tactic(auto, unfolding(crate::specs::Bounds::object_limit_faults), using(ld_json::proofs::First::first_of_both))]
+pub(crate) fn check_objects(alloc: Global, listing: &Listing<'_>) -> Result<(), ReadFault>
+    ensures faultless { OnOk result (object_limit_faults listing.now ≡ []) }
+    ensures first { IfErr result (SaysFirst (object_limit_faults listing.now)) }
+{
+    check_limit(alloc, 60, Counted::Roles, listing)?;
+    check_limit(alloc, 300, Counted::Properties, listing)?;
+    check_limit(alloc, 400, Counted::Environments, listing)?;
+    check_limit(alloc, 1_000, Counted::ObjectsAndServices, listing)?;
+    check_limit(alloc, 4_000, Counted::Items, listing)?;
+    check_limit(alloc, 400, Counted::ActivitiesAndStructures, listing)?;
+    Ok(())
 }
 
 /// That there are at most so many of what is counted.
@@ -75,56 +76,89 @@ fn check_limit(
     alloc: Global,
     limit: usize,
     counted: Counted,
-    spots: &[Spot<'_>],
+    listing: &Listing<'_>,
 ) -> Result<(), ReadFault>
-    ensures faultless { OnOk result (beyond limit (is_counted counted) (map spot_of spots.now) ≡ []) }
-    ensures first { IfErr result (SaysFirst (beyond limit (is_counted counted) (map spot_of spots.now))) }
+    ensures faultless { OnOk result (beyond limit (is_counted counted) listing.now ≡ []) }
+    ensures first { IfErr result (SaysFirst (beyond limit (is_counted counted) listing.now)) }
 {
     let mut left = limit;
-    for spot in spots {
-        if !counted.counts_element(&spot.element) {
+    for index in 0..listing.len() {
+        if !counted.counts(listing.what(index)) {
             continue;
         }
         if left == 0 {
-            return Err(spot.at.fault(alloc, Code::TooMany));
+            return Err(listing.spot(index).fault(alloc, Code::TooMany));
         }
         left -= 1;
     }
     Ok(())
 }
 
-/// That the objects keep to their limits.
-#[tactic(auto, using(ld_json::proofs::First::first_of_both))]
-pub(crate) fn check_limits(alloc: Global, spots: &[Spot<'_>]) -> Result<(), ReadFault>
-    ensures faultless { OnOk result (object_limit_faults (map spot_of spots.now) ≡ []) }
-    ensures first { IfErr result (SaysFirst (object_limit_faults (map spot_of spots.now))) }
+/// How many rules a unit has, and how many leaves its expressions.
+#[derive(Clone, Copy)]
+pub(crate) struct Counts {
+    pub(crate) rules: u32,
+    pub(crate) leaves: u32,
+}
+
+/// That rules and leaves keep to their limits; their numbers.
+#[tactic(auto, unfolding(crate::specs::Bounds::count_faults), using(ld_json::proofs::First::first_of_both))]
+pub(crate) fn check_counts(alloc: Global, listing: &Listing<'_>) -> Result<Counts, ReadFault>
+    ensures rules { IfOk result (λ counts. counts.rules ≡ length (rules_in listing.now)) }
+    ensures leaves { IfOk result (λ counts. counts.leaves ≡ leaves_in false listing.now) }
+    ensures faultless { OnOk result (count_faults listing.now ≡ []) }
+    ensures first { IfErr result (SaysFirst (count_faults listing.now)) }
 {
-    check_limit(alloc, 60, Counted::Roles, spots)?;
-    check_limit(alloc, 300, Counted::Properties, spots)?;
-    check_limit(alloc, 400, Counted::Environments, spots)?;
-    check_limit(alloc, 1_000, Counted::ObjectsAndServices, spots)?;
-    check_limit(alloc, 4_000, Counted::Items, spots)?;
-    check_limit(alloc, 400, Counted::ActivitiesAndStructures, spots)?;
+    let rules = list_rules(alloc, listing)?.len();
+    check_over(alloc, 600, rules)?;
+    let leaves = count_leaves(listing, false);
+    check_over(alloc, 4_000, leaves)?;
+    check_over(alloc, 100, count_leaves(listing, true))?;
+    Ok(Counts {
+        rules: rules as u32,
+        leaves: leaves as u32,
+    })
+}
+
+/// That the unit has no more than so many.
+fn check_over(alloc: Global, limit: usize, count: usize) -> Result<(), ReadFault>
+    ensures within { OnOk result (count ≤ limit) }
+    ensures faultless { OnOk result (over limit count ≡ []) }
+    ensures first { IfErr result (SaysFirst (over limit count)) }
+{
+    if count > limit {
+        return Err(method_fault(alloc, Code::TooMany));
+    }
     Ok(())
 }
 
-/// The number of rules, of which a unit has at most 600.
-pub(crate) fn check_rules(alloc: Global, unit: &Unit) -> Result<u32, ReadFault>
-    ensures number { IfOk result (λ number. number ≡ length (rules_of unit.now)) }
-    ensures faultless { OnOk result (rule_faults unit.now ≡ []) }
-    ensures first { IfErr result (SaysFirst (rule_faults unit.now)) }
+/// The refusal that the method has the fault of this code, or `NoMemory`.
+pub(crate) fn method_fault(alloc: Global, code: Code) -> ReadFault
+    ensures { Says (fault_at code method_at) result }
 {
-    let count = number(list_rules(alloc, unit)?.len())?;
-    if count > 600 {
-        let at = method_position(alloc)?;
-        return Err(at.fault(alloc, Code::TooMany));
-    }
-    Ok(count)
+    let unit = Spot::whole(FileNo::Unit);
+    unit.member("method").fault(alloc, code)
 }
 
-/// The place of the method.
-pub(crate) fn method_position(alloc: Global) -> Result<Position, NoMemory>
-    ensures { IfOk result (λ at. at ≡ method_at) }
+/// The number of leaves; if so asked, only of those that are asked of each member of a role.
+fn count_leaves(listing: &Listing<'_>, of_members_only: bool) -> usize
+    ensures { result ≡ leaves_in of_members_only listing.now }
 {
-    Position::root(alloc, FileNo::Unit).member(alloc, "method")
+    let mut count = 0;
+    for index in 0..listing.len() {
+        if is_leaf(listing.what(index), of_members_only) {
+            count += 1;
+        }
+    }
+    count
+}
+
+/// Whether it is a leaf; if so asked, one that is asked of each member of a role.
+fn is_leaf(what: What<'_>, of_members_only: bool) -> bool
+    ensures { result ≡ is_leaf of_members_only (what_of what.entry) }
+{
+    match what {
+        What::Leaf(of_members) => !of_members_only || of_members,
+        _ => false,
+    }
 }

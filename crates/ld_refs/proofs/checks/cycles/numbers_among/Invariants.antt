@@ -2,5 +2,5 @@ use Rattle.std.proofs.Common.{◌≡◌, ◌++◌, drop}
 use Rattle.ld_refs.specs.Reaching.{numbers_among}
 use Rattle.ld_refs.proofs.checks.cycles.numbers_among.Given as goal
 
-abbrev pub invariant-loop-reference : goal.invariant-loop-reference
-invariant-loop-reference l = l.numbers.items ++ numbers_among l.ids (drop l.reference-index l.references) ≡ numbers_among l.ids l.references
+abbrev pub invariant-loop-id : goal.invariant-loop-id
+invariant-loop-id l = l.numbers.items ++ numbers_among l.nodes l.names (drop l.id-index l.ids) ≡ numbers_among l.nodes l.names l.ids

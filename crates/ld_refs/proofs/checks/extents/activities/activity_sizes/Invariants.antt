@@ -1,6 +1,0 @@
-use Rattle.std.proofs.Common.{◌≡◌, ◌++◌, min, map, drop}
-use Rattle.ld_refs.specs.Extents.{activity_size}
-use Rattle.ld_refs.proofs.checks.extents.activities.activity_sizes.Given as goal
-
-abbrev pub invariant-loop-activity : goal.invariant-loop-activity
-invariant-loop-activity l = l.sizes.items ++ map (min 1000000) (map (activity_size l.environments) (drop l.activity-index l.activities)) ≡ map (min 1000000) (map (activity_size l.environments) l.activities)

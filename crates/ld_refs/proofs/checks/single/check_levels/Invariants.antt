@@ -1,7 +1,0 @@
-use Rattle.std.proofs.Common.{◌≡◌, map, drop}
-use Rattle.ld_refs.specs.Bounds.{level_faults}
-use Rattle.ld_refs.specs.SpotView.{spot_of}
-use Rattle.ld_refs.proofs.checks.single.check_levels.Given as goal
-
-abbrev pub invariant-loop-spot : goal.invariant-loop-spot
-invariant-loop-spot l = level_faults l.level (map spot_of (drop l.spot-index l.spots)) ≡ level_faults l.level (map spot_of l.spots)

@@ -1,6 +1,0 @@
-use Rattle.std.proofs.Common.{◌≡◌, map}
-use Rattle.ld_refs.proofs.Rounds.{capped}
-use Rattle.ld_refs.proofs.sizes.expanded_sizes.Given as goal
-
-abbrev pub invariant-loop : goal.invariant-loop
-invariant-loop l = l.sizes.items ≡ capped l.own (map (λ next. next.items) l.edges) l.counter

@@ -1,0 +1,7 @@
+-- What the program's graphs stand for.
+use Rattle.std.specs.Prelude.{ℕ, List, map}
+use Rattle.std.specs.Global.{Vec}
+use Rattle.ld_ways.specs.Graphs.{Graph}
+
+abbrev pub edges_of : List (Vec ℕ) → Graph
+edges_of edges = map (λ next. next.items) edges

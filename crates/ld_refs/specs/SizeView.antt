@@ -1,0 +1,15 @@
+-- What the program's sizes stand for.
+use Rattle.std.specs.Prelude.{map, min}
+use Rattle.ld_refs.specs.declared.checks.sizes.Sizes.{Sizes as CodeSizes}
+use Rattle.ld_refs.specs.Extents.{Sizes}
+
+abbrev pub sizes_by : CodeSizes → Sizes
+sizes_by sizes = record { environments = sizes.environments.items; activities = sizes.activities.items; structures = sizes.structures.items }
+
+-- The sizes that stand still at a million.
+abbrev pub capped : Sizes → Sizes
+capped sizes = record {
+  environments = map (min 1000000) sizes.environments;
+  activities = map (min 1000000) sizes.activities;
+  structures = map (min 1000000) sizes.structures;
+}

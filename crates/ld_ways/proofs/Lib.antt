@@ -1,0 +1,4 @@
+pub mod Bounded
+pub mod Counted
+pub mod CycleLaws
+pub mod Rounds
