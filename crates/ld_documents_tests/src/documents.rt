@@ -3,7 +3,6 @@ use ld_base::plain_text::PlainText;
 use ld_json::doc::{Doc, document};
 use ld_json::docs::Docs;
 use ld_json::fault::ReadFault;
-use ld_json::file::FileNo;
 use ld_method::whole::read_method;
 use ld_model::completion::OnCompletion;
 use ld_model::item::{ItemList, ReferenceList};
@@ -19,6 +18,18 @@ pub(crate) const ROLES: &str = r#"{"roles":[
 {"identifier":"novice","roles":[{"identifier":"beginner","min-persons":2}]}]},
 {"identifier":"tutor","kind":"staff"}]}"#;
 
+pub(crate) const PROPERTIES: &str = r#"{"properties":[
+{"identifier":"score","kind":"locpers","datatype":"integer","title":"Score","initial":"0",
+"restrictions":{"minInclusive":"0","maxInclusive":"9","enumeration":["0","7"]}},
+{"identifier":"team","kind":"locrole","datatype":"string","role":"tutor","restrictions":{"minLength":1,"maxLength":20}},
+{"identifier":"shared","kind":"glob","datatype":"boolean","uri":"urn:shared"}]}"#;
+
+pub(crate) const CONDITIONS: &str = r#"{"conditions":[
+{"if":{"and":[{"is":[{"property":"score"},{"sum":[{"integer":"1"},{"integer":"2"}]}]},{"not":{"no-value":"team"}},
+{"users-in-role":{"role":"learner","expression":{"complete":"read"}}}]},
+"then":[{"show":["read"]},{"change":{"property":"score","value":{"integer":"7"}}}],
+"else":[{"hide":["read"]},{"notify":{"roles":["tutor"],"subject":"Go","activity":"help"}}]}]}"#;
+
 pub(crate) const ENVIRONMENTS: &str = r#"{"environments":[
 {"identifier":"room","title":"Room","visible":false,
 "learning-objects":[{"identifier":"book","title":"Book","visible":false,"items":[{"identifier":"page","href":"page.html"}]}],
@@ -33,14 +44,14 @@ pub(crate) const ACTIVITIES: &str = r#"{"activities":[
 "environments":["room","hall"],
 "items":[{"identifier":"i1","href":"text.html","title":"Text","visible":false},{"identifier":"i2","href":"more.html"}],
 "complete":{"time-limit":"PT1H"},
-"on-completion":{"feedback":[{"identifier":"well","href":"well.html"}]}},
+"on-completion":{"feedback":[{"identifier":"well","href":"well.html"}],"change":[{"property":"score","value":{"integer":"7"}}],"notify":[{"roles":["tutor"]}]}},
 {"identifier":"help","kind":"support","supports":["learner"],"complete":{"user-choice":true}}],
 "structures":[
 {"identifier":"some","kind":"selection","title":"Some","visible":false,"number-to-select":2,"environments":["hall"],"children":["read","help"]},
 {"identifier":"row","kind":"sequence","children":["some"]}]}"#;
 
 pub(crate) const UNIT: &str =
-    r#"{"format":1,"identifier":"u","level":"B","title":"First","turns":8,"metadata":"m",
+    r#"{"format":1,"identifier":"u","level":"C","title":"First","turns":8,"metadata":"m",
 "learning-objectives":[{"identifier":"o1","href":"o.html"}],
 "prerequisites":[{"identifier":"o2","href":"o.html","title":"Before","visible":false}],
 "method":{"plays":[
@@ -93,15 +104,6 @@ fn docs_of(alloc: Global, texts: [&str; 6]) -> Result<Docs, Fail> {
 /// The unit of the documents of these texts, or its first fault.
 pub(crate) fn outcome_of(alloc: Global, texts: [&str; 6]) -> Result<Result<Unit, ReadFault>, Fail> {
     let docs = docs_of(alloc, texts)?;
-    let Some(_) = docs.get(FileNo::Roles) else {
-        return Err(Fail::from("there are no roles"));
-    };
-    let Some(_) = docs.get(FileNo::Activities) else {
-        return Err(Fail::from("there are no activities"));
-    };
-    let Some(_) = docs.get(FileNo::Unit) else {
-        return Err(Fail::from("there is no unit"));
-    };
     match read_parts(alloc, &docs) {
         Err(fault) => Ok(Err(fault)),
         Ok(parts) => Ok(read_method(alloc, &docs, parts)),
@@ -112,11 +114,11 @@ pub(crate) fn outcome_of(alloc: Global, texts: [&str; 6]) -> Result<Result<Unit,
 pub(crate) fn full_unit(alloc: Global) -> Result<Unit, Fail> {
     let texts = [
         ROLES,
-        "{\"properties\":[]}",
+        PROPERTIES,
         ENVIRONMENTS,
         ACTIVITIES,
         UNIT,
-        "{\"conditions\":[]}",
+        CONDITIONS,
     ];
     Ok(outcome_of(alloc, texts)??)
 }

@@ -3,6 +3,8 @@ use crate::documents::{
     SMALL_ROLES, SMALL_UNIT, are, first_fault, full_unit, is_feedback, is_item, is_text, outcome_of,
 };
 use ld_model::completion::Completion;
+use ld_model::condition::{Action, Condition};
+use ld_model::expression::{Test, TestForm};
 use ld_model::method::{Act, Method, Play, RolePart};
 use ld_model::unit::{Level, Unit};
 use std::test::Fail;
@@ -18,13 +20,37 @@ fn a_unit_is_read(rt: HostRuntime) -> Result<(), Fail> {
 fn is_the_unit(unit: &Unit) -> bool {
     unit.format == 1
         && unit.identifier.as_str() == "u"
-        && matches!(unit.level, Level::B)
+        && matches!(unit.level, Level::C)
         && is_text(&unit.title, "First")
         && unit.turns == 8
         && is_text(&unit.metadata, "m")
         && is_item(&unit.learning_objectives, "o1")
         && is_item(&unit.prerequisites, "o2")
-        && unit.conditions.is_empty()
+        && are_the_conditions(unit.conditions.as_slice())
+}
+
+fn are_the_conditions(conditions: &[Condition]) -> bool {
+    let [condition] = conditions else {
+        return false;
+    };
+    let (yes, no) = (condition.yes.as_slice(), condition.no.as_slice());
+    is_all_of_three(&condition.test)
+        && yes.len() == 2
+        && matches!(&yes[0], Action::Show(_))
+        && matches!(&yes[1], Action::Change(_))
+        && no.len() == 2
+        && matches!(&no[0], Action::Hide(_))
+        && matches!(&no[1], Action::Notify(_))
+}
+
+fn is_all_of_three(test: &Test) -> bool {
+    let TestForm::And(tests) = &*test.form else {
+        return false;
+    };
+    tests.len() == 3
+        && matches!(&*tests[0].form, TestForm::Is(_, _))
+        && matches!(&*tests[1].form, TestForm::Not(_))
+        && matches!(&*tests[2].form, TestForm::UsersInRole(_, _))
 }
 
 fn is_the_method(method: &Method) -> bool {

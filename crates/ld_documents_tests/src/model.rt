@@ -3,14 +3,14 @@ mod views;
 
 use crate::documents::full_unit;
 use ld_base::id::Id;
-use ld_base::items::Items;
 use ld_base::numbers::{PropNo, RoleNo, RuleNo, ThingNo};
-use ld_model::identifiers::has_distinct_identifiers;
-use ld_model::names::{Named, Names, Place};
-use ld_model::property::{Property, PropertyKind};
-use ld_model::rule::{Rule, RuleKind, list_rules, number_of_rule};
 use ld_model::unit::Unit;
-use ld_value::kind::Kind;
+use ld_names::identifiers::has_distinct_identifiers;
+use ld_names::names::{Named, Names};
+use ld_names::rule::{Rule, RuleKind, list_rules, number_of_rule};
+use ld_parts::listing::Listing;
+use ld_value::value::Value;
+use ld_walk::place::Place;
 use std::alloc::Global;
 use std::test::Fail;
 
@@ -26,39 +26,13 @@ fn id(alloc: Global, text: &str) -> Result<Id, Fail> {
     Ok(read.ok_or("no identifier")?)
 }
 
-/// The unit that has each member, and a property.
-fn course(alloc: Global) -> Result<Unit, Fail> {
-    let mut unit = full_unit(alloc)?;
-    let properties = properties(alloc)?;
-    unit.properties = properties;
-    Ok(unit)
-}
-
-fn properties(alloc: Global) -> Result<Items<Property>, Fail> {
-    let mut properties = Items::new(alloc);
-    properties.push(property(alloc)?)?;
-    Ok(properties)
-}
-
-fn property(alloc: Global) -> Result<Property, Fail> {
-    Ok(Property {
-        identifier: id(alloc, "score")?,
-        kind: PropertyKind::LocPers,
-        datatype: Kind::Integer,
-        title: None,
-        role: None,
-        uri: None,
-        initial: None,
-        restrictions: None,
-    })
-}
-
 /// The names of the unit.
 fn names_of(alloc: Global, unit: &Unit) -> Result<Names, Fail> {
-    if !has_distinct_identifiers(alloc, unit)? {
+    let listing = Listing::of(alloc, unit)?;
+    if !has_distinct_identifiers(alloc, unit, &listing)? {
         return Err("two parts have one identifier".into());
     }
-    Ok(Names::of(alloc, unit)?)
+    Ok(Names::of(alloc, unit, &listing)?)
 }
 
 /// Whether the identifier names just this, and it is told by this identifier.
@@ -71,7 +45,7 @@ fn is_named(names: &Names, id: &Id, named: Named) -> bool {
 
 #[test]
 fn parts_are_named_and_numbered(rt: HostRuntime) -> Result<(), Fail> {
-    let unit = course(rt.alloc())?;
+    let unit = full_unit(rt.alloc())?;
     let names = names_of(rt.alloc(), &unit)?;
     assert!(rt; are_the_roles(rt.alloc(), &names)?);
     assert!(rt; are_the_things(rt.alloc(), &names)?);
@@ -120,7 +94,7 @@ const PLACES: [(&str, Place, Option<u32>); 10] = [
 
 #[test]
 fn things_stand_in_their_places(rt: HostRuntime) -> Result<(), Fail> {
-    let unit = course(rt.alloc())?;
+    let unit = full_unit(rt.alloc())?;
     let names = names_of(rt.alloc(), &unit)?;
     for (word, place, rule) in PLACES.iter() {
         assert!(rt;
@@ -142,7 +116,7 @@ fn stands_at(names: &Names, id: &Id, place: Place, rule: Option<u32>) -> bool {
 }
 
 /// The rules of the unit in their order.
-const RULES: [Rule; 15] = [
+const RULES: [Rule; 16] = [
     Rule::CompletesActivity(0),
     Rule::CompletesActivity(1),
     Rule::CompletesStructure(0),
@@ -158,12 +132,14 @@ const RULES: [Rule; 15] = [
     Rule::OpensAct(1, 0),
     Rule::CompletesPart(1, 0, 0),
     Rule::CompletesUnit,
+    Rule::JudgesCondition(0),
 ];
 
 #[test]
 fn rules_stand_in_their_order(rt: HostRuntime) -> Result<(), Fail> {
-    let unit = course(rt.alloc())?;
-    let rules = list_rules(rt.alloc(), &unit)?;
+    let unit = full_unit(rt.alloc())?;
+    let listing = Listing::of(rt.alloc(), &unit)?;
+    let rules = list_rules(rt.alloc(), &listing)?;
     assert!(rt; rules.as_slice() == RULES.as_slice());
     assert!(rt; number_of_rule(&rules, Rule::OpensAct(0, 1)) == Some(8));
     assert!(rt; number_of_rule(&rules, Rule::OpensAct(0, 2)).is_none());
@@ -174,9 +150,32 @@ fn rules_stand_in_their_order(rt: HostRuntime) -> Result<(), Fail> {
 
 #[test]
 fn a_repeated_identifier_is_found(rt: HostRuntime) -> Result<(), Fail> {
-    let mut unit = course(rt.alloc())?;
-    assert!(rt; has_distinct_identifiers(rt.alloc(), &unit)?);
+    let mut unit = full_unit(rt.alloc())?;
+    assert!(rt; differ(rt.alloc(), &unit)?);
     unit.identifier = id(rt.alloc(), "f3")?;
-    assert!(rt; !has_distinct_identifiers(rt.alloc(), &unit)?);
+    assert!(rt; !differ(rt.alloc(), &unit)?);
+    Ok(())
+}
+
+/// Whether no two parts of the unit have one identifier.
+fn differ(alloc: Global, unit: &Unit) -> Result<bool, Fail> {
+    let listing = Listing::of(alloc, unit)?;
+    Ok(has_distinct_identifiers(alloc, unit, &listing)?)
+}
+
+#[test]
+fn restrictions_and_initial_values_are_values(rt: HostRuntime) -> Result<(), Fail> {
+    let unit = full_unit(rt.alloc())?;
+    let names = names_of(rt.alloc(), &unit)?;
+    let Some(Named::Prop(score)) = names.number(&id(rt.alloc(), "score")?) else {
+        return Err("no property".into());
+    };
+    let limits = names.limits(score);
+    assert!(rt; matches!(limits.most, Some(Value::Int(9))) && limits.one_of.len() == 2);
+    assert!(rt; matches!(names.initial(score), Some(Value::Int(0))));
+    let Some(Named::Prop(team)) = names.number(&id(rt.alloc(), "team")?) else {
+        return Err("no property".into());
+    };
+    assert!(rt; names.initial(team).is_none());
     Ok(())
 }

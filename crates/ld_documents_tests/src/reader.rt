@@ -1,29 +1,25 @@
 //! The roles, environments, activities and structures of documents, and single values.
-ghost use Rattle.ld_json.specs.Access.{IsObject};
-
 use crate::documents::{SMALL_UNIT, are, first_fault, full_unit, is_feedback, is_item, is_text};
-use ld_base::id::Id;
 use ld_json::doc::document;
 use ld_json::file::FileNo;
-use ld_json::node::Node;
 use ld_model::activity::{Activity, ActivityKind, Structure, StructureKind};
 use ld_model::completion::Completion;
 use ld_model::environment::{Environment, LearningObject, Service, ServiceKind};
+use ld_model::expression::TermForm;
+use ld_model::property::{Property, PropertyKind};
 use ld_model::role::{CreateNew, MatchPersons, Role, RoleKind};
-use ld_reader::completions::{read_activity_completion, read_on_completion};
-use ld_reader::lists::{list_at, read_list};
-use ld_reader::members::{default_at, number_at, number_or, optional_at, text_at};
-use ld_reader::values::{
-    number_between, number_from, read_href, read_seconds, read_text, read_true,
-};
-use std::alloc::Global;
+use ld_reader::changes::read_on_completion;
+use ld_reader::completions::ActivityCompletion;
+use ld_reader::terms::read_term;
+use ld_shape::reads::Reads;
+use ld_value::kind::Kind;
 use std::test::Fail;
 
 #[test]
 fn parts_are_read(rt: HostRuntime) -> Result<(), Fail> {
     let unit = full_unit(rt.alloc())?;
     assert!(rt; are_the_roles(unit.roles.as_slice()));
-    assert!(rt; unit.properties.is_empty());
+    assert!(rt; are_the_properties(unit.properties.as_slice()));
     assert!(rt; are_the_environments(unit.environments.as_slice()));
     assert!(rt; are_the_activities(unit.activities.as_slice()));
     assert!(rt; are_the_structures(unit.structures.as_slice()));
@@ -76,6 +72,30 @@ fn is_the_beginner(roles: &[Role]) -> bool {
         return false;
     };
     beginner.identifier.as_str() == "beginner" && beginner.min_persons == 2
+}
+
+fn are_the_properties(properties: &[Property]) -> bool {
+    let [score, team, shared] = properties else {
+        return false;
+    };
+    is_the_score(score)
+        && matches!(team.kind, PropertyKind::LocRole)
+        && matches!(&team.role, Some(role) if role.as_str() == "tutor")
+        && matches!(shared.kind, PropertyKind::Glob)
+        && is_text(&shared.uri, "urn:shared")
+}
+
+fn is_the_score(score: &Property) -> bool {
+    let Some(restrictions) = &score.restrictions else {
+        return false;
+    };
+    matches!(score.kind, PropertyKind::LocPers)
+        && score.datatype == Kind::Integer
+        && is_text(&score.title, "Score")
+        && is_text(&score.initial, "0")
+        && is_text(&restrictions.min_inclusive, "0")
+        && is_text(&restrictions.max_inclusive, "9")
+        && restrictions.enumeration.len() == 2
 }
 
 fn are_the_environments(environments: &[Environment]) -> bool {
@@ -172,67 +192,31 @@ fn the_first_fault_is_told(rt: HostRuntime) -> Result<(), Fail> {
     Ok(())
 }
 
-/// Single values, and members that are there and that are not.
-#[test]
-fn values_are_read(rt: HostRuntime) -> Result<(), Fail> {
-    let text = b"{\"t\":\"abc\",\"n\":7,\"b\":true,\"d\":\"P1D\",\"list\":[\"x\",\"y\"]}";
-    let doc = document(rt.alloc(), text)?;
-    let root = doc.root(FileNo::Unit);
-    root.only(rt.alloc(), &["t", "n", "b", "d", "list"])?;
-    assert!(rt; are_the_texts(rt.alloc(), &root)?);
-    assert!(rt; are_the_numbers(rt.alloc(), &root)?);
-    assert!(rt; are_the_lists(rt.alloc(), &root)?);
-    Ok(())
-}
-
-fn are_the_texts(alloc: Global, root: &Node<'_>) -> Result<bool, Fail>
-    requires { IsObject root.now }
-{
-    let member = root.member(alloc, "t")?;
-    let text = read_text(alloc, &member, 3, 3)?;
-    let href = read_href(alloc, &member)?;
-    Ok(text.as_str() == "abc" && href.as_str() == "abc")
-}
-
-fn are_the_numbers(alloc: Global, root: &Node<'_>) -> Result<bool, Fail>
-    requires { IsObject root.now }
-{
-    let number = root.member(alloc, "n")?;
-    let flag = root.member(alloc, "b")?;
-    let duration = root.member(alloc, "d")?;
-    Ok(
-        number_between(alloc, &number, 7, 7)? == 7
-            && number_from(alloc, &number, 1)? == 7
-            && read_true(alloc, &flag)?
-            && read_seconds(alloc, &duration)? == 86_400,
-    )
-}
-
-fn are_the_lists(alloc: Global, root: &Node<'_>) -> Result<bool, Fail>
-    requires { IsObject root.now }
-{
-    let member = root.member(alloc, "list")?;
-    Ok(
-        read_list::<Id>(alloc, &member, 2)?.len() == 2
-            && list_at::<Id>(alloc, root, "list")?.len() == 2
-            && text_at(alloc, root, "u", 0, 4096)?.is_none()
-            && number_at(alloc, root, "n", 0, 9)? == Some(7)
-            && number_or(alloc, root, "m", 64, 1, 256)? == 64
-            && default_at::<bool>(alloc, root, "c", true)?
-            && optional_at::<Id>(alloc, root, "t")?.is_some(),
-    )
-}
-
 /// Completions by themselves, and what follows where nothing is said of it.
 #[test]
 fn completions_are_read(rt: HostRuntime) -> Result<(), Fail> {
     let doc = document(rt.alloc(), b"{\"time-limit\":\"PT0S\"}")?;
-    let complete = read_activity_completion(rt.alloc(), &doc.root(FileNo::Activities))?;
+    let complete = ActivityCompletion::read(rt.alloc(), &doc.root(FileNo::Activities))?;
     assert!(rt; matches!(complete, Completion::TimeLimit(0)));
     let doc = document(rt.alloc(), b"{}")?;
     let follows = read_on_completion(rt.alloc(), &doc.root(FileNo::Unit))?;
     assert!(rt;
         follows.feedback.is_empty() && follows.change.is_empty() && follows.notify.is_empty()
     );
+    Ok(())
+}
+
+/// A term by itself.
+#[test]
+fn a_term_is_read(rt: HostRuntime) -> Result<(), Fail> {
+    let doc = document(
+        rt.alloc(),
+        b"{\"sum\":[{\"property\":\"n\"},{\"integer\":\"1\"}]}",
+    )?;
+    let term = read_term(rt.alloc(), &doc.root(FileNo::Conditions))?;
+    let TermForm::Sum(terms) = &*term.form else {
+        return Err("no sum".into());
+    };
+    assert!(rt; terms.len() == 2 && matches!(&*terms[0].form, TermForm::Property(_)));
     Ok(())
 }

@@ -17,7 +17,7 @@ use Rattle.ld_value.specs.Datum.{Datum, datum_of}
 use Rattle.ld_value.specs.declared.value.Value.{Value}
 use Rattle.ld_top.specs.StateView.{written_or, person_state, state_of}
 use Rattle.ld_top.specs.declared.state.State.{State}
-use Rattle.ld_model.specs.State.{cells_at_first, with_cell}
+use Rattle.ld_top.specs.State.{cells_at_first, with_cell}
 
 eq_swapped : (x y : ℕ) → nat_eq x y ≡ nat_eq y x
 eq_swapped x y = grind (arith, common_steps)

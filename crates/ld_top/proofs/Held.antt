@@ -1,6 +1,6 @@
 -- Writing one person in the list of persons.
 use Rattle.std.proofs.Common.{◌≡◌, ℕ, zero, suc, List, [], ◌∷◌, map, set, get_or, refl, ap, ◌∙◌}
-use Rattle.ld_model.specs.State.{PersonState, RunState}
+use Rattle.ld_top.specs.State.{PersonState, RunState}
 use Rattle.ld_top.specs.StateView.{person_state, with_role, cell_in}
 use Rattle.ld_top.specs.Step.{holding}
 use Rattle.ld_top.specs.declared.state.Person.{Person}

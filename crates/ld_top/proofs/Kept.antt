@@ -2,8 +2,8 @@
 use Rattle.std.proofs.Common.{ℕ, suc, zero, ◌+◌, ◌==◌, ℤ, List, [], ◌∷◌, Bool, true, false, ◌&&◌, Option, Some, None, length, IfSome, if◌then◌else◌}
 use Rattle.std.specs.List.{fold}
 use Rattle.ld_top.specs.declared.built.BuiltCommand.{BuiltCommand}
-use Rattle.ld_model.specs.Rules.{Site, sites_of}
-use Rattle.ld_model.specs.State.{RunState}
+use Rattle.ld_names.specs.Rules.{Site, sites_of}
+use Rattle.ld_top.specs.State.{RunState}
 use Rattle.ld_model.specs.declared.unit.Unit.{Unit as Course}
 use Rattle.ld_top.specs.Firing.{Tally, Settling, site_visit, sweep, settling_within, quiet_at, after_turn, tally_from}
 use Rattle.ld_top.specs.Step.{Outcome, step, at_moment, changed, settled_if, is_started, is_not_open, has_change, finished, refusal, after_first, after_checks, first_cause, causes}

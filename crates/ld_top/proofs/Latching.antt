@@ -6,13 +6,13 @@ use Rattle.ld_base.specs.declared.numbers.ThingNo.{ThingNo}
 use Rattle.ld_top.specs.declared.built.BuiltCommand.{BuiltCommand}
 use Rattle.ld_top.specs.declared.built.BuiltCommand.TheVariants.{Enrol, Assign, Start, Complete, Tree}
 use Rattle.ld_model.specs.Cells.{same_cell, same_owner}
-use Rattle.ld_model.specs.Members.{person_number}
-use Rattle.ld_model.specs.Names.{role_number}
-use Rattle.ld_model.specs.Rules.{rules_of, Site}
-use Rattle.ld_model.specs.declared.rule.Rule.{Rule}
-use Rattle.ld_model.specs.declared.rule.Rule.TheVariants.{CompletesActivity, CompletesStructure, OpensAct, CompletesPart, CompletesAct, CompletesPlay, CompletesUnit, JudgesCondition}
-use Rattle.ld_model.specs.State.{RunState, with_cell, says_yes}
-use Rattle.ld_model.specs.Names.{thing_number}
+use Rattle.ld_top.specs.Members.{person_number}
+use Rattle.ld_names.specs.Names.{role_number}
+use Rattle.ld_names.specs.Rules.{rules_of, Site}
+use Rattle.ld_names.specs.declared.rule.Rule.{Rule}
+use Rattle.ld_names.specs.declared.rule.Rule.TheVariants.{CompletesActivity, CompletesStructure, OpensAct, CompletesPart, CompletesAct, CompletesPlay, CompletesUnit, JudgesCondition}
+use Rattle.ld_top.specs.State.{RunState, with_cell, says_yes}
+use Rattle.ld_names.specs.Names.{thing_number}
 use Rattle.ld_model.specs.declared.cell.CellName.{CellName}
 use Rattle.ld_model.specs.declared.cell.CellName.TheVariants.{Chosen, ActOpened, Started, Mark}
 use Rattle.ld_model.specs.declared.cell.Owner.{Owner}

@@ -1,5 +1,5 @@
 -- The start opens the first act of each play.
-use Rattle.std.proofs.Common.{◌≡◌, ◌⊎◌, inl, inr, ◌+◌, ◌==◌, ℕ, suc, zero, ℤ, List, ◌++◌, [], ◌∷◌, Bool, true, false, Option, Some, None, length, nat_eq, refl, sym, ap, subst, ◌∙◌, if◌then◌else◌, slice_get}
+use Rattle.std.proofs.Common.{◌≡◌, ◌⊎◌, inl, inr, ◌+◌, ◌==◌, ℕ, suc, zero, ℤ, List, ◌++◌, [], ◌∷◌, Bool, true, false, Option, Some, None, length, map, codes, nat_eq, refl, sym, ap, subst, ◌∙◌, if◌then◌else◌, slice_get}
 use Rattle.std.specs.List.{fold}
 use Rattle.std.proofs.lemmas.Bool.{eqb-true}
 use Rattle.std.proofs.Math.Bool.{or-true}
@@ -8,20 +8,27 @@ use Rattle.ld_value.specs.declared.moment.Moment.{Moment}
 use Rattle.ld_top.specs.declared.built.BuiltCommand.TheVariants.{Start}
 use Rattle.ld_model.specs.Cells.{same_cell}
 use Rattle.ld_model.specs.Counting.{each_numbered}
-use Rattle.ld_model.specs.Rules.{Site, rules_of, sites_of, sites_of_rule, activity_rule, structure_rule, play_rules, act_rules, condition_rule, rule_if_any}
-use Rattle.ld_model.specs.declared.rule.Rule.{Rule}
-use Rattle.ld_model.specs.declared.rule.Rule.TheVariants.{CompletesActivity, CompletesStructure, OpensAct, CompletesPart, CompletesAct, CompletesPlay, CompletesUnit, JudgesCondition}
-use Rattle.ld_model.specs.State.{RunState, with_cell, says_yes, moment_in}
-use Rattle.ld_model.specs.Identifiers.{HasDistinctIdentifiers}
-use Rattle.ld_model.specs.Names.{thing_number}
-use Rattle.ld_model.specs.Things.{Entry, things_of, item_entries, feedback_entries, environment_entries, activity_entries, structure_entries, play_entries, act_entries, method_entries}
-use Rattle.ld_model.proofs.NameLaws.{thing_named}
+use Rattle.ld_parts.specs.Listing.{act_parts, act_parts_at, play_parts, play_parts_at, ending_parts, method_at, method_parts, middle_parts, unit_parts, role_part, condition_parts, parts_of}
+use Rattle.ld_walk.specs.CommonParts.{unshown_part, items_parts}
+use Rattle.ld_walk.specs.Parts.{Part, Declares}
+use Rattle.ld_walk.specs.Places.{root, nth}
+use Rattle.ld_names.specs.Rules.{Site, rules_at, rules_of, sites_of, sites_of_rule}
+use Rattle.ld_names.specs.declared.rule.Rule.{Rule}
+use Rattle.ld_names.specs.declared.rule.Rule.TheVariants.{CompletesActivity, CompletesStructure, OpensAct, CompletesPart, CompletesAct, CompletesPlay, CompletesUnit, JudgesCondition}
+use Rattle.ld_top.specs.State.{RunState, with_cell, says_yes, moment_in}
+use Rattle.ld_names.specs.Identifiers.{HasDistinctIdentifiers}
+use Rattle.ld_names.specs.Names.{thing_number}
+use Rattle.ld_names.specs.Things.{Entry, thing_in, things_of}
+use Rattle.ld_walk.specs.declared.kind.Kind.TheVariants as kind
+use Rattle.ld_json.specs.declared.file.FileNo.TheVariants as file
+use Rattle.ld_model.specs.Roles.{roles_of}
+use Rattle.ld_names.proofs.NameLaws.{thing_named}
 use Rattle.ld_model.specs.declared.cell.CellName.{CellName}
 use Rattle.ld_model.specs.declared.cell.CellName.TheVariants.{ActOpened, Mark, Now, Started}
 use Rattle.ld_model.specs.declared.cell.Owner.TheVariants.{Run}
 use Rattle.ld_model.specs.declared.method.Act.{Act}
 use Rattle.ld_model.specs.declared.method.Play.{Play}
-use Rattle.ld_model.specs.declared.names.Place.TheVariants.{Act as ActPlace}
+use Rattle.ld_walk.specs.declared.place.Place.TheVariants.{Act as ActPlace, Play as PlayPlace}
 use Rattle.ld_model.specs.declared.unit.Unit.{Unit as Course}
 use Rattle.ld_value.specs.Datum.{Datum, text_datum, truth_datum, number_datum, moment_datum, span_datum}
 use Rattle.ld_top.specs.Firing.{Tally, Settling, site_visit, site_fired, visit_with, mark_of, mark_says, effect, open_act, open_thing, sweep, settling_within, quiet_at, after_turn, tally_from}
@@ -32,7 +39,7 @@ use Rattle.ld_top.specs.declared.refusal.Refusal.{Refusal}
 use Rattle.ld_top.specs.declared.refusal.Refusal.TheVariants.{MomentBack, StartedAlready}
 use Rattle.ld_top.proofs.Kept.{VisitsKeep, HoldsSettled, visits_keep, settling_keeps, after_turn_holds}
 use Rattle.ld_top.proofs.Latching.{one_rule_and_owner, effect_leaves, either_tally}
-use Rattle.ld_top.proofs.Places.{IsIn, in_front, in_back, in_each, place_of}
+use Rattle.ld_top.proofs.Places.{IsIn, in_front, in_back, in_each, in_flat, place_of}
 use Rattle.ld_top.proofs.Settled.{quiet_sweep}
 use Rattle.ld_top.proofs.Unstarted.{visit_leaves, untouched_run}
 
@@ -42,36 +49,45 @@ play_of_act : (unit : Course) (p : ℕ) (play : Option Play) (act : Act) → sli
 play_of_act unit p None act at first = cc
 play_of_act unit p (Some play) act at first = (play, at, first)
 
+-- The act stands among the parts of the unit.
+act_stands : (unit : Course) (p : ℕ) (act : Act) → act_at unit p 0 ≡ Some act
+    → (part : Part) × IsIn part (parts_of unit) × (part.what ≡ Declares (kind.Thing (ActPlace p 0)) act.identifier None)
+unfolding parts_of unit_parts method_parts play_parts_at act_parts_at
+act_stands unit p act first =
+    let play = play_of_act unit p (slice_get unit.method.plays p) act refl first in
+    let at = nth method_at (codes "plays") p in
+    let part : Part = unshown_part (nth at (codes "acts") 0) (ActPlace p 0) act.identifier in
+    let acts = each_numbered (act_parts at p) play.0.acts in
+    let in_play : IsIn part (play_parts method_at p play.0) =
+    inr (in_front part acts (ending_parts at (kind.Thing (PlayPlace p)) play.0.complete play.0.on_completion) (in_each (act_parts at p) play.0.acts 0 act part play.2 (inl refl))) in
+    let plays = each_numbered (play_parts method_at) unit.method.plays in
+    let in_method : IsIn part (method_parts unit.method) =
+    in_front part plays (ending_parts method_at kind.Unit unit.method.complete unit.method.on_completion) (in_each (play_parts method_at) unit.method.plays p play.0 part play.1 in_play) in
+    let objectives = items_parts (root file.Unit) (codes "learning-objectives") unit.learning_objectives in
+    let prerequisites = items_parts (root file.Unit) (codes "prerequisites") unit.prerequisites in
+    let in_unit : IsIn part (unit_parts unit) =
+    inr (in_back part objectives (prerequisites ++ method_parts unit.method) (in_back part prerequisites (method_parts unit.method) in_method)) in
+    let conditions = each_numbered (condition_parts (root file.Conditions)) unit.conditions in (
+      part,
+      in_back part (map (role_part (root file.Roles)) (roles_of unit)) (middle_parts unit ++ (unit_parts unit ++ conditions))
+          (in_back part (middle_parts unit) (unit_parts unit ++ conditions) (in_front part (unit_parts unit) conditions in_unit)),
+      refl,
+    )
+
 has_thing : (unit : Course) (p : ℕ) (act : Act) → HasDistinctIdentifiers unit → act_at unit p 0 ≡ Some act → (thing : ℕ) × (thing_number unit act.identifier ≡ Some thing)
 has_thing unit p act distinct first =
-    let play = play_of_act unit p (slice_get unit.method.plays p) act refl first in
-    let entry : Entry = record { identifier = act.identifier; place = ActPlace p 0 } in
-    let plays = each_numbered play_entries unit.method.plays in
-    let in_play : IsIn entry (play_entries p play.0) = inr (in_front entry (each_numbered (act_entries p) play.0.acts) (feedback_entries play.0.on_completion) (in_each (act_entries p) play.0.acts 0 act entry play.2 (inl refl))) in
-    let in_plays : IsIn entry plays = in_each play_entries unit.method.plays p play.0 entry play.1 in_play in
-    let in_method : IsIn entry (method_entries unit) =
-    in_back entry (item_entries unit.learning_objectives) (item_entries unit.prerequisites ++ (plays ++ feedback_entries unit.method.on_completion))
-    (in_back entry (item_entries unit.prerequisites) (plays ++ feedback_entries unit.method.on_completion) (in_front entry plays (feedback_entries unit.method.on_completion) in_plays)) in
-    let structures = each_numbered structure_entries unit.structures in
-    let activities = each_numbered activity_entries unit.activities in
-    let in_unit : IsIn entry (things_of unit) =
-    in_back entry (each_numbered environment_entries unit.environments) (activities ++ (structures ++ method_entries unit))
-    (in_back entry activities (structures ++ method_entries unit) (in_back entry structures (method_entries unit) in_method)) in
-    let place = place_of entry (things_of unit) in_unit in
+    let stands = act_stands unit p act first in
+    let entry : Entry = record { identifier = act.identifier; place = ActPlace p 0; visible = None } in
+    let in_part : IsIn entry (thing_in stands.0.what) = rw stands.2 (inl refl) in
+    let place = place_of entry (things_of unit) (in_flat entry (λ (part : Part). thing_in part.what) stands.0 (parts_of unit) stands.1 in_part) in
     (place.0, thing_named unit place.0 entry distinct place.1)
 
 has_rule : (unit : Course) (p : ℕ) (act : Act) → act_at unit p 0 ≡ Some act → (number : ℕ) × (slice_get (rules_of unit) number ≡ Some (OpensAct p 0))
 has_rule unit p act first =
-    let play = play_of_act unit p (slice_get unit.method.plays p) act refl first in
+    let stands = act_stands unit p act first in
     let rule : Rule = OpensAct p 0 in
-    let acts = each_numbered (act_rules p) play.0.acts in
-    let in_play : IsIn rule (play_rules p play.0) = in_front rule acts (rule_if_any play.0.complete (CompletesPlay p)) (in_each (act_rules p) play.0.acts 0 act rule play.2 (inl refl)) in
-    let plays = each_numbered play_rules unit.method.plays in
-    let conditions = rule_if_any unit.method.complete CompletesUnit ++ each_numbered condition_rule unit.conditions in
-    let in_plays : IsIn rule plays = in_each play_rules unit.method.plays p play.0 rule play.1 in_play in
-    place_of rule (rules_of unit)
-    (in_back rule (each_numbered activity_rule unit.activities) (each_numbered structure_rule unit.structures ++ (plays ++ conditions))
-    (in_back rule (each_numbered structure_rule unit.structures) (plays ++ conditions) (in_front rule plays conditions in_plays)))
+    let in_part : IsIn rule (rules_at stands.0.what) = rw stands.2 (inl refl) in
+    place_of rule (rules_of unit) (in_flat rule (λ (part : Part). rules_at part.what) stands.0 (parts_of unit) stands.1 in_part)
 
 abbrev site_for : ℕ → Site
 site_for number = record { rule = number; owner = Run }

@@ -1,5 +1,6 @@
 -- What is where in lists whose elements are counted.
 use Rattle.std.proofs.Common.{◌≡◌, ◌⊎◌, inl, inr, ℕ, suc, zero, ◌+◌, List, [], ◌∷◌, ◌++◌, Some, slice_get, sym, ap, subst, arith}
+use Rattle.std.specs.List.{flat_map}
 use Rattle.ld_model.specs.Counting.{each_numbered, each_numbered_from}
 
 -- The element is in the list.
@@ -37,3 +38,9 @@ pub in_each : {A B : Type 0} (f : ℕ → A → List B) (xs : List A) (k : ℕ) 
 in_each f xs k x y at there =
     let number : k ≡ 0 + k = omega arith in
     in_numbered f 0 xs k x y at (subst (λ (m : ℕ). IsIn y (f m x)) number there)
+
+-- What an element gives is among what all give.
+pub in_flat : {A B : Type 0} (y : B) (f : A → List B) (x : A) (xs : List A) → IsIn x xs → IsIn y (f x) → IsIn y (flat_map f xs)
+in_flat y f x [] there is = absurd there
+in_flat y f x (z ∷ xs) (inl same) is = in_front y (f z) (flat_map f xs) (subst (λ (w : _). IsIn y (f w)) same is)
+in_flat y f x (z ∷ xs) (inr there) is = in_back y (f z) (flat_map f xs) (in_flat y f x xs there is)

@@ -1,6 +1,6 @@
 -- What is told of a step has a text.
 use Rattle.std.proofs.Common.{◌≡◌, ℤ, List, [], ◌∷◌, Bool, true, false, ◌&&◌, Option, Some, None, refl, sym, ap, ◌∙◌, subst, if◌then◌else◌, IfSome}
-use Rattle.ld_model.specs.State.{RunState, moment_in, state_at_first}
+use Rattle.ld_top.specs.State.{RunState, moment_in, state_at_first}
 use Rattle.ld_model.specs.declared.cell.CellName.TheVariants.{Now}
 use Rattle.ld_model.specs.declared.unit.Unit.{Unit as Course}
 use Rattle.ld_value.specs.Calendar.{IsMoment}

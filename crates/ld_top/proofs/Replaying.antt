@@ -1,14 +1,14 @@
 -- A replay under way: what was taken, which lines were handed out, and what was written for them.
-use Rattle.std.proofs.Common.{ℕ, List, [], ◌∷◌, ◌++◌, ◌≡◌, ◌<◌, ◌^◌, length, Option, Some, None, true, false, refl, sym, ◌∙◌, ap, append_assoc, append-nil, ◌⊎◌, ◌+◌, arith, inl, inr, Ok, Err, subst}
+use Rattle.std.proofs.Common.{ℕ, Bool, List, [], ◌∷◌, ◌++◌, ◌≡◌, ◌<◌, ◌≤◌, ◌^◌, length, Option, Some, None, true, false, refl, sym, ◌∙◌, ap, append_assoc, append-nil, ◌⊎◌, ◌+◌, arith, inl, inr, Ok, Err, subst}
 use Rattle.std.proofs.lemmas.Grind.{common_steps}
-use Rattle.ld_base.specs.Outside.{piece_then, then_piece}
+use Rattle.ld_base.specs.Outside.{piece_then, then_piece, AddsPrefix}
 use Rattle.ld_lines.specs.Answer.{Answer, WholeLine, OverLine, NoLine, Fault, TooLong, HandsOut}
 use Rattle.ld_lines.specs.Handed.{Handed}
-use Rattle.ld_lines.specs.Lines.{lines_of}
+use Rattle.ld_lines.specs.Lines.{lines_of, ended_lines_of}
 use Rattle.ld_lines.specs.Reading.{Reading, IsEnd}
 use Rattle.ld_lines.proofs.Handed.{Handed-first, Handed-next}
 use Rattle.ld_lines.specs.declared.stop.LineStop.TheVariants.{ReadFault, InputTooLong}
-use Rattle.ld_top.specs.Answering.{AnswersWhat, Answered, AnsweredAll, AnsweredTaken}
+use Rattle.ld_top.specs.Answering.{AnswersWhat, Answered, AnsweredAll, AnsweredTaken, AnsweredCut, BeginsWithLines}
 use Rattle.ld_top.specs.Answers.{AnswersLine, Leads, line_of}
 use Rattle.ld_top.specs.World.{WorldState}
 
@@ -109,3 +109,32 @@ ended_well {at_first = at_first} {first = first} {before = before} {now = now} {
     (way.text, (world, subst (λ ls. Leads at_first ls way.text world) (sym s.2) way.led), way.wrote)
 ended_well next text way Fault out what = absurd (cc what.0)
 ended_well next text way TooLong out what = absurd (cc what.0)
+
+-- The bytes that were taken begin with the lines that were handed out.
+first_lines : {first : Option (List ℕ)} {bytes : List ℕ} {lines : List (List ℕ)} {r : Reading} {now : Option (List ℕ)} → Handed first bytes lines r now → (ended : Bool) → r.ended ≡ ended → BeginsWithLines bytes now lines
+first_lines {bytes = bytes} {lines = lines} {r = r} handed false going =
+    (ended_lines_of r.held, inl (rw (append-nil bytes, append-nil r.held) at (handed.leaves.by_feed [] going)))
+first_lines {bytes = bytes} {lines = lines} {r = r} handed true told =
+    (lines_of r.held, inr (handed.knows_end told, rw (append-nil bytes, append-nil r.held) at (handed.leaves.every [] (λ _. refl))))
+
+-- One more line was handed out, and its answer was begun.
+begun : {at_first : WorldState} {first before : Option (List ℕ)} {old new : Reading} {left now : Option (List ℕ)} {world : WorldState} {written after : Option (List ℕ)} (next : WorldState) (way : IsUnderWay at_first first before old left world written) (line text : List ℕ) → ((bytes : List ℕ) × Handed first bytes (way.lines ++ line ∷ []) new now) → new.taken ≤ 2 ^ 40 → AnswersLine world (line_of line) text next → AddsPrefix written text after → AnsweredCut at_first first now before after
+begun {new = new} {world = world} {after = after} next way line text handed limit answers adds = (
+  handed.0,
+  handed.1.left,
+  rw (← handed.1.counted) limit,
+  way.lines,
+  line,
+  first_lines handed.1 new.ended refl,
+  (way.text, world, way.led, text, next, answers, subst (λ w. AddsPrefix w text after) way.wrote adds),
+)
+
+-- A sink that failed.
+pub stopped_by_sink : {at_first : WorldState} {first before : Option (List ℕ)} {old new : Reading} {left now : Option (List ℕ)} {world : WorldState} {written after : Option (List ℕ)} (next : WorldState) (text : List ℕ) → IsUnderWay at_first first before old left world written → (answer : Answer) → HandsOut old left answer new now → AnswersWhat world answer (Ok true) text next → AddsPrefix written text after → AnsweredCut at_first first now before after
+stopped_by_sink next text way (WholeLine line) out what adds = begun next way line text (Handed-next (WholeLine line) way.handed out) out.limit what.1 adds
+stopped_by_sink {world = world} next text way OverLine out what adds =
+    let handed = Handed-next OverLine way.handed out in
+    begun next way handed.1 text (handed.0, handed.3) out.limit (subst (λ o. AnswersLine world o text next) (sym (line_of-long handed.1 handed.2)) what.1) adds
+stopped_by_sink next text way NoLine out what adds = absurd (cc what.0)
+stopped_by_sink next text way Fault out what adds = absurd (cc what.0)
+stopped_by_sink next text way TooLong out what adds = absurd (cc what.0)

@@ -2,8 +2,8 @@
 use Rattle.std.proofs.Common.{◌≡◌, ◌⊎◌, inl, inr, ℕ, suc, ◌+◌, ◌-◌, ◌<◌, ◌≤◌, ◌==◌, List, [], ◌∷◌, Bool, true, false, Option, Some, None, option_map, length, refl, sym, ap, ◌∙◌, arith, if◌then◌else◌}
 use Rattle.std.specs.List.{fold}
 use Rattle.std.proofs.lemmas.Bool.Decides.{eqb_tells}
-use Rattle.ld_model.specs.Rules.{Site, sites_of}
-use Rattle.ld_model.specs.State.{RunState}
+use Rattle.ld_names.specs.Rules.{Site, sites_of}
+use Rattle.ld_top.specs.State.{RunState}
 use Rattle.ld_model.specs.declared.unit.Unit.{Unit as Course}
 use Rattle.ld_top.specs.Firing.{Tally, Settling, site_visit, site_fired, mark_says, mark_of, sweep, settling_within, quiet_at, after_turn, tally_from}
 use Rattle.ld_top.specs.Tests.{site_test}

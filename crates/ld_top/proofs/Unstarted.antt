@@ -5,11 +5,11 @@ use Rattle.ld_base.specs.declared.numbers.ThingNo.{ThingNo}
 use Rattle.ld_top.specs.declared.built.BuiltCommand.{BuiltCommand}
 use Rattle.ld_top.specs.declared.built.BuiltCommand.TheVariants.{Enrol, Assign, Start, Complete, Tree}
 use Rattle.ld_model.specs.Cells.{same_cell}
-use Rattle.ld_model.specs.Members.{person_number}
-use Rattle.ld_model.specs.Names.{role_number}
-use Rattle.ld_model.specs.Rules.{Site, rules_of}
-use Rattle.ld_model.specs.State.{RunState, with_cell, says_yes, state_at_first}
-use Rattle.ld_model.specs.Names.{thing_number}
+use Rattle.ld_top.specs.Members.{person_number}
+use Rattle.ld_names.specs.Names.{role_number}
+use Rattle.ld_names.specs.Rules.{Site, rules_of}
+use Rattle.ld_top.specs.State.{RunState, with_cell, says_yes, state_at_first}
+use Rattle.ld_names.specs.Names.{thing_number}
 use Rattle.ld_model.specs.declared.cell.CellName.{CellName}
 use Rattle.ld_model.specs.declared.cell.CellName.TheVariants.{ActOpened, Started, Mark, Now}
 use Rattle.ld_model.specs.declared.cell.Owner.{Owner}

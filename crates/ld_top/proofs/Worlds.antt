@@ -5,7 +5,7 @@ use Rattle.std.specs.Str.{bytes_eq}
 use Rattle.ld_top.specs.declared.built.BuiltLine.{BuiltLine}
 use Rattle.ld_top.specs.declared.built.BuiltLine.TheVariants.{Create, OfRun}
 use Rattle.ld_top.specs.declared.built.BuiltCommand.{BuiltCommand}
-use Rattle.ld_model.specs.State.{RunState, state_at_first}
+use Rattle.ld_top.specs.State.{RunState, state_at_first}
 use Rattle.ld_model.specs.declared.unit.Unit.{Unit as Course}
 use Rattle.ld_value.specs.declared.moment.Moment.{Moment}
 use Rattle.ld_lines.specs.Commands.{command_of}

@@ -2,11 +2,11 @@
 use Rattle.std.specs.Prelude.{ℕ, suc, zero, ◌+◌, ◌==◌, Option, Some, None, Bool, false, slice_get, length, if◌then◌else◌}
 use Rattle.std.specs.List.{fold}
 use Rattle.ld_value.specs.Datum.{Datum, truth_datum, same_truth}
-use Rattle.ld_model.specs.Rules.{rules_of, Site, sites_of}
-use Rattle.ld_model.specs.declared.rule.Rule.{Rule}
-use Rattle.ld_model.specs.declared.rule.Rule.TheVariants.{CompletesActivity, CompletesStructure, OpensAct, CompletesPart, CompletesAct, CompletesPlay, CompletesUnit, JudgesCondition}
-use Rattle.ld_model.specs.State.{RunState, with_cell}
-use Rattle.ld_model.specs.Names.{thing_number}
+use Rattle.ld_names.specs.Rules.{rules_of, Site, sites_of}
+use Rattle.ld_names.specs.declared.rule.Rule.{Rule}
+use Rattle.ld_names.specs.declared.rule.Rule.TheVariants.{CompletesActivity, CompletesStructure, OpensAct, CompletesPart, CompletesAct, CompletesPlay, CompletesUnit, JudgesCondition}
+use Rattle.ld_top.specs.State.{RunState, with_cell}
+use Rattle.ld_names.specs.Names.{thing_number}
 use Rattle.ld_model.specs.declared.cell.CellName.{CellName}
 use Rattle.ld_model.specs.declared.cell.CellName.TheVariants.{ActOpened, Mark, Now}
 use Rattle.ld_model.specs.declared.method.Act.{Act}

@@ -12,10 +12,9 @@ use Rattle.ld_json.specs.declared.file.FileNo.{FileNo}
 use Rattle.ld_json.specs.declared.file.FileNo.TheVariants.{Roles, Properties, Environments, Activities, Unit, Conditions}
 use Rattle.ld_json.specs.Fault.{Told}
 use Rattle.ld_json.specs.Files.{file_name}
+use Rattle.ld_formats.specs.Units.{unit}
 use Rattle.ld_json.specs.Json.{json_of}
-use Rattle.ld_method.specs.Units.{unit_in, method_document_faults}
 use Rattle.ld_model.specs.declared.unit.Unit.{Unit as Course}
-use Rattle.ld_reader.specs.Documents.{parts_in, parts_faults}
 use Rattle.ld_refs.specs.Checks.{check_faults}
 
 -- ---- the files
@@ -73,12 +72,13 @@ docs_in held = record { of = map (λ file. held file >>= json_of) all_files }
 
 -- ---- their shapes, and what they say
 
+-- The faults of the shapes of the documents, in their order.
 unfoldable pub shape_faults : Docs → List Told
-shape_faults docs = parts_faults docs ++ method_document_faults docs
+shape_faults docs = (unit.reading docs).faults
 
 -- The unit for which the documents stand, whether or not a check finds a fault in it.
 unfoldable pub unit_of : Docs → Option Course
-unit_of docs = parts_in docs >>= unit_in docs
+unit_of docs = (unit.reading docs).value
 
 abbrev pub faults_of_unit : Option Course → List Told
 faults_of_unit None = []

@@ -1,7 +1,7 @@
 -- What the laws of a run speak of.
 use Rattle.std.specs.Prelude.{ℕ, ℤ, List, [], ◌∷◌, Option, Some, None, Bool}
 use Rattle.ld_base.specs.declared.numbers.RuleNo.{RuleNo}
-use Rattle.ld_model.specs.State.{RunState, says_yes, state_at_first, moment_in}
+use Rattle.ld_top.specs.State.{RunState, says_yes, state_at_first, moment_in}
 use Rattle.ld_model.specs.declared.cell.CellName.TheVariants.{ActOpened, Mark}
 use Rattle.ld_model.specs.declared.cell.Owner.{Owner}
 use Rattle.ld_model.specs.declared.unit.Unit.{Unit as Course}

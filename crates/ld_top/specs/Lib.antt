@@ -9,6 +9,7 @@ pub mod Step
 pub mod Tests
 pub mod Tree
 pub mod World
+pub mod State
 pub mod StateView
 pub mod Endings
 pub mod Words
@@ -17,6 +18,7 @@ pub mod Answering
 pub mod Replay
 pub mod PlanView
 pub mod LookupView
+pub mod Members
 pub mod Stepping
 pub mod Turn
 pub mod FiringView

@@ -1,7 +1,7 @@
 -- Words for the look-ups in a unit and a state.
 use Rattle.std.specs.Prelude.{ℕ, List, Bool, ◌&&◌, ◌<◌, ◌^◌, length}
-use Rattle.ld_model.specs.Members.{reaches, is_member_of}
-use Rattle.ld_model.specs.State.{RunState}
+use Rattle.ld_top.specs.Members.{reaches, is_member_of}
+use Rattle.ld_top.specs.State.{RunState}
 use Rattle.ld_model.specs.declared.method.RolePart.{RolePart}
 use Rattle.ld_model.specs.declared.unit.Unit.{Unit as Course}
 use Rattle.ld_top.specs.declared.state.State.{State}

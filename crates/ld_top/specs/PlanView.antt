@@ -1,9 +1,9 @@
 -- What the code's plan of a unit stands for: the unit's names and its rules.
 use Rattle.std.specs.Prelude.{ℕ, List, Option, ◌≡◌, ◌<◌, ◌^◌, length}
 use Rattle.ld_model.specs.Counting.{number_where}
-use Rattle.ld_model.specs.Names.{names_of, named_by, role_among, thing_among}
-use Rattle.ld_model.specs.Rules.{rules_of, same_rule}
-use Rattle.ld_model.specs.declared.rule.Rule.{Rule}
+use Rattle.ld_names.specs.Names.{names_of, named_by, role_among, thing_among}
+use Rattle.ld_names.specs.Rules.{rules_of, same_rule}
+use Rattle.ld_names.specs.declared.rule.Rule.{Rule}
 use Rattle.ld_model.specs.declared.unit.Unit.{Unit as Course}
 use Rattle.ld_top.specs.declared.plan.Plan.{Plan}
 

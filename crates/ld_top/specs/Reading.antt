@@ -1,9 +1,8 @@
 -- Words for reading the files of a folder.
-use Rattle.std.specs.Prelude.{◌≡◌, ℕ, List, ◌++◌, Option, Some, IsSome, slice_get}
+use Rattle.std.specs.Prelude.{◌≡◌, ℕ, List, ◌++◌, Option, Some, slice_get}
 use Rattle.std.specs.List.{flat_map}
 use Rattle.ld_base.specs.Maybe.{◌>>=◌}
 use Rattle.ld_json.specs.declared.file.FileNo.{FileNo}
-use Rattle.ld_json.specs.declared.file.FileNo.TheVariants as file_no
 use Rattle.ld_json.specs.Fault.{Told, told_by, first_of}
 use Rattle.ld_json.specs.Files.{file_index}
 use Rattle.ld_top.specs.declared.reader.stop.FolderStop.{FolderStop}
@@ -13,12 +12,6 @@ use Rattle.ld_top.specs.Folder.{Held, docs_in, document_faults, json_fault, json
 -- What a list of the six files in their order holds.
 abbrev pub held_by : List (Option (List ℕ)) → Held
 held_by files file = slice_get files (file_index file) >>= λ found. found
-
--- The three files that each unit has are there.
-pub record HasRequiredFiles (held : Held) : Type 0 where
-  pub roles : IsSome (held file_no.Roles)
-  pub activities : IsSome (held file_no.Activities)
-  pub unit : IsSome (held file_no.Unit)
 
 -- The faults of these files as JSON.
 unfoldable pub json_faults_of : List FileNo → Held → List Told

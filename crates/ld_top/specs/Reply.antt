@@ -1,6 +1,6 @@
 -- The text of a reply.
-use Rattle.std.specs.Prelude.{ℕ, List, [], ◌∷◌, ◌++◌, Option, Some, None, length, codes, decimal, ◌==◌, if◌then◌else◌, unwrap_or}
-use Rattle.ld_model.specs.Members.{person_number}
+use Rattle.std.specs.Prelude.{ℕ, List, [], ◌∷◌, ◌++◌, Option, Some, None, length, codes, decimal}
+use Rattle.ld_top.specs.Members.{person_number}
 use Rattle.ld_top.specs.Refusals.{refusal_text}
 use Rattle.ld_top.specs.Step.{Work, Reply, done, refused}
 use Rattle.ld_top.specs.Tree.{TreeLine, tree_lines, lines_text}

@@ -3,7 +3,7 @@ use Rattle.std.specs.Prelude.{ℕ, [], ◌∷◌, ◌++◌, ◌≡◌, map, Opti
 use Rattle.std.specs.Option.{option_map}
 use Rattle.std.specs.BTreeMap.{BTreeMap, get, Updates}
 use Rattle.ld_model.specs.Cells.{CellMap}
-use Rattle.ld_model.specs.State.{PersonState, RunState, cells_at_first}
+use Rattle.ld_top.specs.State.{PersonState, RunState, cells_at_first}
 use Rattle.ld_model.specs.declared.cell.CellName.{CellName}
 use Rattle.ld_model.specs.contracts.cell.CellNameOrd.TheImpl as order
 use Rattle.ld_value.specs.Datum.{Datum, datum_of}

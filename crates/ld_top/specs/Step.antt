@@ -1,12 +1,12 @@
 -- What a command does to its run, in stages.
 use Rattle.std.specs.Prelude.{ℕ, zero, suc, ◌+◌, ℤ, List, [], ◌∷◌, ◌++◌, Option, Some, None, Bool, true, false, ◌&&◌, not, length, is_some, is_none, nat_le, int_lt, if◌then◌else◌, slice_get, unwrap_or, pos}
-use Rattle.ld_model.specs.Members.{activity_number, person_number, holds_role}
-use Rattle.ld_model.specs.Names.{role_number, thing_number}
-use Rattle.ld_model.specs.State.{PersonState, RunState, with_cell, moment_in}
+use Rattle.ld_top.specs.Members.{activity_number, person_number, holds_role}
+use Rattle.ld_names.specs.Names.{role_number, thing_number}
+use Rattle.ld_top.specs.State.{PersonState, RunState, with_cell, moment_in}
 use Rattle.ld_model.specs.declared.activity.Activity.{Activity}
 use Rattle.ld_model.specs.declared.cell.CellName.TheVariants.{Chosen, Now, Started}
 use Rattle.ld_model.specs.declared.unit.Unit.{Unit as Course}
-use Rattle.ld_refs.specs.Running.{is_by_choice}
+use Rattle.ld_refs.specs.Unbuilt.{is_by_choice}
 use Rattle.ld_top.specs.Firing.{Settling, quiet_at, settling}
 use Rattle.ld_top.specs.Tests.{of_person}
 use Rattle.ld_top.specs.Tree.{is_open}

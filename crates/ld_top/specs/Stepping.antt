@@ -1,6 +1,6 @@
 -- What the code answers to a command of a run, beside the step of the run.
 use Rattle.std.specs.Prelude.{◌≡◌}
-use Rattle.ld_model.specs.State.{RunState}
+use Rattle.ld_top.specs.State.{RunState}
 use Rattle.ld_top.specs.StateView.{state_of}
 use Rattle.ld_top.specs.Refusals.{IsPrintable}
 use Rattle.ld_top.specs.Step.{Work, Outcome, IsDated, done, refusal}

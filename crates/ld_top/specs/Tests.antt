@@ -1,12 +1,12 @@
 -- What the test of a rule says, for a site of a run.
 use Rattle.std.specs.Prelude.{ℕ, suc, zero, Option, Some, None, Bool, true, false, ◌&&◌, ◌||◌, not, slice_get, is_some}
 use Rattle.std.specs.List.{list_all}
-use Rattle.ld_model.specs.Members.{is_member_of, has_member, is_mine, all_persons, activity_number}
-use Rattle.ld_model.specs.Rules.{rules_of, rule_number, Site}
-use Rattle.ld_model.specs.declared.rule.Rule.{Rule}
-use Rattle.ld_model.specs.declared.rule.Rule.TheVariants.{CompletesActivity, CompletesStructure, OpensAct, CompletesPart, CompletesAct, CompletesPlay, CompletesUnit, JudgesCondition}
-use Rattle.ld_model.specs.State.{RunState, says_yes}
-use Rattle.ld_model.specs.Names.{thing_number}
+use Rattle.ld_top.specs.Members.{is_member_of, has_member, is_mine, all_persons, activity_number}
+use Rattle.ld_names.specs.Rules.{rules_of, rule_number, Site}
+use Rattle.ld_names.specs.declared.rule.Rule.{Rule}
+use Rattle.ld_names.specs.declared.rule.Rule.TheVariants.{CompletesActivity, CompletesStructure, OpensAct, CompletesPart, CompletesAct, CompletesPlay, CompletesUnit, JudgesCondition}
+use Rattle.ld_top.specs.State.{RunState, says_yes}
+use Rattle.ld_names.specs.Names.{thing_number}
 use Rattle.ld_model.specs.declared.activity.Activity.{Activity}
 use Rattle.ld_model.specs.declared.completion.Completion.{Completion}
 use Rattle.ld_model.specs.declared.completion.Completion.TheVariants.{UserChoice}

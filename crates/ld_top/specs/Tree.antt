@@ -4,10 +4,10 @@ use Rattle.std.specs.List.{list_any, flat_map}
 use Rattle.std.specs.Str.{bytes_eq}
 use Rattle.ld_json.specs.Print.{json_text}
 use Rattle.ld_model.specs.Counting.{each_numbered}
-use Rattle.ld_model.specs.Members.{is_member_of, activity_number}
-use Rattle.ld_model.specs.declared.rule.Rule.TheVariants.{CompletesPart}
-use Rattle.ld_model.specs.State.{RunState, says_yes}
-use Rattle.ld_model.specs.Names.{thing_number}
+use Rattle.ld_top.specs.Members.{is_member_of, activity_number}
+use Rattle.ld_names.specs.declared.rule.Rule.TheVariants.{CompletesPart}
+use Rattle.ld_top.specs.State.{RunState, says_yes}
+use Rattle.ld_names.specs.Names.{thing_number}
 use Rattle.ld_model.specs.declared.activity.Activity.{Activity}
 use Rattle.ld_model.specs.declared.item.Item.{Item}
 use Rattle.ld_model.specs.declared.cell.CellName.TheVariants.{Vis}

@@ -1,6 +1,6 @@
 -- One line of a history that is answered.
 use Rattle.std.specs.Prelude.{ℕ, ℤ, List, [], ◌∷◌, ◌++◌, ◌≡◌, Option, Some, None}
-use Rattle.ld_model.specs.State.{RunState}
+use Rattle.ld_top.specs.State.{RunState}
 use Rattle.ld_top.specs.Answers.{block_for}
 use Rattle.ld_top.specs.Refusals.{refusal_text}
 use Rattle.ld_top.specs.Reply.{done_text}

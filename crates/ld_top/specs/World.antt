@@ -1,8 +1,8 @@
 -- The world of all runs, and what a line does to it.
-use Rattle.std.specs.Prelude.{ℕ, List, [], ◌∷◌, ◌++◌, Option, Some, None, Bool, true, false, if◌then◌else◌, ℤ}
+use Rattle.std.specs.Prelude.{ℕ, List, [], ◌∷◌, ◌++◌, Option, Some, None, if◌then◌else◌, ℤ}
 use Rattle.std.specs.List.{find}
 use Rattle.std.specs.Str.{bytes_eq}
-use Rattle.ld_model.specs.State.{RunState, state_at_first}
+use Rattle.ld_top.specs.State.{RunState, state_at_first}
 use Rattle.ld_model.specs.declared.unit.Unit.{Unit as Course}
 use Rattle.ld_top.specs.Step.{Work, Reply, done, refused, Outcome, step}
 use Rattle.ld_top.specs.declared.built.BuiltCommand.{BuiltCommand}

@@ -4,7 +4,7 @@ ghost use Rattle.ld_top.specs.StateView.{state_of};
 ghost use Rattle.ld_top.specs.Step.{causes, first_cause, is_back, last_moment, is_started, is_enrolled, holds_already, activity_by_choice, by_choice_at};
 ghost use Rattle.ld_model.specs.declared.unit.Unit.{Unit as Course};
 ghost use Rattle.ld_top.specs.declared.built.BuiltCommand.TheVariants as command;
-ghost use Rattle.ld_model.specs.Members.{activity_number};
+ghost use Rattle.ld_top.specs.Members.{activity_number};
 
 use crate::built::BuiltCommand;
 use crate::lookup::{activity_number, holds_by_name, person_number};

@@ -6,7 +6,7 @@ ghost use Rattle.std.specs.Prelude.{◌≡◌, ◌+◌, Some, OnOk, IfOk, slice_
 ghost use Rattle.std.specs.List.{fold};
 ghost use Rattle.std.specs.Option.{option_map};
 ghost use Rattle.ld_model.specs.Counting.{numbers_below};
-ghost use Rattle.ld_model.specs.Rules.{rules_of, sites_of_rule, person_site};
+ghost use Rattle.ld_names.specs.Rules.{rules_of, sites_of_rule, person_site};
 ghost use Rattle.ld_top.specs.Firing.{mark_says, mark_of, open_thing, effect, site_fired, site_visit, sweep, settling};
 ghost use Rattle.ld_top.specs.FiringView.{tally_of, settling_of};
 ghost use Rattle.ld_top.specs.LookupView.{HasFewPersons};
@@ -19,8 +19,8 @@ use crate::verdict::{act_at, site_test};
 use ld_base::memory::NoMemory;
 use ld_base::numbers::{PersonNo, RuleNo, ThingNo, number};
 use ld_model::cell::{CellName, Owner};
-use ld_model::rule::{Rule, RuleKind};
 use ld_model::unit::Unit;
+use ld_names::rule::{Rule, RuleKind};
 use ld_value::value::Value;
 
 /// What has fired in a sweep: firings, rejected writes and notices sent.

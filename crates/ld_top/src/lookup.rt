@@ -3,8 +3,8 @@
 //! This is the plain program with which faster ones are compared: it may be slow on a large unit.
 ghost use Rattle.std.specs.Prelude.{◌≡◌, Some, IfSome, ◌<◌, ◌^◌, length};
 ghost use Rattle.std.specs.List.{list_any, flat_map};
-ghost use Rattle.ld_model.specs.Members.{activity_number, person_number, holds_role, is_member, is_member_of, has_member, is_mine};
-ghost use Rattle.ld_model.specs.Names.{role_number};
+ghost use Rattle.ld_top.specs.Members.{activity_number, person_number, holds_role, is_member, is_member_of, has_member, is_mine};
+ghost use Rattle.ld_names.specs.Names.{role_number};
 ghost use Rattle.ld_top.specs.LookupView.{HasFewPersons, makes_mine};
 ghost use Rattle.ld_top.specs.PlanView.{IsPlanOf};
 ghost use Rattle.ld_top.specs.StateView.{state_of, person_state};

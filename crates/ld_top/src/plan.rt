@@ -1,14 +1,15 @@
 //! The plan of a unit: its names and its rules, made once and used by all its runs.
 ghost use Rattle.std.specs.Prelude.{◌≡◌, ◌<◌, ◌^◌, length, IfOk};
-ghost use Rattle.ld_model.specs.Names.{names_of};
+ghost use Rattle.ld_names.specs.Names.{names_of};
 ghost use Rattle.ld_top.specs.PlanView.{IsPlanOf, role_in, thing_in, number_in};
 
 use ld_base::id::Id;
 use ld_base::memory::NoMemory;
 use ld_base::numbers::number;
-use ld_model::names::{Named, Names};
-use ld_model::rule::{Rule, list_rules, number_of_rule};
 use ld_model::unit::Unit;
+use ld_names::names::{Named, Names};
+use ld_names::rule::{Rule, list_rules, number_of_rule};
+use ld_parts::listing::Listing;
 use std::alloc::Global;
 
 /// The names and the rules of a unit. The number of a rule is its place in the list.
@@ -30,7 +31,8 @@ impl Plan {
         requires { names ≡ names_of unit.now }
         ensures { IfOk result (IsPlanOf unit.now) }
     {
-        let rules = list_rules(alloc, unit)?;
+        let listing = Listing::of(alloc, unit)?;
+        let rules = list_rules(alloc, &listing)?;
         number(rules.len())?;
         number(unit.activities.len())?;
         Ok(Plan { names, rules })

@@ -3,7 +3,7 @@ ghost use Rattle.std.specs.Prelude.{◌≡◌, ◌≤◌, ◌<◌, ℕ, [], ◌�
 ghost use Rattle.ld_base.specs.Outside.{Rose, then_piece};
 ghost use Rattle.ld_base.specs.Roomy.{room_of};
 ghost use Rattle.ld_lines.specs.Answer.{Answer, HandsOut};
-ghost use Rattle.ld_top.specs.Answering.{AnswersWhat, AnsweredAll, AnsweredTaken, IsEndOfLines};
+ghost use Rattle.ld_top.specs.Answering.{AnswersWhat, AnsweredAll, AnsweredTaken, AnsweredCut, IsEndOfLines};
 ghost use Rattle.ld_top.specs.Endings.{IsReplayEnding};
 ghost use Rattle.ld_top.specs.World.{first_world};
 ghost use Rattle.ld_top.specs.WorldView.{world_of};
@@ -47,7 +47,8 @@ fn answer_next<S: Source>(
     }
 }
 
-/// Answers the lines of the source, from its first byte on, until it ends or something fails.
+/// Answers the lines of the source, from its first byte on, until it ends or something fails. Where the
+/// sink failed a beginning of the last reply was written.
 fn answer_lines<S: Source, K: Sink>(
     alloc: Global,
     lines: &mut Lines,
@@ -63,6 +64,7 @@ fn answer_lines<S: Source, K: Sink>(
     ensures done { result ≡ Ending.Done → AnsweredAll (world_of world.old) (S.left source.old) (S.left source.new) (K.written sink.old) (K.written sink.new) }
     ensures read { result ≡ Ending.ReadFault → AnsweredTaken (λ n. n < 2 ^ 40) (world_of world.old) (S.left source.old) (S.left source.new) (K.written sink.old) (K.written sink.new) }
     ensures long { result ≡ Ending.InputTooLong → AnsweredTaken (λ n. n ≡ 2 ^ 40) (world_of world.old) (S.left source.old) (S.left source.new) (K.written sink.old) (K.written sink.new) }
+    ensures cut { result ≡ Ending.WriteFault → AnsweredCut (world_of world.old) (S.left source.old) (S.left source.new) (K.written sink.old) (K.written sink.new) }
     ensures read_cause { result ≡ Ending.ReadFault → Rose (S.faults source.old) (S.faults source.new) }
     ensures write_cause { result ≡ Ending.WriteFault → Rose (K.faults sink.old) (K.faults sink.new) }
     ensures source_counts { S.faults source.old ≤ S.faults source.new }
@@ -93,6 +95,7 @@ pub fn replay<S: Source, K: Sink>(
     ensures done { result ≡ Ending.Done → AnsweredAll (first_world (checked.unit ∷ [])) (S.left source.old) (S.left source.new) (K.written sink.old) (K.written sink.new) }
     ensures read { result ≡ Ending.ReadFault → AnsweredTaken (λ n. n < 2 ^ 40) (first_world (checked.unit ∷ [])) (S.left source.old) (S.left source.new) (K.written sink.old) (K.written sink.new) }
     ensures long { result ≡ Ending.InputTooLong → AnsweredTaken (λ n. n ≡ 2 ^ 40) (first_world (checked.unit ∷ [])) (S.left source.old) (S.left source.new) (K.written sink.old) (K.written sink.new) }
+    ensures cut { result ≡ Ending.WriteFault → AnsweredCut (first_world (checked.unit ∷ [])) (S.left source.old) (S.left source.new) (K.written sink.old) (K.written sink.new) }
     ensures no_memory { result ≡ Ending.NoMemory → (source.new ≡ source.old) × (sink.new ≡ sink.old) }
     ensures read_cause { result ≡ Ending.ReadFault → Rose (S.faults source.old) (S.faults source.new) }
     ensures write_cause { result ≡ Ending.WriteFault → Rose (K.faults sink.old) (K.faults sink.new) }

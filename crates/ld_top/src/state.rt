@@ -2,7 +2,7 @@
 ghost use Rattle.std.specs.Prelude.{◌≡◌, ◌<◌, Option, Some, None, OnOk, OnErr, IfOk, ℤ, is_some, length};
 ghost use Rattle.std.specs.Option.{option_map};
 ghost use Rattle.ld_value.specs.Datum.{datum_of};
-ghost use Rattle.ld_model.specs.State.{RunState, state_at_first, cells_at_first, with_cell, says_yes, moment_in};
+ghost use Rattle.ld_top.specs.State.{RunState, state_at_first, cells_at_first, with_cell, says_yes, moment_in};
 ghost use Rattle.ld_top.specs.Step.{with_person, with_role_at};
 ghost use Rattle.ld_top.specs.StateView.{state_of, cell_in, person_state, with_role};
 

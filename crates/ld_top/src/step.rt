@@ -4,12 +4,12 @@
 //! each command.
 ghost use Rattle.std.specs.Prelude.{◌≡◌, IfOk, OnOk, Some};
 ghost use Rattle.std.specs.Option.{option_map};
-ghost use Rattle.ld_model.specs.State.{RunState};
+ghost use Rattle.ld_top.specs.State.{RunState};
 ghost use Rattle.ld_top.specs.FiringView.{settling_of};
 ghost use Rattle.ld_top.specs.StateView.{state_of};
 ghost use Rattle.ld_top.specs.Step.{step, settled_if, is_not_open, changed, has_change, after_first, with_role_at, chosen_at};
-ghost use Rattle.ld_model.specs.Members.{person_number};
-ghost use Rattle.ld_model.specs.Names.{role_number, thing_number};
+ghost use Rattle.ld_top.specs.Members.{person_number};
+ghost use Rattle.ld_names.specs.Names.{role_number, thing_number};
 ghost use Rattle.ld_top.specs.Stepping.{OutcomeIs};
 
 use crate::built::BuiltCommand;

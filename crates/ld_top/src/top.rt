@@ -1,11 +1,11 @@
 //! The top call: all that the program does.
 ghost use Rattle.std.specs.Prelude.{◌≡◌, ◌≤◌, ◌<◌, ◌^◌, ◌↔◌, ◌∷◌, [], None, Some, IfOk};
-ghost use Rattle.ld_base.specs.Outside.{Rose, then_piece};
+ghost use Rattle.ld_base.specs.Outside.{Rose, then_piece, AddsPrefix};
 ghost use Rattle.ld_json.specs.Fault.{told_by};
 ghost use Rattle.ld_top.specs.Answering.{AnsweredAll, AnsweredTaken, IsEndOfLines};
 ghost use Rattle.ld_top.specs.Endings.{IsStatus, IsRefusalEnding, IsReplayEnding, number_of, NothingWritten, NothingTaken};
 ghost use Rattle.ld_top.specs.InFolder.{HasFirstFault, HasUnit};
-ghost use Rattle.ld_top.specs.Replay.{ReplayedAll, ReplayedTaken, Refused, refused_line};
+ghost use Rattle.ld_top.specs.Replay.{ReplayedAll, ReplayedTaken, Refused, CutShort, refused_line};
 ghost use Rattle.ld_top.specs.Words.{words_of, folder_in};
 ghost use Rattle.ld_top.specs.World.{first_world};
 
@@ -50,6 +50,7 @@ pub fn ld_main<H: Shelf, S: Source, K: Sink, L: Ledger>(
     ensures refused { result.0 ≡ 4 → Refused (folder_in (words_of words.now)) (H.files shelf.old) (K.written output.old) (K.written output.new) }
     ensures read { result.0 ≡ 5 → ReplayedTaken (λ n. n < 2 ^ 40) (folder_in (words_of words.now)) (H.files shelf.old) (S.left input.old) (S.left input.new) (K.written output.old) (K.written output.new) }
     ensures too_long { result.0 ≡ 8 → ReplayedTaken (λ n. n ≡ 2 ^ 40) (folder_in (words_of words.now)) (H.files shelf.old) (S.left input.old) (S.left input.new) (K.written output.old) (K.written output.new) }
+    ensures cut { result.0 ≡ 6 → CutShort (folder_in (words_of words.now)) (H.files shelf.old) (S.left input.old) (S.left input.new) (K.written output.old) (K.written output.new) }
 
     // What was left alone.
     ensures not_written { NothingWritten result.0 → output.new ≡ output.old }
@@ -72,10 +73,12 @@ pub fn ld_main<H: Shelf, S: Source, K: Sink, L: Ledger>(
     Status(replay(alloc, checked, input, output).number())
 }
 
-/// Writes the line that tells the fault of a folder. Where memory is wanting for it nothing is written.
+/// Writes the line that tells the fault of a folder. Where memory is wanting for it nothing is written,
+/// and where the sink fails a beginning of it.
 fn refuse<K: Sink>(alloc: Global, fault: &Fault, output: &mut K) -> Ending
     ensures endings { IsRefusalEnding result }
     ensures written { result ≡ Ending.UnitRefused → K.written output.new ≡ then_piece (K.written output.old) (refused_line (told_by fault.now)) }
+    ensures cut { result ≡ Ending.WriteFault → AddsPrefix (K.written output.old) (refused_line (told_by fault.now)) (K.written output.new) }
     ensures no_memory { result ≡ Ending.NoMemory → output.new ≡ output.old }
     ensures cause { result ≡ Ending.WriteFault → Rose (K.faults output.old) (K.faults output.new) }
     ensures counts { K.faults output.old ≤ K.faults output.new }

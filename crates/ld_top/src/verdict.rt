@@ -2,7 +2,7 @@
 //!
 //! This is the plain program with which faster ones are compared: it may be slow on a large unit.
 ghost use Rattle.std.specs.Prelude.{◌≡◌, ◌<◌, ◌^◌, Some, length, option_copied};
-ghost use Rattle.ld_model.specs.declared.rule.Rule.TheVariants.{CompletesActivity};
+ghost use Rattle.ld_names.specs.declared.rule.Rule.TheVariants.{CompletesActivity};
 ghost use Rattle.ld_top.specs.LookupView.{HasFewPersons};
 ghost use Rattle.ld_top.specs.PlanView.{IsPlanOf, number_in, thing_in};
 ghost use Rattle.ld_top.specs.StateView.{state_of};
@@ -16,8 +16,8 @@ use ld_model::activity::Activity;
 use ld_model::cell::{CellName, Owner};
 use ld_model::completion::Completion;
 use ld_model::method::{Act, RolePart};
-use ld_model::rule::Rule;
 use ld_model::unit::Unit;
+use ld_names::rule::Rule;
 
 /// Whether the mark of the rule of this number, for the owner, says yes.
 pub fn is_marked(state: &State, number: Option<u32>, owner: Owner) -> bool

@@ -1,9 +1,8 @@
 //! A checked unit, and graphs that no documents have.
 use crate::calls::{checked, first_files};
-use ld_model::names::Named;
-use ld_refs::cycles::first_on_cycle;
-use ld_refs::index::Index;
-use ld_refs::sizes::{GREATEST, expanded_sizes};
+use ld_names::names::Named;
+use ld_ways::cycles::first_on_cycle;
+use ld_ways::sizes::{GREATEST, expanded_sizes};
 use std::alloc::Global;
 use std::test::Fail;
 
@@ -67,23 +66,6 @@ fn great_sizes_stand_still(rt: HostRuntime) -> Result<(), Fail> {
         let edges = graph(rt.alloc(), lists)?;
         let found = sizes(rt.alloc(), own, &edges)?;
         assert!(rt; found.as_slice() == expected, "{own:?}");
-    }
-    Ok(())
-}
-
-#[test]
-fn the_first_of_equal_texts_is_found(rt: HostRuntime) -> Result<(), Fail> {
-    let texts = Vec::from_slice(rt.alloc(), &["b", "a", "b", "", "ab", "a"])?;
-    let index = Index::of(rt.alloc(), texts)?;
-    for (text, expected) in [
-        ("a", Some(1)),
-        ("b", Some(0)),
-        ("", Some(3)),
-        ("ab", Some(4)),
-        ("abc", None),
-        ("B", None),
-    ] {
-        assert!(rt; index.number(text) == expected, "{text}");
     }
     Ok(())
 }

@@ -1,5 +1,6 @@
 //! Lines in pieces, and sources and sinks that fail.
-use crate::calls::{first, ran};
+use crate::calls::{file, first, ran, ran_over};
+use ld_base::items::Items;
 use std::test::Fail;
 
 /// A run of one person from its making to the completion of its activity.
@@ -73,19 +74,46 @@ fn a_source_that_fails_ends_the_call(rt: HostRuntime) -> Result<(), Fail> {
 
 #[test]
 fn a_sink_that_fails_ends_the_call(rt: HostRuntime) -> Result<(), Fail> {
-    for number in 1..8 {
+    // The put that fails, and how much of the replies stands: those to the lines before it.
+    for (number, length) in [
+        (1, 0),
+        (2, 10),
+        (3, 53),
+        (4, 97),
+        (5, 140),
+        (6, 186),
+        (7, 374),
+    ] {
         let mut case = first(FIRST_RUN.as_bytes());
         case.sink_fails = number;
         let (status, written) = ran(rt.alloc(), &case)?;
-        assert_eq!(rt; status, 6, "at call {number}");
+        assert_eq!(rt; (status, written.len()), (6, length), "at put {number}");
         assert!(rt;
             FIRST_REPLIES.as_bytes().starts_with(&written),
-            "at call {number}"
+            "at put {number}"
         );
     }
+    // The room of the sink, and how much stands: the replies that fit.
+    for (room, length) in [(9, 0), (10, 10), (96, 53), (388, 374)] {
+        let mut case = first(FIRST_RUN.as_bytes());
+        case.room = room;
+        let (status, written) = ran(rt.alloc(), &case)?;
+        assert_eq!(rt; (status, written.len()), (6, length), "with room {room}");
+        assert!(rt;
+            FIRST_REPLIES.as_bytes().starts_with(&written),
+            "with room {room}"
+        );
+    }
+    Ok(())
+}
+
+#[test]
+fn a_sink_that_fails_in_a_refusal_ends_the_call(rt: HostRuntime) -> Result<(), Fail> {
+    let mut files = Items::new(rt.alloc());
+    files.push(file(rt.alloc(), "roles.json", b"[")?)?;
     let mut case = first(FIRST_RUN.as_bytes());
-    case.room = 9;
-    let (status, written) = ran(rt.alloc(), &case)?;
+    case.sink_fails = 1;
+    let (status, written) = ran_over(rt.alloc(), files, &case)?;
     assert_eq!(rt; (status, written.len()), (6, 0));
     Ok(())
 }

@@ -1,13 +1,12 @@
 //! The unit that the bytes of the six files stand for.
-ghost use Rattle.std.specs.Prelude.{◌≡◌, [], ◌∷◌, true, Some, IsSome, IfOk, OnOk, IfErr};
+ghost use Rattle.std.specs.Prelude.{◌≡◌, [], ◌∷◌, true, Some, IfOk, OnOk, IfErr};
 ghost use Rattle.ld_base.specs.Maybe.{◌>>=◌ as ◌then◌};
 ghost use Rattle.ld_json.specs.Fault.{SaysFirst};
 ghost use Rattle.ld_json.specs.Json.{json_of};
 ghost use Rattle.ld_json.specs.declared.file.FileNo.TheVariants as file_no;
-ghost use Rattle.ld_model.specs.WellFormed.{is_well_formed};
+ghost use Rattle.ld_formats.specs.Units.{is_well_formed};
 ghost use Rattle.ld_top.specs.Folder.{docs_in, document_faults, json_fault, json_faults, shape_faults, unit_of};
-ghost use Rattle.ld_top.specs.Reading.{HasRequiredFiles, content_faults, held_by, json_faults_of};
-ghost use Rattle.ld_reader.specs.Documents.{HasRequired};
+ghost use Rattle.ld_top.specs.Reading.{content_faults, held_by, json_faults_of};
 
 use crate::reader::stop::fault_of_file;
 use ld_base::bytes::Bytes;
@@ -25,7 +24,6 @@ use std::alloc::Global;
 /// The checked unit of these files, in their order, or the first fault of what they hold.
 #[tactic(auto, unfolding(crate::specs::Reading::content_faults), using(ld_json::proofs::First::first_of_both))]
 pub(super) fn read_unit(alloc: Global, files: &[Option<Bytes>; 6]) -> Result<Checked, ReadFault>
-    requires { HasRequiredFiles (held_by files.now) }
     ensures unit { IfOk result (λ checked. unit_of (docs_in (held_by files.now)) ≡ Some checked.unit) }
     ensures faultless { OnOk result (content_faults (held_by files.now) ≡ []) }
     ensures first { IfErr result (SaysFirst (content_faults (held_by files.now))) }
@@ -38,8 +36,6 @@ pub(super) fn read_unit(alloc: Global, files: &[Option<Bytes>; 6]) -> Result<Che
 /// The documents in these files.
 #[tactic(auto, unfolding(crate::specs::Folder::docs_in, crate::specs::Folder::json_faults, crate::specs::Reading::json_faults_of), using(ld_json::proofs::First::first_of_both))]
 fn read_documents(alloc: Global, files: &[Option<Bytes>; 6]) -> Result<Docs, ReadFault>
-    requires { HasRequiredFiles (held_by files.now) }
-    ensures required { IfOk result HasRequired }
     ensures docs { IfOk result (λ docs. docs ≡ docs_in (held_by files.now)) }
     ensures faultless { OnOk result (json_faults (held_by files.now) ≡ []) }
     ensures first { IfErr result (SaysFirst (json_faults (held_by files.now))) }
@@ -68,7 +64,6 @@ fn read_last_documents(
     alloc: Global,
     files: &[Option<Bytes>; 6],
 ) -> Result<(Option<Doc>, Option<Doc>), ReadFault>
-    ensures there { IsSome (held_by files.now file_no.Unit) → IfOk result (λ last. IsSome last.0) }
     ensures unit { IfOk result (λ last. last.0 ≡ (held_by files.now file_no.Unit then json_of)) }
     ensures conditions { IfOk result (λ last. last.1 ≡ (held_by files.now file_no.Conditions then json_of)) }
     ensures faultless { OnOk result (json_faults_of (file_no.Unit ∷ file_no.Conditions ∷ []) (held_by files.now) ≡ []) }
@@ -87,7 +82,6 @@ fn read_document(
     bytes: &Option<Bytes>,
     file: FileNo,
 ) -> Result<Option<Doc>, ReadFault>
-    ensures there { IsSome bytes.now → IfOk result IsSome }
     ensures doc { IfOk result (λ doc. doc ≡ (bytes.now then json_of)) }
     ensures faultless { OnOk result (json_fault file bytes.now ≡ []) }
     ensures first { IfErr result (SaysFirst (json_fault file bytes.now)) }
@@ -105,9 +99,8 @@ fn read_document(
 }
 
 /// The checked unit of the documents.
-#[tactic(auto, unfolding(crate::specs::Folder::document_faults), using(ld_json::proofs::First::first_of_both))]
+#[tactic(auto, unfolding(crate::specs::Folder::document_faults, ld_refs::specs::Checks::check_faults), using(ld_json::proofs::First::first_of_both))]
 fn checked_unit(alloc: Global, docs: &Docs) -> Result<Checked, ReadFault>
-    requires { HasRequired docs.now }
     ensures unit { IfOk result (λ checked. unit_of docs.now ≡ Some checked.unit) }
     ensures faultless { OnOk result (document_faults docs.now ≡ []) }
     ensures first { IfErr result (SaysFirst (document_faults docs.now)) }
@@ -118,9 +111,8 @@ fn checked_unit(alloc: Global, docs: &Docs) -> Result<Checked, ReadFault>
 }
 
 /// The unit for which the documents stand.
-#[tactic(auto, unfolding(crate::specs::Folder::unit_of, crate::specs::Folder::shape_faults), using(ld_json::proofs::First::first_of_both))]
+#[tactic(auto, unfolding(crate::specs::Folder::unit_of, crate::specs::Folder::shape_faults, ld_formats::specs::Units::unit), using(ld_json::proofs::First::says_more))]
 fn unit_in(alloc: Global, docs: &Docs) -> Result<Unit, ReadFault>
-    requires { HasRequired docs.now }
     ensures unit { IfOk result (λ unit. unit_of docs.now ≡ Some unit) }
     ensures formed { IfOk result (λ unit. is_well_formed unit ≡ true) }
     ensures faultless { OnOk result (shape_faults docs.now ≡ []) }

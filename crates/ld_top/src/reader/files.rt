@@ -1,9 +1,9 @@
 //! The files of a folder.
-ghost use Rattle.std.specs.Prelude.{◌≡◌, ◌≤◌, [], true, IfOk, OnOk, IfErr, IsSome, map};
+ghost use Rattle.std.specs.Prelude.{◌≡◌, ◌≤◌, [], IfOk, OnOk, IfErr, map};
 ghost use Rattle.ld_base.specs.Outside.{Rose};
 ghost use Rattle.ld_top.specs.Folder.{all_files, held_in, is_required, presence_fault, presence_faults};
 ghost use Rattle.ld_top.specs.InFolder.{WhereTold};
-ghost use Rattle.ld_top.specs.Reading.{HasRequiredFiles, StopsAtFirst, held_by};
+ghost use Rattle.ld_top.specs.Reading.{StopsAtFirst};
 
 use crate::reader::stop::{FolderStop, fault_of_file};
 use ld_base::bytes::Bytes;
@@ -24,7 +24,6 @@ pub(super) fn read_files<H: Shelf>(
     shelf: &mut H,
     folder: &str,
 ) -> Result<[Option<Bytes>; 6], FolderStop>
-    ensures there { IfOk result (λ read. HasRequiredFiles (held_by read)) }
     ensures read { IfOk result (λ read. WhereTold (H.files shelf.old) (λ files. read ≡ map (held_in files folder.now) all_files)) }
     ensures faultless { OnOk result (WhereTold (H.files shelf.old) (λ files. presence_faults (held_in files folder.now) ≡ [])) }
     ensures first { IfErr result (λ stop. WhereTold (H.files shelf.old) (λ files. StopsAtFirst (presence_faults (held_in files folder.now)) stop)) }
@@ -55,7 +54,6 @@ fn file_in<H: Shelf>(
     folder: &str,
     file: FileNo,
 ) -> Result<Option<Bytes>, FolderStop>
-    ensures there { IfOk result (λ read. is_required file ≡ true → IsSome read) }
     ensures read { IfOk result (λ read. WhereTold (H.files shelf.old) (λ files. read ≡ held_in files folder.now file)) }
     ensures faultless { OnOk result (WhereTold (H.files shelf.old) (λ files. presence_fault file (held_in files folder.now file) ≡ [])) }
     ensures first { IfErr result (λ stop. WhereTold (H.files shelf.old) (λ files. StopsAtFirst (presence_fault file (held_in files folder.now file)) stop)) }

@@ -22,8 +22,8 @@ use ld_model::activity::Activity;
 use ld_model::cell::{CellName, Owner};
 use ld_model::item::Item;
 use ld_model::method::{Act, Play, RolePart};
-use ld_model::rule::Rule;
 use ld_model::unit::Unit;
+use ld_names::rule::Rule;
 
 /// A person who looks at a unit in a state of its run.
 #[derive(Drop)]

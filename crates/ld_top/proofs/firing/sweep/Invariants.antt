@@ -1,7 +1,7 @@
 use Rattle.std.proofs.Common.{◌≡◌, drop, length}
 use Rattle.std.specs.List.{fold}
 use Rattle.ld_model.specs.Counting.{each_numbered_from}
-use Rattle.ld_model.specs.Rules.{sites_of_rule}
+use Rattle.ld_names.specs.Rules.{sites_of_rule}
 use Rattle.ld_top.specs.Firing.{site_visit, sweep}
 use Rattle.ld_top.specs.FiringView.{tally_of}
 use Rattle.ld_top.specs.StateView.{state_of}

@@ -1,7 +1,7 @@
 use Rattle.std.proofs.Common.{◌≡◌, ◌-◌, map}
 use Rattle.std.specs.List.{fold, range_with_len}
 use Rattle.ld_model.specs.Counting.{numbers_below}
-use Rattle.ld_model.specs.Rules.{person_site}
+use Rattle.ld_names.specs.Rules.{person_site}
 use Rattle.ld_top.specs.Firing.{site_visit}
 use Rattle.ld_top.specs.FiringView.{tally_of}
 use Rattle.ld_top.specs.StateView.{state_of}

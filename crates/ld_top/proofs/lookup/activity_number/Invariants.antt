@@ -1,7 +1,7 @@
 use Rattle.std.proofs.Common.{◌≡◌, drop}
 use Rattle.std.specs.List.{position_from}
 use Rattle.std.specs.Str.{bytes_eq}
-use Rattle.ld_model.specs.Members.{activity_number}
+use Rattle.ld_top.specs.Members.{activity_number}
 use Rattle.ld_top.proofs.lookup.activity_number.Given as goal
 
 abbrev pub invariant-loop-a : goal.invariant-loop-a

@@ -1,6 +1,6 @@
 use Rattle.std.proofs.Common.{◌≡◌, ◌-◌}
 use Rattle.std.specs.List.{list_any, range_with_len}
-use Rattle.ld_model.specs.Members.{has_member, is_member_of}
+use Rattle.ld_top.specs.Members.{has_member, is_member_of}
 use Rattle.ld_top.specs.StateView.{state_of}
 use Rattle.ld_top.proofs.lookup.has_member.Given as goal
 

@@ -1,6 +1,6 @@
 use Rattle.std.proofs.Common.{◌≡◌, drop, map, nat_eq, Some}
 use Rattle.std.specs.List.{list_any}
-use Rattle.ld_model.specs.Members.{holds_role}
+use Rattle.ld_top.specs.Members.{holds_role}
 use Rattle.ld_top.specs.StateView.{person_state}
 use Rattle.ld_top.proofs.lookup.holds_role.Given as goal
 

@@ -1,6 +1,6 @@
 use Rattle.std.proofs.Common.{◌≡◌, drop}
 use Rattle.std.specs.List.{list_any, flat_map}
-use Rattle.ld_model.specs.Members.{is_mine}
+use Rattle.ld_top.specs.Members.{is_mine}
 use Rattle.ld_top.specs.LookupView.{makes_mine}
 use Rattle.ld_top.specs.StateView.{state_of}
 use Rattle.ld_top.proofs.lookup.is_mine.Given as goal

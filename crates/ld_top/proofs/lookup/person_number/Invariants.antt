@@ -1,7 +1,7 @@
 use Rattle.std.proofs.Common.{◌≡◌, drop, map}
 use Rattle.std.specs.List.{position_from}
 use Rattle.std.specs.Str.{bytes_eq}
-use Rattle.ld_model.specs.Members.{person_number}
+use Rattle.ld_top.specs.Members.{person_number}
 use Rattle.ld_top.specs.StateView.{state_of, person_state}
 use Rattle.ld_top.proofs.lookup.person_number.Given as goal
 

@@ -1,6 +1,6 @@
 use Rattle.std.proofs.Common.{arith, ap, ◌∙◌, ◌≡◌, true}
 use Rattle.ld_base.specs.Outside.{then_piece}
-use Rattle.ld_top.proofs.Replaying.{IsUnderWay-first, IsUnderWay-next, stopped_by_fault, stopped_by_length}
+use Rattle.ld_top.proofs.Replaying.{IsUnderWay-first, IsUnderWay-next, stopped_by_fault, stopped_by_length, stopped_by_sink}
 use Rattle.ld_top.proofs.replay.answer_lines.Goals as goal
 
 pub loop-sink-init : goal.loop-sink-init
@@ -21,6 +21,13 @@ pub returns-in-Err-InputTooLong-clause-long : goal.returns-in-Err-InputTooLong-c
 returns-in-Err-InputTooLong-clause-long g c =
     let turn = c.in-Err-InputTooLong.ensures.turn in
     λ _. stopped_by_length _ _ c.loop-sink.invariant.under_way turn.0 turn.1 (rw c.in-Err-InputTooLong.field-0-is at turn.2)
+
+pub returns-in-Err-clause-cut : goal.returns-in-Err-clause-cut
+returns-in-Err-clause-cut g c =
+    let turn = c.in-Ok-true.ensures.turn in
+    let is : c.in-Ok-true.field-0 ≡ true = cc in
+    let same : c.as_bytes.result.now ≡ c.answer_next.new.out.bytes = c.as_bytes.ensures.value ∙ c.as_str.ensures.bytes in
+    λ _. stopped_by_sink _ _ c.loop-sink.invariant.under_way turn.0 turn.1 (rw is at turn.2) (rw same at c.in-Err.ensures.err)
 
 pub loop-sink-preserved : goal.loop-sink-preserved
 loop-sink-preserved g c =

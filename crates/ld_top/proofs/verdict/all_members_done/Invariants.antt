@@ -1,6 +1,6 @@
 use Rattle.std.proofs.Common.{◌≡◌, ◌-◌, ◌||◌, not}
 use Rattle.std.specs.List.{list_all, range_with_len}
-use Rattle.ld_model.specs.Members.{is_member_of}
+use Rattle.ld_top.specs.Members.{is_member_of}
 use Rattle.ld_top.specs.StateView.{state_of}
 use Rattle.ld_top.specs.Tests.{all_members_done, target_is_done}
 use Rattle.ld_top.proofs.verdict.all_members_done.Given as goal
