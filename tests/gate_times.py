@@ -1,5 +1,5 @@
 #!/usr/bin/env python3
-"""Runs `rt ci` at the top of a repository and says where its time goes.
+"""Runs `rt ci --anew` at the top of a repository and says where its time goes.
 
     gate_times.py [FOLDER]
 
@@ -122,7 +122,7 @@ def print_table(crates, spent, whole, wall):
 def main():
     folder = pathlib.Path(sys.argv[1] if len(sys.argv) > 1 else ".").resolve()
     began = time.monotonic()
-    with subprocess.Popen(["rt", "ci"], cwd=folder, stdin=subprocess.DEVNULL, stdout=sys.stderr) as gate:
+    with subprocess.Popen(["rt", "ci", "--anew"], cwd=folder, stdin=subprocess.DEVNULL, stdout=sys.stderr) as gate:
         sampler = Sampler(gate.pid)
         thread = threading.Thread(target=sampler.run)
         thread.start()

@@ -1,6 +1,6 @@
 """Of what no run is built yet."""
-from units import (act, activity, folder, follows, item, items, named, one_act, part, parts, play, role, service,
-                   structure)
+from units import (act, activity, change, condition, folder, follows, item, items, named, notice, one_act, part, parts, play,
+                   prop, role, service, structure)
 
 DONE = {"when-role-part-completed": ["rp"]}
 LAST = {"when-last-act-completed": True}
@@ -123,32 +123,46 @@ def first_of_two():
         activities=[activity(items=items("i", 500) + [item("h", visible=False)])])
 
 
-def shapes():
-    """Members that are not built, which the walk over the documents tells."""
+def of_levels():
+    """What levels B and C add: properties, conditions, and what is completed and follows by them."""
     value = {"when-property-value-is-set": {"property": "n"}}
-    held = {"when-condition-true": {"role": "learner", "expression": {}}}
-    change = {"change": [{"property": "n", "value": {"integer": "1"}}]}
-    notify = {"notify": [{"roles": ["learner"]}]}
-    yield "a property", "properties.json /properties/0", folder(
-        level="B", files={"properties.json": {"properties": [{"identifier": "n", "kind": "loc", "datatype": "real"}]}})
-    yield "a condition", "conditions.json /conditions/0", folder(
-        files={"conditions.json": {"conditions": [{"if": {"no-value": "n"}, "then": [{"hide": ["read"]}]}]}})
-    yield "an activity's property", "activities.json /activities/0/complete/when-property-value-is-set", folder(
-        activities=[activity(complete=value)])
-    yield "an act's property", "unit.json /method/plays/0/acts/0/complete/when-property-value-is-set", folder(
-        plays=one_act(complete=value))
-    yield "an act's condition", "unit.json /method/plays/0/acts/0/complete/when-condition-true", folder(
-        plays=one_act(complete=held))
-    yield "a play's property", "unit.json /method/plays/0/complete/when-property-value-is-set", folder(
-        plays=[play(complete=value)])
-    yield "the unit's property", "unit.json /method/complete/when-property-value-is-set", folder(
-        method={"complete": value})
-    yield "an activity's change", "activities.json /activities/0/on-completion/change", folder(
-        activities=[activity(on_completion=change)])
-    yield "a play's notice", "unit.json /method/plays/0/on-completion/notify", folder(
-        plays=[play(complete=LAST, on_completion=notify)])
-    yield "the unit's change", "unit.json /method/on-completion/change", folder(
-        method={"complete": PLAYED, "on_completion": {**notify, **change}})
+    held = {"when-condition-true": {"role": "learner", "expression": {"complete": "read"}}}
+    changes = {"change": [change("n", {"integer": "1"})]}
+    notices = {"notify": [notice("learner")]}
+    level = {"level": "C"}
+    shown = [condition({"complete": "read"})]
+    numbers = {**level, "properties": [prop("n")]}
+    yield "a property", "properties.json /properties/0", folder(properties=[prop("n")], level="B")
+    yield "the first of two properties", "properties.json /properties/0", folder(
+        properties=[prop("n"), prop("m")], level="C")
+    yield "a role before a property", "roles.json /roles/0", folder(roles=[role("learner", max_persons=1)], **numbers)
+    yield "a property before an environment", "properties.json /properties/0", folder(
+        environments=[named("e")], **numbers)
+    yield "a property before all else", "properties.json /properties/0", folder(
+        environments=[named("e")], activities=[activity(complete=value, on_completion=changes)],
+        plays=[play(acts=[act(complete=held)], complete=value)], conditions=shown, **numbers)
+    yield "a condition", "conditions.json /conditions/0", folder(conditions=shown, level="B")
+    yield "the first of two conditions", "conditions.json /conditions/0", folder(conditions=shown * 2, **level)
+    yield "an activity before a condition", "activities.json /activities/0", folder(
+        activities=[activity(on_completion={})], conditions=shown, **level)
+    yield "a structure before a condition", "activities.json /structures/0", folder(
+        structures=[structure("s", "read")], conditions=shown, **level)
+    yield "the unit before a condition", "unit.json /method/complete", folder(
+        method={"complete": PLAYED}, conditions=shown, **level)
+    yield "an act's condition", "unit.json /method/plays/0/acts/0/complete", folder(
+        plays=one_act(complete=held), **level)
+    yield "an act's condition before a condition", "unit.json /method/plays/0/acts/0/complete", folder(
+        plays=one_act(complete=held), conditions=shown, **level)
+    yield "a notice behind an activity", "activities.json /activities/0", folder(
+        activities=[activity(on_completion=notices)], **level)
+    yield "a notice behind an act", "unit.json /method/plays/0/acts/0", folder(
+        plays=one_act(complete=LIMIT, on_completion=notices), **level)
+    yield "a notice behind a play", "unit.json /method/plays/0", folder(
+        plays=[play(complete=LAST, on_completion=notices)], **level)
+    yield "a notice behind the unit", "unit.json /method", folder(
+        method={"complete": PLAYED, "on_completion": notices}, **level)
+    yield "a monitor", "environments.json /environments/0", folder(
+        environments=[named("e", services=[service("v", "monitor")])], level="B")
 
 
 def cases():
@@ -162,5 +176,5 @@ def cases():
         yield name, "activities.json /structures/0 not-in-profile", folder(**given)
     for name, place, given in method():
         yield name, f"unit.json /method{place} not-in-profile", folder(**given)
-    for name, place, documents in [*unit(), *first_of_two(), *shapes()]:
+    for name, place, documents in [*unit(), *first_of_two(), *of_levels()]:
         yield name, f"{place} not-in-profile", documents

@@ -1,6 +1,6 @@
 """Limits of numbers, at their ends and one beyond."""
-from units import (act, activities, activity, environments_of, folder, follows, item, items, named, one_act, part,
-                   parts, play, role, services, structure, structures_of)
+from units import (act, activities, activity, condition, environments_of, folder, follows, item, items, named, one_act, part,
+                   parts, play, prop, role, services, structure, structures_of)
 
 ROOM = "environments.json /environments/0 not-in-profile"
 TOP = "activities.json /structures/0 not-in-profile"
@@ -34,6 +34,13 @@ def roles():
     yield "61 roles with a late top", "/roles/1 too-many", [role("learner", roles=wide), role("more")]
     yield "60 roles each in the last", "/roles/0/roles/0 not-in-profile", [nested_chain(59)]
     yield "61 roles each in the last", "/roles/0" + "/roles/0" * 60 + " too-many", [nested_chain(60)]
+
+
+def properties():
+    yield "300 properties", "/properties/0 not-in-profile", [prop(f"n{n}") for n in range(300)]
+    yield "301 properties", "/properties/300 too-many", [prop(f"n{n}") for n in range(301)]
+    yield "310 properties of all kinds", "/properties/300 too-many", [
+        prop(f"{kind}{n}", kind=kind) for n in range(62) for kind in ("loc", "locpers", "locrole", "glob", "globpers")]
 
 
 def objects_in(*counts):
@@ -140,11 +147,34 @@ def rules():
         plays=plays[:199], activities=[activity(), *activities("x", 2)])
     yield "199 completed plays and three more activities", METHOD, folder(
         plays=plays[:199], activities=[activity(), *activities("x", 3)])
+    yield from rules_with_conditions()
+
+
+def rules_with_conditions():
+    """The least unit has three rules: the activity, the act's opening and its role-part."""
+    first = "conditions.json /conditions/0 not-in-profile"
+    for count, fault in [(597, first), (598, METHOD)]:
+        shown = {"conditions": [condition({"complete": "read"})] * count, "level": "B"}
+        yield f"{count} conditions", fault, folder(**shown)
+        yield f"{count} conditions with two branches", fault, folder(level="B", conditions=[
+            condition({"complete": "read"}, {"show": ["read"]}, {"hide": ["read"]}, **{"else": [{"show": ["read"]}] * 3})
+        ] * count)
+        yield f"{count - 1} conditions and an act that is completed", fault.replace(
+            "conditions.json /conditions/0", "unit.json /method/plays/0/acts/0/complete"), folder(
+            plays=one_act(complete={"time-limit": "P1D"}), level="B", conditions=shown["conditions"][1:])
+    half = [condition({"complete": "read"})] * 200
+    second = "unit.json /method/plays/0/acts/0/role-parts/1 not-in-profile"
+    yield "199 role-parts, 198 activities and 200 conditions", second, (
+        folder(activities=[activity(), *activities("x", 197)], plays=one_act(parts("rp", 199)), conditions=half, level="B"))
+    yield "199 role-parts, 201 activities and 200 conditions", METHOD, folder(
+        activities=[activity(), *activities("x", 200)], plays=one_act(parts("rp", 199)), conditions=half, level="B")
 
 
 def cases():
     for name, fault, given in roles():
         yield name, fault and f"roles.json {fault}", folder(roles=given)
+    for name, fault, given in properties():
+        yield name, f"properties.json {fault}", folder(properties=given, level="B")
     for name, fault, given in environments():
         yield name, fault, folder(environments=given)
     yield from every_item()

@@ -1,5 +1,6 @@
 """Identifiers differ, and a list names each thing once."""
-from units import (act, activity, folder, follows, item, named, one_act, part, play, role, service, structure)
+from units import (act, activity, condition, folder, follows, item, named, notice, one_act, part, play, prop, role, service,
+                   structure)
 
 ACT = "unit.json /method/plays/0/acts/0"
 FIRST = "activities.json /activities/0"
@@ -39,6 +40,26 @@ def environments():
         named("x", learning_objects=[named("y", items=[item("i"), item("i")])])]
     yield "an item and an environment", "/environments/1", [
         named("x", learning_objects=[named("y", items=[item("i")])]), named("i")]
+
+
+def properties():
+    """Faults of identifiers in and around properties."""
+    yield "two properties", "properties.json /properties/1", {"properties": [prop("n"), prop("n", "text", "locpers")]}
+    yield "a role and a property", "properties.json /properties/0", {"properties": [prop("learner"), prop("learner")]}
+    yield "a property and the role that has it", "properties.json /properties/1", {
+        "properties": [prop("n"), prop("learner", kind="locrole")]}
+    yield "an inner role and a property", "properties.json /properties/0", {
+        "roles": [role("learner", roles=[named("n")])], "properties": [prop("n")]}
+    yield "a property and an environment", "environments.json /environments/0", {
+        "properties": [prop("n")], "environments": [named("n")]}
+    yield "a property and an item of an object", "environments.json /environments/0/learning-objects/0/items/0", {
+        "properties": [prop("n")], "environments": [named("e", learning_objects=[named("o", items=[item("n")])])]}
+    yield "a property and an activity", "activities.json /activities/0", {"properties": [prop("read")]}
+    yield "a property and a structure", "activities.json /structures/0", {
+        "properties": [prop("s")], "structures": [structure("s", "read")]}
+    yield "a property and the unit", "unit.json .", {"properties": [prop("u")]}
+    yield "a property and a play", "unit.json /method/plays/0", {"properties": [prop("p")]}
+    yield "a property and a role-part", "unit.json /method/plays/0/acts/0/role-parts/0", {"properties": [prop("rp")]}
 
 
 def of_activity(**more):
@@ -124,6 +145,44 @@ def lists():
             plays=PLAYS, method={"complete": {"when-play-completed": ids}})
 
 
+def lists_of_conditions():
+    """The same for what conditions and notices name."""
+    shows = {"complete": "read"}
+    for name, ids, at in LISTS:
+        told = notice(*ids)
+        yield f"roles of an activity's notice, {name}", f"{FIRST}/on-completion/notify/0/roles/{at}", folder(
+            roles=ROLES, activities=of_activity(on_completion=follows(notify=[told])))
+        yield f"roles of the unit's second notice, {name}", f"unit.json /method/on-completion/notify/1/roles/{at}", folder(
+            roles=ROLES, method={"complete": {"when-play-completed": ["p"]},
+                                 "on_completion": follows(notify=[notice("learner"), told])})
+        for number, (word, value) in enumerate([("show", ids), ("hide", ids), ("notify", told)]):
+            place = f"conditions.json /conditions/0/then/{number}/{word}{'/roles' if word == 'notify' else ''}/{at}"
+            yield f"what is done, {word}, {name}", place, folder(
+                conditions=[condition(shows, *[{"show": ["read"]}] * number, {word: value})])
+            yield f"what is done else, {word}, {name}", place.replace("then", "else"), folder(
+                conditions=[condition(shows, **{"else": [{"hide": ["read"]}] * number + [{word: value}]})])
+
+
+def places_of_conditions():
+    twice = ["x", "x"]
+    place = "conditions.json /conditions"
+    yield "the first branch before the other", f"{place}/0/then/0/show/1", folder(
+        conditions=[condition({"complete": "read"}, {"show": twice}, **{"else": [{"hide": twice}]})])
+    yield "one reference in both branches", f"{place}/0 not-in-profile", folder(
+        conditions=[condition({"complete": "read"}, **{"else": [{"hide": ["read"]}, {"show": ["read"]}]})], level="B")
+    yield "an earlier condition before a later one", f"{place}/1/else/0/hide/1", folder(conditions=[
+        condition({"complete": "read"}), condition({"complete": "read"}, **{"else": [{"hide": twice}]}),
+        condition({"complete": "read"}, {"show": twice})])
+    yield "feedback before a notice", f"{FIRST}/on-completion/feedback/0", folder(
+        roles=ROLES, activities=of_activity(on_completion=follows(item("read"), notify=[notice(*twice)])))
+    yield "a notice before a later activity", f"{FIRST}/on-completion/notify/0/roles/1", folder(
+        roles=ROLES, activities=[activity(on_completion=follows(notify=[notice(*twice)])), activity()])
+    yield "a property before an environment's list", "properties.json /properties/0", folder(
+        properties=[prop("learner")], environments=[named("w", environments=twice), named("x")])
+    yield "a play before the list of a condition", "unit.json /method/plays/0", folder(
+        plays=[play("u")], conditions=[condition({"complete": "read"}, {"show": twice})])
+
+
 def places():
     """Which of two repetitions is first."""
     twice = ["x", "x"]
@@ -158,5 +217,7 @@ def cases():
         yield name, f"activities.json {place} repeated-id", folder(**given)
     for name, place, given in unit_identifiers():
         yield name, f"unit.json {place} repeated-id", folder(**given)
-    for name, place, documents in [*lists(), *places()]:
+    for name, place, given in properties():
+        yield name, f"{place} repeated-id", folder(**given)
+    for name, place, documents in [*lists(), *lists_of_conditions(), *places(), *places_of_conditions()]:
         yield name, place if place.endswith("profile") else f"{place} repeated-id", documents

@@ -1,6 +1,6 @@
 """The order of the steps and of the checks: an earlier one is told though it stands later."""
-from units import (act, activities, activity, environments_of, folder, follows, item, items, named, one_act, part, parts,
-                   play, role, service, sized, structure, structures_of)
+from units import (act, activities, activity, change, condition, environments_of, folder, follows, item, items, named,
+                   notice, one_act, part, parts, play, prop, role, service, sized, structure, structures_of)
 
 BIG = b" " * 4_194_305
 NOT_JSON = b"{"
@@ -68,11 +68,11 @@ def shapes():
     condition = {"conditions.json": {"conditions": [0]}}
     yield "conditions before roles", "conditions.json . wrong-shape", folder(
         roles=REPEATED, files={"conditions.json": LIST})
-    yield "a condition before roles", "conditions.json /conditions/0 not-in-profile", folder(
+    yield "a condition before roles", "conditions.json /conditions/0 wrong-shape", folder(
         roles=REPEATED, files=condition)
-    yield "a property before roles", "properties.json /properties/0 not-in-profile", folder(
+    yield "a property before roles", "properties.json /properties/0/identifier missing", folder(
         roles=REPEATED, files={"properties.json": {"properties": [{}]}})
-    yield "a property before a condition", "properties.json /properties/0 not-in-profile", folder(
+    yield "a property before a condition", "properties.json /properties/0/identifier missing", folder(
         files={"properties.json": {"properties": [{}]}, **condition})
     yield "a member before roles", "unit.json . unknown-member", folder(roles=REPEATED, tittle="x")
     yield "an inner member before roles", f"{METHOD}/complete unknown-member", folder(
@@ -119,6 +119,75 @@ def checks():
         roles=[role("learner", max_persons=1)], method=AFTER)
 
 
+URIS = [prop("n", kind="glob", uri="urn:x"), prop("m", kind="glob", uri="urn:x")]
+WRONG = prop("w", initial="x")
+SHOWN = condition({"complete": "read"})
+TOLD = condition({"complete": "read"}, {"notify": notice("learner")})
+MISTYPED = condition({"is": [{"integer": "1"}, {"text": "x"}]})
+NESTED = condition({"users-in-role": {"role": "learner", "expression": {
+    "users-in-role": {"role": "learner", "expression": {"complete": "read"}}}}})
+
+
+def checks_of_more():
+    """Each check and the next one, whose place is earlier where it can be, over what levels B and C add."""
+    unknown = prop("k", kind="locrole", role="none")
+    second, place = "properties.json /properties/1", "conditions.json /conditions"
+    yield "shapes of conditions before identifiers", f"{place}/0/then missing", folder(
+        properties=[prop("learner")], conditions=[{"if": {"complete": "read"}}])
+    yield "identifiers before uris", f"{METHOD}/plays/0 repeated-id", folder(properties=URIS, plays=[play("u")])
+    yield "lists of conditions before uris", f"{place}/0/then/0/show/1 repeated-id", folder(
+        properties=URIS, conditions=[condition({"complete": "read"}, {"show": ["read", "read"]})])
+    yield "uris before references", "properties.json /properties/2 repeated-uri", folder(properties=[unknown, *URIS])
+    yield "uris before levels", f"{second} repeated-uri", folder(properties=URIS)
+    yield "uris before types", f"{second} repeated-uri", folder(
+        properties=[{**URIS[0], "initial": "x"}, URIS[1]], level="B")
+    yield "references of conditions before cycles", f"{place}/0/if/complete unknown-ref", folder(
+        environments=environments_of([[0]]), conditions=[condition({"complete": "none"})])
+    yield "references of conditions before levels", f"{place}/0/then/0/hide/0 wrong-kind-of-ref", folder(
+        properties=[prop("n")], conditions=[condition({"complete": "read"}, {"hide": ["n"]})])
+    yield "cycles before levels of properties", "activities.json /structures/0 cycle", folder(
+        properties=[prop("n")], structures=structures_of([[0]]))
+    yield from later_checks_of_more(place)
+
+
+def later_checks_of_more(place):
+    """From levels on."""
+    sixty_one = [role("learner")] + [role(f"r{n}") for n in range(60)]
+    yield "levels of conditions before completions", f"{place}/0 above-level", folder(
+        activities=[activity(complete=None, **AFTER)], conditions=[SHOWN])
+    yield "levels of notices before completions", f"{place}/1/then/0 above-level", folder(
+        activities=[activity(complete=None, **AFTER)], conditions=[SHOWN, TOLD], level="B")
+    yield "levels of notices before tests in tests", f"{place}/1/then/0 above-level", folder(
+        conditions=[NESTED, TOLD], level="B")
+    yield "levels before types", f"{METHOD}/on-completion/notify above-level", folder(
+        properties=[WRONG], level="B", method={"complete": {"time-limit": "P1D"},
+                                               "on_completion": follows(notify=[notice("learner")])})
+    yield "completions before types", f"{METHOD}/on-completion not-in-profile", folder(
+        properties=[WRONG], level="C", method={"on_completion": {}})
+    yield "tests in tests before types", f"{place}/1/if/users-in-role/expression not-in-profile", folder(
+        properties=[WRONG], level="B", conditions=[MISTYPED, NESTED])
+    yield "a left out moment before types", f"{METHOD}/on-completion/change/0/value not-in-profile", folder(
+        properties=[WRONG], level="B", method={"complete": {"time-limit": "P1D"}, "on_completion": follows(
+            change=[change("w", {"current-datetime": True})])})
+    yield "tests in tests before limits", f"{place}/0/if/users-in-role/expression not-in-profile", folder(
+        roles=sixty_one, level="B", conditions=[NESTED])
+    yield "types before limits", f"{place}/0/if bad-type", folder(roles=sixty_one, level="B", conditions=[MISTYPED])
+    yield "types before many rules", f"{place}/599/if bad-type", folder(
+        level="B", conditions=[SHOWN] * 599 + [MISTYPED])
+    yield "types before sizes", f"{place}/0/if bad-type", folder(
+        environments=sized("big", 30_000), plays=one_act([part(ref="big")]), level="B", conditions=[MISTYPED])
+    yield "types before what is not built", f"{place}/0/if bad-type", folder(
+        roles=[role("learner", max_persons=1)], level="B", conditions=[MISTYPED])
+    yield "leaves before sizes", f"{METHOD} too-many", folder(
+        environments=sized("big", 30_000), plays=one_act([part(ref="big")]), level="B",
+        conditions=[condition({"or": [{"complete": "read"}] * 4_001})])
+    yield "many rules before what is not built", f"{METHOD} too-many", folder(
+        roles=[role("learner", max_persons=1)], level="B", conditions=[SHOWN] * 598)
+    yield "sizes before conditions that are not built", f"{METHOD}{ACT}/role-parts/0 too-big", folder(
+        properties=[prop("n")], environments=sized("big", 30_000), plays=one_act([part(ref="big")]), level="B",
+        conditions=[SHOWN])
+
+
 def later_checks():
     huge = {"environments": sized("big", 30_000)}
     yield "limits before sizes", f"{METHOD}/on-completion/feedback/0 too-many", folder(
@@ -138,6 +207,13 @@ def limits():
     """Each limit before the next one, whose place is earlier where it can be."""
     sixty_one = [role("learner", roles=[named(f"r{n}") for n in range(60)])]
     rooms = environments_of([[]] * 401)
+    numbers = [prop(f"n{n}") for n in range(301)]
+    yield "roles before properties", "roles.json /roles/0/roles/59 too-many", folder(
+        roles=sixty_one, properties=numbers, level="B")
+    yield "properties before environments", "properties.json /properties/300 too-many", folder(
+        properties=numbers, environments=rooms, level="B")
+    yield "properties before leaves", "properties.json /properties/300 too-many", folder(
+        properties=numbers, conditions=[condition({"or": [{"complete": "read"}] * 4_001})], level="B")
     objects = named("o", learning_objects=[named(f"o{n}") for n in range(1001)])
     more = items("i", 4001)
     crowd = [activity(), *activities("x", 400)]
@@ -159,5 +235,6 @@ def cases():
     yield from broken_folders()
     yield from shapes()
     yield from checks()
+    yield from checks_of_more()
     yield from later_checks()
     yield from limits()

@@ -13,14 +13,15 @@ import json
 import pathlib
 
 ROWS = pathlib.Path(__file__).parent / "rows"
-NAMES = ["roles", "properties", "environments", "activities", "unit"]
+NAMES = ["roles", "properties", "environments", "activities", "unit", "conditions"]
+FILES = [f"{name}.json" for name in NAMES]
 FULL = {f"{name}.json": (ROWS / f"{name}.json").read_text().rstrip("\n") for name in NAMES}
 ROLES_TWICE = "roles.json /roles/1 repeated-id"
 ENVIRONMENTS_TWICE = "environments.json /environments/1 repeated-id"
 # The tables by the file that they change.
 TABLES = {
     "roles.json": ["roles.whole", "roles.edits", "inner_roles.edits", "roles.lengths"],
-    "properties.json": ["properties.whole"],
+    "properties.json": ["properties.whole", "properties.edits", "properties.lengths"],
     "environments.json": [
         "environments.whole", "environments.edits", "objects.edits", "services.edits", "environments.lengths"],
     "activities.json": [
@@ -28,7 +29,7 @@ TABLES = {
         "activities.lengths", "structures.lengths"],
     "unit.json": [
         "unit.whole", "unit.edits", "method.edits", "plays.edits", "acts.edits", "role_parts.edits", "unit.lengths"],
-    "conditions.json": ["conditions.whole"],
+    "conditions.json": ["conditions.whole", "conditions.edits", "conditions.lengths"],
 }
 
 
@@ -46,9 +47,14 @@ def others(file):
     return {**FULL, "roles.json": twice}, ROLES_TWICE
 
 
+# How many columns the lines of a table have: by its name, else by its kind.
+COLUMNS = {"types.results": 1, "types.changes": 3, "types.run": 3, "types.sets": 4, "values": 3, "left_out.tests": 3,
+           "folders": 5, "edits": 3, "lengths": 4}
+
+
 def rows(table):
     """The columns of each line, of which the last is the fault."""
-    columns = {"whole": 2, "edits": 3, "lengths": 4}.get(table.partition(".")[2], 5)
+    columns = COLUMNS.get(table, COLUMNS.get(table.partition(".")[2], 2))
     for number, line in enumerate((ROWS / table).read_text().splitlines(), 1):
         found = line.rsplit(" | ", columns - 1)
         assert len(found) == columns, f"{table}, line {number}"
@@ -73,7 +79,7 @@ def encoded(documents):
 def folders():
     unit = replaced(FULL["unit.json"], '"identifier":"u"', '"identifier":"r"')
     for name, [*texts, fault] in rows("folders"):
-        yield name, fault, encoded({**dict(zip(FULL, texts)), "unit.json": unit})
+        yield name, fault, encoded({**dict(zip(FILES, texts)), "unit.json": unit})
 
 
 def activities(count, last):

@@ -58,6 +58,39 @@ def large():
     yield "a large document", f"roles.json /roles/{count}/kind wrong-shape", folder(files={"roles.json": document})
 
 
+def denied(depth):
+    """A test that is denied again and again, so that objects and lists stand so deep in each other in all."""
+    # The document, its list, the condition and the innermost test are four.
+    count = depth - 4
+    return '{"not":' * count + '{"complete":"read"}' + "}" * count
+
+
+def summed(depth):
+    """A sum in a sum, and so on, so that objects and lists stand so deep in each other in all."""
+    # The document, its list, the condition, the test, its list and the innermost term are six.
+    count = (depth - 6) // 2
+    return '{"sum":[{"integer":"1"},' * count + '{"integer":"1"}' + "]}" * count
+
+
+def deep():
+    """Tests and terms as deep as a document can be, and deeper."""
+    built = "conditions.json /conditions/0 not-in-profile"
+    for depth in (100, 127, 128, 200):
+        fault = built if depth <= 127 else "conditions.json . not-json"
+        shown = '{"conditions":[{"if":%s,"then":[{"show":["read"]}]}]}'
+        yield f"a test {depth} deep", fault, folder(level="B", files={
+            "conditions.json": (shown % denied(depth)).encode()})
+    for depth in (100, 126, 128):
+        fault = built if depth <= 127 else "conditions.json . not-json"
+        test = '{"is":[%s,{"integer":"1"}]}' % summed(depth)
+        yield f"a term {depth} deep", fault, folder(level="B", files={
+            "conditions.json": (shown % test).encode()})
+    text = '{"is":[%s,{"integer":"1"}]}' % summed(126).replace('{"integer":"1"}]', '{"text":"x"}]', 1)
+    place = "/conditions/0/if/is/0" + "/sum/1" * ((126 - 6) // 2 - 1)
+    yield "a wrong type deep within", f"conditions.json {place} bad-type", folder(level="B", files={
+        "conditions.json": (shown % text).encode()})
+
+
 def durations():
     """An activity with a time limit is read, and then a run of it is not built."""
     for number, text in enumerate(DURATIONS):
@@ -72,4 +105,5 @@ def cases():
     yield from documents()
     yield from last_members()
     yield from large()
+    yield from deep()
     yield from durations()

@@ -60,19 +60,40 @@ def play(identifier="p", acts=None, **more):
     return members({"identifier": identifier, "acts": acts or [act()], **more})
 
 
-def follows(*feedback):
-    """What follows a completion."""
-    return {"feedback": list(feedback)}
+def follows(*feedback, **more):
+    """What follows a completion: feedback and, by name, changes and notices."""
+    return members({"feedback": list(feedback), **more})
+
+
+def prop(identifier, datatype="integer", kind="loc", **more):
+    """A property; one of a role or for all has what its kind needs."""
+    needs = {"locrole": {"role": "learner"}, "glob": {"uri": f"urn:{identifier}"}, "globpers": {"uri": f"urn:{identifier}"}}
+    return members({"identifier": identifier, "kind": kind, "datatype": datatype, **needs.get(kind, {}), **more})
+
+
+def change(identifier, term):
+    return {"property": identifier, "value": term}
+
+
+def notice(*roles, **more):
+    return {"roles": list(roles), **more}
+
+
+def condition(test, *then, **more):
+    """A condition that, where it is not said otherwise, shows the activity."""
+    return {"if": test, "then": list(then) or [{"show": ["read"]}], **more}
 
 
 def folder(roles=None, environments=None, activities=None, structures=None, plays=None, method=None, files=None,
-           **unit):
+           properties=None, conditions=None, **unit):
     """The documents of a folder by the names of their files: the least unit with what is given in its place.
 
     `method` has more members of the method, `files` whole documents (None: no such file), and other words
     are members of the unit.
     """
     documents = {"roles.json": {"roles": roles or [role("learner")]}}
+    if properties is not None:
+        documents["properties.json"] = {"properties": properties}
     if environments is not None:
         documents["environments.json"] = {"environments": environments}
     documents["activities.json"] = {"activities": activities or [activity()]}
@@ -80,6 +101,8 @@ def folder(roles=None, environments=None, activities=None, structures=None, play
         documents["activities.json"]["structures"] = structures
     method = members({"plays": plays or [play()], **(method or {})})
     documents["unit.json"] = members({"format": 1, "identifier": "u", "level": "A", **unit, "method": method})
+    if conditions is not None:
+        documents["conditions.json"] = {"conditions": conditions}
     documents.update(files or {})
     return {name: document for name, document in documents.items() if document is not None}
 
