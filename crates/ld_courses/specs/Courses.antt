@@ -1,0 +1,203 @@
+-- Small courses, made of parts that have nothing that is not said, and lines about them.
+use Rattle.std.specs.Prelude.{ℕ, ℤ, pos, ◌+◌, ◌*◌, List, [], ◌∷◌, ◌++◌, map, Option, Some, None, Bool, true, codes}
+use Rattle.ld_value.specs.declared.kind.Kind.{Kind}
+use Rattle.ld_value.specs.declared.kind.Kind.TheVariants as kind
+use Rattle.ld_value.specs.declared.moment.Moment.{Moment}
+use Rattle.ld_model.specs.Expressions.{TermOf, literal_term, list_term, pair_term, term_and, no_term, adding, subtracting, TestOf, compare_test, all_test, test_and, no_test, equal, greater}
+use Rattle.ld_model.specs.RoleRows.{RoleRow, rows_within}
+use Rattle.ld_model.specs.declared.activity.Activity.{Activity}
+use Rattle.ld_model.specs.declared.activity.ActivityKind.TheVariants.{Learning}
+use Rattle.ld_model.specs.declared.activity.Structure.{Structure}
+use Rattle.ld_model.specs.declared.activity.StructureKind.{StructureKind}
+use Rattle.ld_model.specs.declared.completion.Completion.{Completion}
+use Rattle.ld_model.specs.declared.completion.Completion.TheVariants.{UserChoice}
+use Rattle.ld_model.specs.declared.condition.Action.{Action}
+use Rattle.ld_model.specs.declared.condition.Condition.{Condition}
+use Rattle.ld_model.specs.declared.method.Act.{Act}
+use Rattle.ld_model.specs.declared.method.Play.{Play}
+use Rattle.ld_model.specs.declared.method.RolePart.{RolePart}
+use Rattle.ld_model.specs.declared.property.Property.{Property}
+use Rattle.ld_model.specs.declared.property.PropertyKind.{PropertyKind}
+use Rattle.ld_model.specs.declared.role.CreateNew.TheVariants.{NotAllowed}
+use Rattle.ld_model.specs.declared.role.MatchPersons.TheVariants.{NotExclusively}
+use Rattle.ld_model.specs.declared.role.RoleKind.{RoleKind}
+use Rattle.ld_model.specs.declared.role.RoleKind.TheVariants.{Learner, Staff}
+use Rattle.ld_model.specs.declared.unit.Level.TheVariants.{A}
+use Rattle.ld_model.specs.declared.unit.Unit.{Unit as Course}
+use Rattle.ld_lines.specs.declared.command.RunCommand.{RunCommand}
+use Rattle.ld_lines.specs.declared.command.RunCommand.TheVariants.{Enrol, Assign}
+use Rattle.ld_lines.specs.declared.line.Line.{Line}
+use Rattle.ld_lines.specs.declared.line.Line.TheVariants.{Create, OfRun}
+use Rattle.ld_world.specs.Answers.{replies}
+use Rattle.ld_world.specs.World.{seated_world}
+
+-- ---- parts
+
+abbrev pub role : List ℕ → RoleKind → List RoleRow
+role id kind = record {
+  identifier = id;
+  kind = kind;
+  title = None;
+  create_new = NotAllowed;
+  match_persons = NotExclusively;
+  min_persons = 0;
+  max_persons = None;
+  path = [];
+} ∷ []
+
+abbrev pub learner : List RoleRow
+learner = role (codes "learner") Learner
+
+-- A role, and roles within it.
+abbrev pub enclosing : List RoleRow → List (List RoleRow) → List RoleRow
+enclosing outer inner = outer ++ rows_within inner
+
+abbrev pub tutor : List RoleRow
+tutor = role (codes "tutor") Staff
+
+abbrev pub activity : List ℕ → Bool → Completion → Activity
+activity id visible complete = record {
+  identifier =
+      id;
+  kind = Learning;
+  title = None;
+  visible = visible;
+  learning_objectives = [];
+  prerequisites = [];
+  supports = [];
+  environments = [];
+  items = [];
+  complete = Some complete;
+  on_completion = None;
+}
+
+-- An activity that is completed by choice.
+abbrev pub choice : List ℕ → Activity
+choice id = activity id true UserChoice
+
+abbrev pub structure : List ℕ → StructureKind → Option ℕ → List (List ℕ) → Structure
+structure id kind number children = record {
+  identifier = id;
+  kind = kind;
+  title = None;
+  visible = true;
+  number_to_select = number;
+  environments = [];
+  children = children;
+}
+
+abbrev pub part : List ℕ → List ℕ → List ℕ → RolePart
+part id role target = record { identifier = id; title = None; role = role; target = target }
+
+abbrev pub act : List ℕ → List RolePart → Option Completion → Act
+act id parts complete =
+    record { identifier = id; title = None; role_parts = parts; complete = complete; on_completion = None }
+
+abbrev pub play : List Act → Play
+play acts =
+    record {
+      identifier =
+          codes "p";
+      title = None;
+      visible = true;
+      acts = acts;
+      complete = None;
+      on_completion = None;
+    }
+
+-- A course of one play.
+abbrev pub course : List ℕ → List (List RoleRow) → List Activity → List Structure → List Act → Course
+course id roles activities structures acts = record {
+  roles =
+      roles;
+  properties = [];
+  environments = [];
+  activities = activities;
+  structures = structures;
+  format = 1;
+  identifier =
+      id;
+  level = A;
+  title = None;
+  turns = 64;
+  metadata = None;
+  learning_objectives = [];
+  prerequisites = [];
+  method = record { plays = play acts ∷ []; complete = None; on_completion = None };
+  conditions = [];
+}
+
+-- One act `a` of one part `rp` of the role `learner`, which refers to this.
+abbrev pub one_part : List ℕ → List Act
+one_part target = act (codes "a") (part (codes "rp") (codes "learner") target ∷ []) None ∷ []
+
+abbrev pub property : List ℕ → PropertyKind → Kind → Option (List ℕ) → Property
+property id kind datatype initial = record {
+  identifier = id;
+  kind = kind;
+  datatype = datatype;
+  title = None;
+  role = None;
+  uri = None;
+  initial = initial;
+  restrictions = None;
+}
+
+abbrev pub whole : List ℕ → TermOf
+whole text = literal_term kind.Integer text
+
+abbrev pub truth : List ℕ → TermOf
+truth text = literal_term kind.Boolean text
+
+abbrev pub span : List ℕ → TermOf
+span text = literal_term kind.Duration text
+
+-- The sum and the difference of two terms.
+abbrev pub sum_of_two : TermOf → TermOf → TermOf
+sum_of_two a b = list_term adding (term_and a (term_and b no_term))
+
+abbrev pub less_by : TermOf → TermOf → TermOf
+less_by a b = pair_term subtracting a b
+
+abbrev pub is_equal : TermOf → TermOf → TestOf
+is_equal a b = compare_test equal a b
+
+abbrev pub is_greater : TermOf → TermOf → TestOf
+is_greater a b = compare_test greater a b
+
+abbrev pub are_both : TestOf → TestOf → TestOf
+are_both a b = all_test (test_and a (test_and b no_test))
+
+abbrev pub condition : TestOf → List Action → List Action → Condition
+condition holds then_do else_do = record { test = holds; yes = then_do; no = else_do }
+
+abbrev pub with_conditions : List Property → List Condition → Course → Course
+with_conditions properties conditions unit = record unit { properties = properties; conditions = conditions }
+
+-- ---- lines
+
+-- So many minutes after an hour of 2024-01-01.
+abbrev pub clock : ℕ → ℕ → ℤ
+clock hour minute = pos (1704067200 + 3600 * hour + 60 * minute)
+
+abbrev pub moment : ℕ → ℕ → Moment
+moment hour minute = record { 0 = clock hour minute }
+
+-- So many seconds after the first moment of 1970.
+abbrev pub after_1970 : ℕ → Moment
+after_1970 seconds = record { 0 = pos seconds }
+
+-- A command of the run `r`.
+abbrev pub at : ℕ → ℕ → RunCommand → Line
+at hour minute command = OfRun (moment hour minute) (codes "r") command
+
+-- The run `r` is made, and `ann`, a learner, is enrolled.
+abbrev pub setup : List ℕ → List Line
+setup unit =
+    Create (moment 8 0) (codes "r") unit
+    ∷ at 8 0 (Enrol (codes "ann"))
+    ∷ at 8 0 (Assign (codes "ann") (codes "learner")) ∷ []
+
+-- What is answered to lines about this course alone, where each run has so many seats.
+abbrev pub told : ℕ → Course → List Line → List (List ℕ)
+told seats unit lines = replies (seated_world seats (unit ∷ [])) (map Some lines)

@@ -1,0 +1,67 @@
+-- Two conditions that undo each other pass the budget, and the refused command moves nothing.
+use Rattle.std.specs.Prelude.{◌≡◌, refl, ℕ, List, [], ◌∷◌, Some, codes}
+use Rattle.std.specs.Fmt.{digits}
+use Rattle.json.specs.Print.{escape_byte}
+use Rattle.ld_value.specs.Values.{value_of, text_of, truth_of, integer_of, signed_numeral, fits_in}
+use Rattle.ld_model.specs.Expressions.{property_term, TestOf}
+use Rattle.ld_value.specs.Numeral.{numeral}
+use Rattle.ld_value.specs.declared.kind.Kind.TheVariants.{Boolean as BooleanKind}
+use Rattle.ld_rules.specs.RunCells.{begins_as}
+use Rattle.ld_model.specs.declared.condition.Action.{Action}
+use Rattle.ld_model.specs.declared.condition.Action.TheVariants.{Change}
+use Rattle.ld_model.specs.declared.property.PropertyKind.TheVariants.{Loc}
+use Rattle.ld_model.specs.declared.unit.Unit.{Unit as Course}
+use Rattle.ld_cascade.specs.Settling.{visited, fired_below, after_sweeps, all_firings}
+use Rattle.ld_parts.specs.Listing.{value_set_parts, condition_true_parts, completed_parts, completion_parts, follows_parts, on_completion_parts, role_part, property_parts_at, object_parts_at, service_parts, environment_parts_at, parts_before_items, ending_parts, activity_parts_at, structure_parts_at, role_part_parts_at, act_parts_at, play_parts_at, method_parts, unit_parts, action_parts, condition_parts_at, middle_parts, parts_of}
+use Rattle.ld_walk.specs.CommonParts.{change_parts, notice_parts}
+use Rattle.ld_rules.specs.Actions.{site_firing}
+use Rattle.ld_rules.specs.RunState.{cell_of}
+use Rattle.ld_rules.specs.SiteTests.{site_test}
+use Rattle.ld_rules.specs.RunSettling.{run_settling}
+use Rattle.ld_run.specs.Checks.{admitted}
+use Rattle.ld_lines.specs.declared.command.RunCommand.TheVariants.{Enrol, Assign, Start, Set, Get}
+use Rattle.ld_run.specs.RunStep.{run_step}
+use Rattle.ld_tree.specs.Tree.{tree_lines, is_open}
+use Rattle.ld_lines.specs.declared.line.Line.{Line}
+use Rattle.ld_lines.specs.declared.line.Line.TheVariants.{Create}
+use Rattle.ld_world.specs.World.{world_step, reply_block}
+use Rattle.ld_courses.specs.Courses.{truth, is_equal, are_both, learner, choice, course, one_part, property, with_conditions, condition, moment, at, told}
+
+abbrev has_truth : List ℕ → List ℕ → TestOf
+has_truth property value = is_equal (property_term property) (truth value)
+
+abbrev flips : List ℕ → List ℕ → Action
+flips property value = Change (record { property = property; value = truth value })
+
+abbrev the_course : TestOf → Course
+the_course both = record (with_conditions
+    (property (codes "go") Loc BooleanKind (Some (codes "false"))
+    ∷ property (codes "b") Loc BooleanKind (Some (codes "false"))
+    ∷ property (codes "d") Loc BooleanKind (Some (codes "false")) ∷ [])
+    (condition both (flips (codes "d") (codes "true") ∷ []) (flips (codes "d") (codes "false") ∷ [])
+    ∷ condition (has_truth (codes "d") (codes "true")) (flips (codes "b") (codes "true")
+    ∷ []) (flips (codes "b") (codes "false") ∷ []) ∷ [])
+    (course (codes "u") (learner ∷ []) (choice (codes "read")
+    ∷ []) [] (one_part (codes "read")))) { turns = 4 }
+
+abbrev the_lines : List Line
+the_lines =
+    Create (moment 8 0) (codes "r") (codes "u")
+    ∷ at 8 0 (Enrol (codes "ann"))
+    ∷ at 8 0 (Assign (codes "ann") (codes "learner"))
+    ∷ at 9 0 Start
+    ∷ at 10 0 (Set (codes "ann") (codes "go") (codes "true"))
+    ∷ at 9 30 (Get (codes "ann") (codes "go")) ∷ []
+
+abbrev goes_without_b : TestOf
+goes_without_b = are_both (has_truth (codes "go") (codes "true")) (has_truth (codes "b") (codes "false"))
+
+pub undoing_conditions : told 1 (the_course goes_without_b) the_lines ≡
+    codes "ok create\n"
+    ∷ codes "ok enrol turns=0 fired=0 rejected=0 sent=0\n"
+    ∷ codes "ok assign turns=0 fired=0 rejected=0 sent=0\n"
+    ∷ codes "ok start turns=1 fired=3 rejected=0 sent=0\n"
+    ∷ codes "no 30 turn-budget\n"
+    ∷ codes "ok get turns=0 fired=0 rejected=0 sent=0 value=\"false\"\n" ∷ []
+unfolding world_step reply_block run_step admitted visited fired_below after_sweeps all_firings run_settling site_test site_firing value_set_parts condition_true_parts completed_parts completion_parts follows_parts on_completion_parts role_part property_parts_at object_parts_at service_parts environment_parts_at parts_before_items ending_parts activity_parts_at structure_parts_at role_part_parts_at act_parts_at play_parts_at method_parts unit_parts action_parts condition_parts_at middle_parts parts_of change_parts notice_parts cell_of begins_as tree_lines is_open digits escape_byte value_of text_of truth_of integer_of signed_numeral numeral fits_in
+undoing_conditions = refl

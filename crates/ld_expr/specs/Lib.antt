@@ -1,0 +1,9 @@
+pub mod Arithmetic
+pub mod Done
+pub mod Holding
+pub mod Looks
+pub mod Lookup
+pub mod Membership
+pub mod Owners
+pub mod Seen
+pub mod Terms

@@ -1,0 +1,2 @@
+pub mod RoleTree
+pub mod Roster

@@ -1,0 +1,10 @@
+pub mod Actions
+pub mod Costs
+pub mod GlobalValues
+pub mod Reach
+pub mod RunCells
+pub mod RunSettling
+pub mod RunState
+pub mod RunSystem
+pub mod SiteLooks
+pub mod SiteTests
