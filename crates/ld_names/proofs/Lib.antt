@@ -2,8 +2,10 @@ pub mod Counted
 pub mod Differing
 pub mod Following
 pub mod Identified
+pub mod Kept
 pub mod NameLaws
 pub mod Numbered
 pub mod OnlyThings
 pub mod SameRules
 pub mod Seen
+pub mod Split

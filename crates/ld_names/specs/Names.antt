@@ -1,7 +1,8 @@
 -- What the identifiers of a unit name.
-use Rattle.std.specs.Prelude.{◌≡◌, ◌^◌, true, ℕ, ◌+◌, ◌-◌, List, map, Option, Some, None, ◌<◌, nat_lt, length, position, slice_get, if◌then◌else◌, ⊤}
-use Rattle.std.specs.Option.{option_map, option_and_then}
+use Rattle.std.specs.Prelude.{◌≡◌, ◌^◌, true, ℕ, List, ◌∷◌, ◌++◌, map, Option, Some, None, ◌<◌, length, position, slice_get, ⊤}
+use Rattle.std.specs.Option.{option_map, option_and_then, option_or}
 use Rattle.std.specs.Str.{bytes_eq}
+use Rattle.ld_base.specs.Maybe.{provided}
 use Rattle.ld_names.specs.declared.names.Named.{Named}
 use Rattle.ld_names.specs.declared.names.Named.TheVariants.{Role, Thing, Prop, Unit as Whole}
 use Rattle.ld_walk.specs.declared.place.Place.{Place}
@@ -12,18 +13,19 @@ use Rattle.ld_value.specs.Values.{Restrictions}
 use Rattle.ld_model.specs.Counting.{number_where}
 use Rattle.ld_model.specs.Properties.{limits_by, initial_of}
 use Rattle.ld_model.specs.declared.unit.Unit.{Unit as Course}
-use Rattle.ld_names.specs.Identifiers.{identifiers_of, all_differ}
+use Rattle.ld_names.specs.Identifiers.{all_differ}
 use Rattle.ld_model.specs.Roles.{roles_of}
 use Rattle.ld_names.specs.Rules.{rules_of, rule_number, same_rule, completing_rule}
 use Rattle.ld_names.specs.Things.{things_of}
 
--- The names of a unit: its identifiers (its own, and then those of its roles, its properties and its
--- things), how many roles and properties there are, where each thing stands, the number of the rule that
--- says that a thing, or the unit, is done, and of each property its restrictions and its initial value.
+-- The names of a unit: its own identifier, those of its roles, its properties and its things in document
+-- order, where each thing stands, the number of the rule that says that a thing, or the unit, is done, and
+-- of each property its restrictions and its initial value.
 pub record NameTable : Type 0 where
-  pub identifiers : List (List ℕ)
-  pub roles : ℕ
-  pub properties : ℕ
+  pub own : List ℕ
+  pub roles : List (List ℕ)
+  pub properties : List (List ℕ)
+  pub things : List (List ℕ)
   pub places : List Place
   pub rules : List (Option ℕ)
   pub unit_rule : Option ℕ
@@ -36,9 +38,10 @@ number_at rules place = option_and_then (λ rule. number_where (same_rule rule) 
 
 abbrev pub names_of : Course → NameTable
 names_of unit = record {
-  identifiers = identifiers_of unit;
-  roles = length (roles_of unit);
-  properties = length unit.properties;
+  own = unit.identifier;
+  roles = map (λ role. role.identifier) (roles_of unit);
+  properties = map (λ property. property.identifier) unit.properties;
+  things = map (λ entry. entry.identifier) (things_of unit);
   places = map (λ entry. entry.place) (things_of unit);
   rules = map (λ entry. number_at (rules_of unit) entry.place) (things_of unit);
   unit_rule = rule_number unit CompletesUnit;
@@ -46,42 +49,32 @@ names_of unit = record {
   initials = map initial_of unit.properties;
 }
 
--- How many identifiers stand before the first property, and before the first thing.
-abbrev pub before_properties : NameTable → ℕ
-before_properties names = 1 + names.roles
+-- The first part that has the identifier, where these are the identifiers of all parts of its kind.
+abbrev pub first_with : List ℕ → (ℕ → Named) → List (List ℕ) → Option Named
+first_with id of_number identifiers = option_map of_number (position (bytes_eq id) identifiers)
 
-abbrev pub before_things : NameTable → ℕ
-before_things names = before_properties names + names.properties
-
--- What the identifier at this index names.
-abbrev pub named_at : NameTable → ℕ → Named
-named_at names index =
-    if nat_lt index 1 then Whole else
-    if nat_lt index (before_properties names) then Role (record { 0 = index - 1 }) else
-    if nat_lt index (before_things names) then Prop (record { 0 = index - before_properties names }) else
-    Thing (record { 0 = index - before_things names })
-
--- What the identifier names.
-abbrev pub named_by : NameTable → List ℕ → Option Named
-named_by names id = option_map (named_at names) (position (bytes_eq id) names.identifiers)
-
--- The index of the identifier of what is named.
-abbrev pub index_of : NameTable → Named → ℕ
-index_of names Whole = 0
-index_of names (Role r) = 1 + r.0
-index_of names (Prop p) = before_properties names + p.0
-index_of names (Thing t) = before_things names + t.0
+-- What the identifier names: the unit where it is the unit's own, else the first role, property or thing
+-- that has it.
+unfoldable pub named_by : NameTable → List ℕ → Option Named
+named_by names id =
+    option_or (provided (bytes_eq id names.own) Whole)
+    (option_or (first_with id (λ n. Role (record { 0 = n })) names.roles)
+    (option_or (first_with id (λ n. Prop (record { 0 = n })) names.properties)
+    (first_with id (λ n. Thing (record { 0 = n })) names.things)))
 
 -- The identifier of what is named.
 abbrev pub identifier_at : NameTable → Named → Option (List ℕ)
-identifier_at names named = slice_get names.identifiers (index_of names named)
+identifier_at names Whole = Some names.own
+identifier_at names (Role r) = slice_get names.roles r.0
+identifier_at names (Prop p) = slice_get names.properties p.0
+identifier_at names (Thing t) = slice_get names.things t.0
 
 -- The unit has a part of this number.
 abbrev pub HasPart : NameTable → Named → Type 0
 HasPart names Whole = ⊤
-HasPart names (Role r) = r.0 < names.roles
-HasPart names (Prop p) = p.0 < names.properties
-HasPart names (Thing t) = t.0 < length names.places
+HasPart names (Role r) = r.0 < length names.roles
+HasPart names (Prop p) = p.0 < length names.properties
+HasPart names (Thing t) = t.0 < length names.things
 
 abbrev pub rule_among : List (Option ℕ) → ℕ → Option ℕ
 rule_among rules thing = option_and_then (λ rule. rule) (slice_get rules thing)
@@ -115,12 +108,16 @@ role_number unit id = role_among (named_by (names_of unit) id)
 abbrev pub thing_number : Course → List ℕ → Option ℕ
 thing_number unit id = thing_among (named_by (names_of unit) id)
 
--- The identifiers differ, there is one for each part, and the lists that speak of one kind of parts are as
--- long as there are such parts.
+-- All identifiers: the unit's own, and then those of the roles, the properties and the things.
+abbrev pub all_identifiers : NameTable → List (List ℕ)
+all_identifiers names = names.own ∷ (names.roles ++ (names.properties ++ names.things))
+
+-- The identifiers differ, they can be numbered, and the lists that speak of one kind of parts are as long as
+-- there are such parts.
 pub record IsTable (names : NameTable) : Type 0 where
-  pub differ : all_differ names.identifiers ≡ true
-  pub count : length names.identifiers ≡ 1 + names.roles + names.properties + length names.places
-  pub few : length names.identifiers < 2 ^ 32
-  pub rules : length names.rules ≡ length names.places
-  pub limits : length names.limits ≡ names.properties
-  pub initials : length names.initials ≡ names.properties
+  pub differ : all_differ (all_identifiers names) ≡ true
+  pub few : length (all_identifiers names) < 2 ^ 32
+  pub places : length names.places ≡ length names.things
+  pub rules : length names.rules ≡ length names.things
+  pub limits : length names.limits ≡ length names.properties
+  pub initials : length names.initials ≡ length names.properties

@@ -140,7 +140,7 @@ pub(crate) fn index_identifiers(
     requires { all_differ identifiers.items ≡ true }
     ensures { IfOk result (λ indexed. indexed.keys ≡ identifiers.items) }
 {
-    let mut indexed = IndexSet::new(alloc);
+    let mut indexed = IndexSet::with_capacity(alloc, identifiers.len())?;
     for identifier in identifiers {
         indexed.insert(identifier)?;
     }

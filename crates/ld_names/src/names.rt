@@ -3,7 +3,7 @@ ghost use Rattle.std.specs.Prelude.{◌≡◌, ◌<◌, ◌^◌, length, map, tr
 ghost use Rattle.ld_model.specs.Roles.{roles_of};
 ghost use Rattle.ld_names.specs.Identifiers.{HasDistinctIdentifiers, identifiers_of};
 ghost use Rattle.ld_parts.specs.Listing.{parts_of};
-ghost use Rattle.ld_names.specs.Names.{names_of, named_at, named_by, index_of, identifier_at, rule_named, HasPart};
+ghost use Rattle.ld_names.specs.Names.{all_identifiers, names_of, named_by, identifier_at, rule_named, HasPart};
 ghost use Rattle.ld_names.specs.Things.{things_of};
 ghost use Rattle.ld_names.specs.ThingView.{entry_of};
 ghost use Rattle.ld_value.specs.Datum.{datum_of};
@@ -69,14 +69,14 @@ impl Drop for Names {
 }
 
 impl Model for Names {
-    ghost use Rattle.ld_names.specs.Names.{NameTable, IsTable};
-    ghost use Rattle.ld_names.specs.NameView.{table_of};
+    ghost use Rattle.ld_names.specs.Names.{NameTable};
+    ghost use Rattle.ld_names.specs.NameView.{table_of, IsKept};
 
     ghost Value = { NameTable };
 
     ghost view = { table_of };
 
-    ghost invariant = { λ s. IsTable (table_of s) };
+    ghost invariant = { IsKept };
 }
 
 impl Names {
@@ -109,7 +109,7 @@ impl Names {
 
     /// What the identifier names; None exactly where the unit has no such identifier. What it names
     /// has just this identifier. It takes no memory.
-    #[tactic(auto, using(crate::proofs::NameLaws::named_has_identifier))]
+    #[tactic(auto, using(crate::proofs::Kept::absent_kept, crate::proofs::Kept::found_kept))]
     pub fn number(&self, id: &Id) -> Option<Named>
         ensures named { result ≡ named_by self.now id.now }
         ensures part { IfSome result (HasPart self.now) }
@@ -121,8 +121,10 @@ impl Names {
 
     /// What the identifier at this index names.
     fn named_at(&self, index: usize) -> Named
-        requires { index < length self.now.identifiers }
-        ensures { result ≡ named_at self.now index }
+        requires { index < length (all_identifiers self.now) }
+        ensures part { HasPart self.now result }
+        ensures identifier { identifier_at self.now result
+            ≡ slice_get (all_identifiers self.now) index }
     {
         if index < 1 {
             return Named::Unit;
@@ -140,7 +142,7 @@ impl Names {
 
     /// The identifier of what is named, whose number is one of the unit's: it names just that. It
     /// takes no memory.
-    #[tactic(auto, using(crate::proofs::NameLaws::identifier_names))]
+    #[tactic(auto, using(crate::proofs::Kept::kept_at))]
     pub fn id(&self, named: Named) -> &Id
         requires { HasPart self.now named }
         ensures identifier { Some result.now ≡ identifier_at self.now named }
@@ -153,10 +155,10 @@ impl Names {
     }
 
     /// The index of the identifier of what is named.
+    #[tactic(auto, using(crate::proofs::Kept::property_at, crate::proofs::Kept::thing_at))]
     fn index_of(&self, named: Named) -> usize
         requires { HasPart self.now named }
-        ensures index { result ≡ index_of self.now named }
-        ensures within { result < length self.now.identifiers }
+        ensures { slice_get (all_identifiers self.now) result ≡ identifier_at self.now named }
     {
         match named {
             Named::Unit => 0,
@@ -210,7 +212,7 @@ impl Names {
 fn places_of(alloc: Global, things: &[ThingEntry<'_>]) -> Result<Vec<Place>, NoMemory>
     ensures { IfOk result (λ places. places.items ≡ map (λ entry. entry.place) (map entry_of things.now)) }
 {
-    let mut places = Vec::new(alloc);
+    let mut places = Vec::with_capacity(alloc, things.len())?;
     for thing in things {
         places.push(thing.place)?;
     }

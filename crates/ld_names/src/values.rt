@@ -20,7 +20,7 @@ pub(crate) fn limits_of(alloc: Global, properties: &[Property]) -> Result<Vec<Li
     ensures { IfOk result (λ limits. map restrictions_of limits.items
         ≡ map (λ property. limits_by property property.restrictions) properties.now) }
 {
-    let mut limits = Vec::new(alloc);
+    let mut limits = Vec::with_capacity(alloc, properties.len())?;
     for property in properties {
         limits.push(limits_by(alloc, property)?)?;
     }
@@ -34,7 +34,7 @@ pub(crate) fn initials_of(
 ) -> Result<Vec<Option<Value>>, NoMemory>
     ensures { IfOk result (λ initials. map (option_map datum_of) initials.items ≡ map initial_of properties.now) }
 {
-    let mut initials = Vec::new(alloc);
+    let mut initials = Vec::with_capacity(alloc, properties.len())?;
     for property in properties {
         initials.push(value_of(alloc, property.datatype, &property.initial)?)?;
     }
