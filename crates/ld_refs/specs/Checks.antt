@@ -6,6 +6,7 @@ use Rattle.ld_json.specs.Fault.{Told}
 use Rattle.ld_model.specs.declared.unit.Unit.{Unit as Course}
 use Rattle.ld_parts.specs.Listing.{parts_of}
 use Rattle.ld_names.specs.Names.{NameTable, names_of}
+use Rattle.ld_names.specs.declared.rule.Rule.{Rule}
 use Rattle.ld_walk.specs.Parts.{Part}
 use Rattle.ld_refs.specs.Bounds.{level_faults, profile_faults, object_limit_faults, count_faults, leaves_in}
 use Rattle.ld_refs.specs.Extents.{size_faults}
@@ -57,5 +58,5 @@ leaves_of unit = leaves_in false (parts_of unit)
 pub record CheckedUnit : Type 0 where
   pub unit : Course
   pub names : NameTable
-  pub rules : ℕ
+  pub rules : List Rule
   pub leaves : ℕ

@@ -1,5 +1,5 @@
 //! The checks of a whole unit.
-ghost use Rattle.std.specs.Prelude.{◌≡◌, [], true, false, IfErr, IfOk, OnOk, length};
+ghost use Rattle.std.specs.Prelude.{◌≡◌, ◌≤◌, [], true, false, IfErr, IfOk, OnOk, length};
 ghost use Rattle.ld_formats.specs.Units.{is_well_formed};
 ghost use Rattle.ld_json.specs.Fault.{SaysFirst};
 ghost use Rattle.ld_names.specs.Identifiers.{HasDistinctIdentifiers};
@@ -22,13 +22,14 @@ use crate::unbuilt::check_built;
 use ld_json::fault::ReadFault;
 use ld_model::unit::Unit;
 use ld_names::names::Names;
+use ld_names::rule::Rule;
 use ld_parts::listing::Listing;
 use ld_types::typing::Typing;
 use std::alloc::Global;
 use std::marker::Model;
 
 /// A valid unit of which runs are built: each member has its form, and no check finds a fault in it.
-/// Beside it stand its names, the number of its rules and that of the leaves of its expressions.
+/// Beside it stand its names, its rules and the number of the leaves of its expressions.
 pub struct Checked {
     unit: Unit,
     names: Names,
@@ -47,7 +48,7 @@ impl Drop for Checked {
 }
 
 impl Model for Checked {
-    ghost use Rattle.std.specs.Prelude.{◌≡◌, length};
+    ghost use Rattle.std.specs.Prelude.{◌≡◌, ◌≤◌, length};
     ghost use Rattle.std.specs.Coded.{codes};
     ghost use Rattle.ld_model.specs.ExpressionCodes.{coded_term, coded_test};
     ghost use Rattle.ld_names.specs.Identifiers.{HasDistinctIdentifiers};
@@ -59,10 +60,10 @@ impl Model for Checked {
 
     ghost coded = { Prim.hlevel (codes, coded_term, coded_test) };
 
-    ghost view = { λ s. record { unit = s.unit; names = s.names; rules = s.counts.rules; leaves = s.counts.leaves } };
+    ghost view = { λ s. record { unit = s.unit; names = s.names; rules = s.counts.rules.items; leaves = s.counts.leaves } };
 
     ghost invariant = { λ s. IsValid s.unit × IsBuilt s.unit × HasDistinctIdentifiers s.unit
-        × (s.names ≡ names_of s.unit) × (s.counts.rules ≡ length (rules_of s.unit))
+        × (s.names ≡ names_of s.unit) × (s.counts.rules.items ≡ rules_of s.unit) × (length s.counts.rules.items ≤ 600)
         × (s.counts.leaves ≡ leaves_of s.unit) };
 }
 
@@ -88,7 +89,7 @@ impl Checked {
     pub fn rules(&self) -> u32
         ensures { result ≡ length (rules_of self.now.unit) }
     {
-        self.counts.rules
+        self.counts.rules.len() as u32
     }
 
     /// The number of leaves of the unit's expressions. It takes no memory.
@@ -98,10 +99,12 @@ impl Checked {
         self.counts.leaves
     }
 
-    /// The valid unit and its names. It takes no memory.
-    pub fn into_parts(self) -> (Unit, Names)
+    /// The valid unit, its names and its rules in their order. It takes no memory.
+    pub fn into_parts(self) -> (Unit, Names, Vec<Rule>)
         ensures unit { result.0 ≡ self.unit }
         ensures names { result.1 ≡ names_of self.unit }
+        ensures rules { result.2.items ≡ rules_of self.unit }
+        ensures few_rules { length result.2.items ≤ 600 }
         ensures valid { IsValid result.0 }
         ensures built { IsBuilt result.0 }
         ensures distinct { HasDistinctIdentifiers result.0 }
@@ -109,9 +112,9 @@ impl Checked {
         let Checked {
             unit,
             names,
-            counts: _,
+            counts,
         } = self;
-        (unit, names)
+        (unit, names, counts.rules)
     }
 }
 
@@ -138,7 +141,8 @@ pub fn check(alloc: Global, unit: Unit) -> Result<Checked, ReadFault>
 #[tactic(auto, unfolding(crate::specs::Checks::check_faults), using(ld_json::proofs::First::first_of_both))]
 fn check_all(alloc: Global, unit: &Unit) -> Result<(Names, Counts), ReadFault>
     ensures names { IfOk result (λ both. both.0 ≡ names_of unit.now) }
-    ensures rules { IfOk result (λ both. both.1.rules ≡ length (rules_of unit.now)) }
+    ensures rules { IfOk result (λ both. both.1.rules.items ≡ rules_of unit.now) }
+    ensures few_rules { IfOk result (λ both. length both.1.rules.items ≤ 600) }
     ensures leaves { IfOk result (λ both. both.1.leaves ≡ leaves_of unit.now) }
     ensures distinct { OnOk result (HasDistinctIdentifiers unit.now) }
     ensures valid { OnOk result (valid_faults unit.now ≡ []) }
@@ -161,7 +165,8 @@ fn check_valid(
 ) -> Result<(Names, Counts), ReadFault>
     requires { listing.now ≡ parts_of unit.now }
     ensures names { IfOk result (λ both. both.0 ≡ names_of unit.now) }
-    ensures rules { IfOk result (λ both. both.1.rules ≡ length (rules_of unit.now)) }
+    ensures rules { IfOk result (λ both. both.1.rules.items ≡ rules_of unit.now) }
+    ensures few_rules { IfOk result (λ both. length both.1.rules.items ≤ 600) }
     ensures leaves { IfOk result (λ both. both.1.leaves ≡ leaves_of unit.now) }
     ensures distinct { OnOk result (HasDistinctIdentifiers unit.now) }
     ensures faultless { OnOk result (valid_faults unit.now ≡ []) }
@@ -218,7 +223,8 @@ fn check_amounts(
 ) -> Result<Counts, ReadFault>
     requires environments { edges_of graphs.now.environments.items ≡ environment_graph unit.now names.now }
     requires structures { edges_of graphs.now.structures.items ≡ structure_graph unit.now names.now }
-    ensures rules { IfOk result (λ counts. counts.rules ≡ length (rules_in listing.now)) }
+    ensures rules { IfOk result (λ counts. counts.rules.items ≡ rules_in listing.now) }
+    ensures few_rules { IfOk result (λ counts. length counts.rules.items ≤ 600) }
     ensures leaves { IfOk result (λ counts. counts.leaves ≡ leaves_in false listing.now) }
     ensures faultless { OnOk result (amount_faults unit.now names.now listing.now ≡ []) }
     ensures first { IfErr result (SaysFirst (amount_faults unit.now names.now listing.now)) }

@@ -99,12 +99,12 @@ fn read_each<R: Reads>(
     requires whole { count ≡ length (item_nodes node.now) }
     ensures { Answers (each R.shape (item_nodes node.now)) result }
 {
-    let mut values = Items::new(alloc);
+    let mut values = Vec::with_capacity(alloc, count)?;
     for index in 0..count {
         let value = R::read(alloc, &node.item(index))?;
         values.push(value)?;
     }
-    Ok(values)
+    Ok(Items::from_vec(values))
 }
 
 /// The number of elements of an array that has at least so many. `wrong-shape` exactly where the node

@@ -1,6 +1,7 @@
 //! The plan of a unit: its names and its rules, made once and used by all its runs.
-ghost use Rattle.std.specs.Prelude.{◌≡◌, ◌<◌, ◌^◌, length, IfOk};
+ghost use Rattle.std.specs.Prelude.{◌≡◌, ◌<◌, ◌≤◌, ◌^◌, length, IfOk};
 ghost use Rattle.ld_names.specs.Names.{names_of};
+ghost use Rattle.ld_names.specs.Rules.{rules_of};
 ghost use Rattle.ld_top.specs.PlanView.{IsPlanOf, role_in, thing_in, number_in};
 
 use ld_base::id::Id;
@@ -8,9 +9,7 @@ use ld_base::memory::NoMemory;
 use ld_base::numbers::number;
 use ld_model::unit::Unit;
 use ld_names::names::{Named, Names};
-use ld_names::rule::{Rule, list_rules, number_of_rule};
-use ld_parts::listing::Listing;
-use std::alloc::Global;
+use ld_names::rule::{Rule, number_of_rule};
 
 /// The names and the rules of a unit. The number of a rule is its place in the list.
 pub struct Plan {
@@ -26,14 +25,13 @@ impl Drop for Plan {
 }
 
 impl Plan {
-    /// The plan of the unit, whose names these are.
-    pub fn of(alloc: Global, unit: &Unit, names: Names) -> Result<Plan, NoMemory>
-        requires { names ≡ names_of unit.now }
+    /// The plan of the unit, whose names and rules these are.
+    pub fn of(unit: &Unit, names: Names, rules: Vec<Rule>) -> Result<Plan, NoMemory>
+        requires names { names ≡ names_of unit.now }
+        requires rules { rules.items ≡ rules_of unit.now }
+        requires few_rules { length rules.items ≤ 600 }
         ensures { IfOk result (IsPlanOf unit.now) }
     {
-        let listing = Listing::of(alloc, unit)?;
-        let rules = list_rules(alloc, &listing)?;
-        number(rules.len())?;
         number(unit.activities.len())?;
         Ok(Plan { names, rules })
     }

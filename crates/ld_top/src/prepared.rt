@@ -6,7 +6,6 @@ use crate::plan::Plan;
 use ld_base::memory::NoMemory;
 use ld_model::unit::Unit;
 use ld_refs::check::Checked;
-use std::alloc::Global;
 
 /// A unit, and the plan that was made of it.
 #[derive(Drop)]
@@ -18,11 +17,11 @@ pub struct PreparedUnit {
 
 impl PreparedUnit {
     /// The checked unit with its plan.
-    pub fn new(alloc: Global, checked: Checked) -> Result<PreparedUnit, NoMemory>
+    pub fn new(checked: Checked) -> Result<PreparedUnit, NoMemory>
         ensures { IfOk result (λ prepared. prepared.unit ≡ checked.unit) }
     {
-        let (unit, names) = checked.into_parts();
-        let plan = Plan::of(alloc, &unit, names)?;
+        let (unit, names, rules) = checked.into_parts();
+        let plan = Plan::of(&unit, names, rules)?;
         Ok(PreparedUnit { unit, plan })
     }
 }

@@ -103,7 +103,7 @@ pub fn replay<S: Source, K: Sink>(
     ensures sink_counts { K.faults sink.old ≤ K.faults sink.new }
     ensures endings { IsReplayEnding result }
 {
-    let Ok(mut world) = World::new(alloc, checked) else {
+    let Ok(mut world) = World::new(checked) else {
         return Ending::NoMemory;
     };
     let Ok(mut lines) = Lines::new(alloc) else {

@@ -49,11 +49,11 @@ impl Drop for World {
 
 impl World {
     /// The world of the checked unit before the first line.
-    pub fn new(alloc: Global, checked: Checked) -> Result<World, NoMemory>
+    pub fn new(checked: Checked) -> Result<World, NoMemory>
         ensures { IfOk result (λ world. world_of world ≡ first_world (checked.unit ∷ [])) }
     {
         Ok(World {
-            prepared: PreparedUnit::new(alloc, checked)?,
+            prepared: PreparedUnit::new(checked)?,
             run: None,
         })
     }

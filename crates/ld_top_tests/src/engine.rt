@@ -21,7 +21,7 @@ const FIRST_ACT: ThingNo = ThingNo(3);
 
 fn prepared(alloc: Global) -> Result<PreparedUnit, Fail> {
     let checked = checked(alloc, first_files(alloc)?)?;
-    Ok(PreparedUnit::new(alloc, checked)?)
+    Ok(PreparedUnit::new(checked)?)
 }
 
 /// A run of two persons who both hold the role.

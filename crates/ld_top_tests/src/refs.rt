@@ -13,8 +13,9 @@ fn a_checked_unit_gives_its_parts(rt: HostRuntime) -> Result<(), Fail> {
     assert_eq!(rt; checked.leaves(), 0);
     assert_eq!(rt; checked.names().id(Named::Unit).as_str(), "u1");
     assert_eq!(rt; checked.unit().activities.len(), 1);
-    let (unit, names) = checked.into_parts();
+    let (unit, names, rules) = checked.into_parts();
     assert!(rt; names.number(&unit.identifier) == Some(Named::Unit));
+    assert_eq!(rt; rules.len(), 3);
     Ok(())
 }
 

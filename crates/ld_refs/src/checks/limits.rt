@@ -10,7 +10,7 @@ ghost use Rattle.ld_refs.specs.Bounds.{beyond, count_faults, declares, is_counte
 use ld_json::code::Code;
 use ld_json::fault::ReadFault;
 use ld_json::file::FileNo;
-use ld_names::rule::list_rules;
+use ld_names::rule::{Rule, list_rules};
 use ld_parts::listing::Listing;
 use ld_walk::kind::Kind;
 use ld_walk::part::What;
@@ -94,28 +94,29 @@ fn check_limit(
     Ok(())
 }
 
-/// How many rules a unit has, and how many leaves its expressions.
-#[derive(Clone, Copy)]
+/// The rules of a unit, and how many leaves its expressions have.
+#[derive(Drop)]
 pub(crate) struct Counts {
-    pub(crate) rules: u32,
+    pub(crate) rules: Vec<Rule>,
     pub(crate) leaves: u32,
 }
 
-/// That rules and leaves keep to their limits; their numbers.
+/// That rules and leaves keep to their limits; the rules and the number of leaves.
 #[tactic(auto, unfolding(crate::specs::Bounds::count_faults), using(ld_json::proofs::First::first_of_both))]
 pub(crate) fn check_counts(alloc: Global, listing: &Listing<'_>) -> Result<Counts, ReadFault>
-    ensures rules { IfOk result (λ counts. counts.rules ≡ length (rules_in listing.now)) }
+    ensures rules { IfOk result (λ counts. counts.rules.items ≡ rules_in listing.now) }
+    ensures few_rules { IfOk result (λ counts. length counts.rules.items ≤ 600) }
     ensures leaves { IfOk result (λ counts. counts.leaves ≡ leaves_in false listing.now) }
     ensures faultless { OnOk result (count_faults listing.now ≡ []) }
     ensures first { IfErr result (SaysFirst (count_faults listing.now)) }
 {
-    let rules = list_rules(alloc, listing)?.len();
-    check_over(alloc, 600, rules)?;
+    let rules = list_rules(alloc, listing)?;
+    check_over(alloc, 600, rules.len())?;
     let leaves = count_leaves(listing, false);
     check_over(alloc, 4_000, leaves)?;
     check_over(alloc, 100, count_leaves(listing, true))?;
     Ok(Counts {
-        rules: rules as u32,
+        rules,
         leaves: leaves as u32,
     })
 }

@@ -14,7 +14,7 @@ use ld_parts::listing::Listing;
 use ld_walk::part::What;
 use ld_walk::spot::Spot;
 use std::alloc::Global;
-use std::collections::BTreeSet;
+use std::collections::HashSet;
 
 /// Which texts differ.
 #[derive(Clone, Copy)]
@@ -25,7 +25,7 @@ pub(crate) enum Texts {
     Uris,
 }
 
-/// That such texts differ. It takes time for n of them as n times the logarithm of n.
+/// That such texts differ. It takes time as their size.
 pub(crate) fn check_repeats(
     alloc: Global,
     texts: Texts,
@@ -34,7 +34,7 @@ pub(crate) fn check_repeats(
     ensures faultless { OnOk result (repeated_faults texts listing.now ≡ []) }
     ensures first { IfErr result (SaysFirst (repeated_faults texts listing.now)) }
 {
-    let mut seen = BTreeSet::new(alloc);
+    let mut seen = HashSet::new(alloc);
     for index in 0..listing.len() {
         let at = listing.spot(index);
         note_part(alloc, &mut seen, texts, &at, listing.what(index))?;
@@ -45,7 +45,7 @@ pub(crate) fn check_repeats(
 /// Notes the text of what stands at the place, which repeats none that was seen.
 fn note_part<'a>(
     alloc: Global,
-    seen: &mut BTreeSet<&'a str>,
+    seen: &mut HashSet<&'a str>,
     texts: Texts,
     at: &Spot<'_>,
     what: What<'a>,
@@ -72,7 +72,7 @@ fn note_part<'a>(
 /// Notes the text at the place, which was not seen.
 fn note<'a>(
     alloc: Global,
-    seen: &mut BTreeSet<&'a str>,
+    seen: &mut HashSet<&'a str>,
     code: Code,
     at: &Spot<'_>,
     text: &'a str,
@@ -95,7 +95,10 @@ fn check_list(alloc: Global, at: &Spot<'_>, ids: &[Id]) -> Result<(), ReadFault>
     ensures faultless { OnOk result (each_numbered (repeated_target at.now ids.now) ids.now ≡ []) }
     ensures first { IfErr result (SaysFirst (each_numbered (repeated_target at.now ids.now) ids.now)) }
 {
-    let mut seen = BTreeSet::new(alloc);
+    if ids.len() < 2 {
+        return Ok(());
+    }
+    let mut seen = HashSet::new(alloc);
     for (i, id) in ids.iter().enumerate() {
         note(alloc, &mut seen, Code::RepeatedId, &at.item(i), id.as_str())?;
     }

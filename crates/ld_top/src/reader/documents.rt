@@ -21,15 +21,17 @@ use ld_reader::parts::read_parts;
 use ld_refs::check::{Checked, check};
 use std::alloc::Global;
 
-/// The checked unit of these files, in their order, or the first fault of what they hold.
+/// The checked unit of these files, in their order, or the first fault of what they hold. Files and
+/// documents are let go of as soon as they are read.
 #[tactic(auto, unfolding(crate::specs::Reading::content_faults), using(ld_json::proofs::First::first_of_both))]
-pub(super) fn read_unit(alloc: Global, files: &[Option<Bytes>; 6]) -> Result<Checked, ReadFault>
-    ensures unit { IfOk result (λ checked. unit_of (docs_in (held_by files.now)) ≡ Some checked.unit) }
-    ensures faultless { OnOk result (content_faults (held_by files.now) ≡ []) }
-    ensures first { IfErr result (SaysFirst (content_faults (held_by files.now))) }
+pub(super) fn read_unit(alloc: Global, files: [Option<Bytes>; 6]) -> Result<Checked, ReadFault>
+    ensures unit { IfOk result (λ checked. unit_of (docs_in (held_by files)) ≡ Some checked.unit) }
+    ensures faultless { OnOk result (content_faults (held_by files) ≡ []) }
+    ensures first { IfErr result (SaysFirst (content_faults (held_by files))) }
 {
-    let docs = read_documents(alloc, files)?;
-    let checked = checked_unit(alloc, &docs)?;
+    let docs = read_documents(alloc, &files)?;
+    drop(files);
+    let checked = checked_unit(alloc, docs)?;
     Ok(checked)
 }
 
@@ -100,10 +102,10 @@ fn read_document(
 
 /// The checked unit of the documents.
 #[tactic(auto, unfolding(crate::specs::Folder::document_faults, ld_refs::specs::Checks::check_faults), using(ld_json::proofs::First::first_of_both))]
-fn checked_unit(alloc: Global, docs: &Docs) -> Result<Checked, ReadFault>
-    ensures unit { IfOk result (λ checked. unit_of docs.now ≡ Some checked.unit) }
-    ensures faultless { OnOk result (document_faults docs.now ≡ []) }
-    ensures first { IfErr result (SaysFirst (document_faults docs.now)) }
+fn checked_unit(alloc: Global, docs: Docs) -> Result<Checked, ReadFault>
+    ensures unit { IfOk result (λ checked. unit_of docs ≡ Some checked.unit) }
+    ensures faultless { OnOk result (document_faults docs ≡ []) }
+    ensures first { IfErr result (SaysFirst (document_faults docs)) }
 {
     let unit = unit_in(alloc, docs)?;
     let checked = check(alloc, unit)?;
@@ -112,13 +114,13 @@ fn checked_unit(alloc: Global, docs: &Docs) -> Result<Checked, ReadFault>
 
 /// The unit for which the documents stand.
 #[tactic(auto, unfolding(crate::specs::Folder::unit_of, crate::specs::Folder::shape_faults, ld_formats::specs::Units::unit), using(ld_json::proofs::First::says_more))]
-fn unit_in(alloc: Global, docs: &Docs) -> Result<Unit, ReadFault>
-    ensures unit { IfOk result (λ unit. unit_of docs.now ≡ Some unit) }
+fn unit_in(alloc: Global, docs: Docs) -> Result<Unit, ReadFault>
+    ensures unit { IfOk result (λ unit. unit_of docs ≡ Some unit) }
     ensures formed { IfOk result (λ unit. is_well_formed unit ≡ true) }
-    ensures faultless { OnOk result (shape_faults docs.now ≡ []) }
-    ensures first { IfErr result (SaysFirst (shape_faults docs.now)) }
+    ensures faultless { OnOk result (shape_faults docs ≡ []) }
+    ensures first { IfErr result (SaysFirst (shape_faults docs)) }
 {
-    let parts = read_parts(alloc, docs)?;
-    let unit = read_method(alloc, docs, parts)?;
+    let parts = read_parts(alloc, &docs)?;
+    let unit = read_method(alloc, &docs, parts)?;
     Ok(unit)
 }

@@ -33,7 +33,7 @@ pub fn read_folder<H: Shelf>(
     ensures same { H.files shelf.new ≡ H.files shelf.old }
 {
     let files = read_files(alloc, shelf, folder)?;
-    match read_unit(alloc, &files) {
+    match read_unit(alloc, files) {
         Ok(checked) => Ok(checked),
         Err(ReadFault::Refused(fault)) => Err(FolderStop::Refused(fault)),
         Err(ReadFault::NoMemory) => Err(FolderStop::NoMemory),

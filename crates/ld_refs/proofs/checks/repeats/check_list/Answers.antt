@@ -2,7 +2,7 @@ use Rattle.std.proofs.Common.{take}
 use Rattle.std.proofs.lemmas.Result.{err_from_is_err_and}
 use Rattle.ld_model.specs.Counting.{each_numbered}
 use Rattle.ld_refs.specs.Repeats.{repeated_target}
-use Rattle.ld_refs.proofs.Seen.{one_more}
+use Rattle.ld_refs.proofs.Seen.{one_more, too_few}
 use Rattle.ld_types.proofs.Stops.{stop_numbered, pass_numbered}
 use Rattle.ld_refs.proofs.checks.repeats.check_list.Goals as goal
 
@@ -26,3 +26,6 @@ loop-i-preserved c =
       seen = rw (one_more ids i c.index-ids-i.result c.loop-i-test.true) kept;
       faults = pass_numbered f ids i c.index-ids-i.result (each_numbered f ids) c.loop-i-test.true c.loop-i.invariant.faults none;
     }
+
+pub returns-then-ids-lt2-clause-faultless : goal.returns-then-ids-lt2-clause-faultless
+returns-then-ids-lt2-clause-faultless c = too_few c.args.at.now c.args.ids.now c.if-ids-lt2.true
