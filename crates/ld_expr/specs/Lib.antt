@@ -1,9 +1,15 @@
 pub mod Arithmetic
+pub mod Completed
 pub mod Done
 pub mod Holding
 pub mod Looks
 pub mod Lookup
 pub mod Membership
+pub mod OperandView
+pub mod Operators
 pub mod Owners
+pub mod PropertyTests
 pub mod Seen
 pub mod Terms
+pub mod Users
+pub mod Viewing

@@ -1,2 +1,14 @@
-//! What is seen of a run, the values of terms, and which tests hold. So far these are definitions alone.
+//! The values of terms, and which tests hold, in what a view shows of a run.
+//!
+//! Nothing here changes the run. Only the value of a text, handed out, takes memory: while terms and
+//! tests are worked out, values are looked at where they stand. (docs/MEANING.md, "Terms and tests")
 #![tactic(auto)]
+
+mod arithmetic;
+pub mod cells;
+pub mod done;
+pub mod holding;
+pub mod members;
+mod operand;
+pub mod property;
+pub mod terms;

@@ -1,0 +1,5 @@
+pub mod Asking
+pub mod Completing
+pub mod Having
+pub mod Listed
+pub mod Totals
