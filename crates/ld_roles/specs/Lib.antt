@@ -1,2 +1,10 @@
+pub mod RoleBounds
 pub mod RoleTree
+pub mod Persons
+pub mod Membership
+pub mod Refusals
 pub mod Roster
+pub mod Kept
+pub mod Entries
+pub mod Seats
+pub mod Changes

@@ -1,2 +1,14 @@
-//! Persons, the roles that they hold, and the bounds on these. So far these are definitions alone.
+//! Persons, the roles that they hold, and the bounds on these.
 #![tactic(auto)]
+
+mod change;
+mod exclusion;
+pub mod fault;
+pub mod limit;
+mod members;
+mod role_tree;
+mod room;
+pub mod roster;
+mod seat;
+mod seats;
+mod shortage;

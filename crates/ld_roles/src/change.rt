@@ -1,0 +1,13 @@
+//! What was done to a roster since its mark.
+
+/// What was done since the mark; persons and roles by their numbers.
+#[derive(Clone, Copy)]
+pub(crate) enum Change {
+    Nothing,
+    /// A person was enrolled.
+    Enrolled,
+    /// The person was given the role.
+    Gave(usize, usize),
+    /// The role was taken from the person.
+    Took(usize, usize),
+}
