@@ -8,6 +8,7 @@ use Rattle.ld_model.specs.declared.activity.Structure.{Structure}
 use Rattle.ld_model.specs.declared.activity.StructureKind.{StructureKind}
 use Rattle.ld_model.specs.declared.activity.StructureKind.TheVariants.{Sequence, Selection}
 use Rattle.ld_model.specs.declared.completion.OnCompletion.{OnCompletion}
+use Rattle.ld_model.specs.declared.environment.Environment.{Environment}
 use Rattle.ld_model.specs.declared.environment.LearningObject.{LearningObject}
 use Rattle.ld_model.specs.declared.environment.Service.{Service}
 use Rattle.ld_model.specs.declared.environment.ServiceKind.{ServiceKind}
@@ -105,16 +106,22 @@ service_lines unit seen p depth service =
     (thing_line depth (codes "service") service.identifier (kind ∷ []) service.title ∷ [])
 
 -- An environment, and one deeper its learning objects, its services, and the environments that it refers
--- to; below at most so many environments.
-abbrev pub environment_lines : ℕ → Course → Seen → ℕ → ℕ → List ℕ → List TreeLine
-environment_lines zero unit seen p depth id = []
-environment_lines (suc n) unit seen p depth id = if_visible unit seen p id (list_from
-    (λ environment.
+-- to, whose lines are given.
+abbrev pub within_lines :
+    Course → Seen → ℕ → ℕ → (List ℕ → List TreeLine) → List ℕ → Environment → List TreeLine
+within_lines unit seen p depth further_lines id environment =
     thing_line depth (codes "environment") id [] environment.title
     ∷ (flat_map (object_lines unit seen p (depth + 1)) environment.learning_objects
     ++ (flat_map (service_lines unit seen p (depth + 1)) environment.services
-    ++ flat_map (environment_lines n unit seen p (depth + 1)) environment.environments)))
-    (environment_named unit id))
+    ++ flat_map further_lines environment.environments))
+
+-- The environment of this identifier, below at most so many environments.
+abbrev pub environment_lines : ℕ → Course → Seen → ℕ → ℕ → List ℕ → List TreeLine
+environment_lines zero unit seen p depth id = []
+environment_lines (suc n) unit seen p depth id =
+    let further_lines = environment_lines n unit seen p (depth + 1) in
+    if_visible unit seen p id
+    (list_from (within_lines unit seen p depth further_lines id) (environment_named unit id))
 
 abbrev pub all_environment_lines : Course → Seen → ℕ → ℕ → List (List ℕ) → List TreeLine
 all_environment_lines unit seen p depth ids =
@@ -199,13 +206,13 @@ done_act_lines unit seen p act = if is_act_done unit seen p act
     ∷ all_item_lines unit seen p 3 (feedback_of act.on_completion)
     else []
 
-abbrev pub is_act_opened : Course → Seen → Act → Bool
-is_act_opened unit seen act =
-    is_some_and (λ thing. is_some (seen.value (act_opened_cell thing))) (thing_number unit act.identifier)
+abbrev pub is_opened : Course → Seen → List ℕ → Bool
+is_opened unit seen id =
+    is_some_and (λ thing. is_some (seen.value (act_opened_cell thing))) (thing_number unit id)
 
 -- An act, if it is opened, and the person's role-parts in it.
 abbrev pub open_act_lines : Course → Seen → ℕ → Act → List TreeLine
-open_act_lines unit seen p act = if is_act_opened unit seen act
+open_act_lines unit seen p act = if is_opened unit seen act.identifier
     then status_line 2 (codes "act") act.identifier opened act.title
     ∷ flat_map (part_lines unit seen p) act.role_parts
     else []

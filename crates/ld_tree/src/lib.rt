@@ -1,2 +1,14 @@
-//! The tree of activities that a person is shown, and what is open in it. So far these are definitions alone.
+//! The tree of activities that a person is shown, and what is open in it.
+//!
+//! A unit is walked once, and each line is told as it comes: to one who prints it, or to one who only
+//! looks for an activity that is open. (docs/MEANING.md, "The tree")
 #![tactic(auto)]
+
+mod activities;
+mod environments;
+mod finder;
+mod line;
+mod method;
+mod printer;
+pub mod tree;
+mod viewer;

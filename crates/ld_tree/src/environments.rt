@@ -1,0 +1,364 @@
+//! The lines of items and environments.
+ghost use Rattle.std.specs.Prelude.{◌≡◌, ◌+◌, ◌≤◌, ◌<◌, ◌^◌, true, fold, flat_map, length, OnOk, IsErr};
+ghost use Rattle.ld_expr.specs.Viewing.{HasCells, seen_by};
+ghost use Rattle.ld_tree.specs.Tree.{all_environment_lines, all_item_lines, environment_lines, feedback_of, item_lines, object_lines, once_done, service_lines, service_word, status_by, within_lines};
+ghost use Rattle.ld_tree.specs.TreeLooks.{environment_looks, environments_looks, feedback_looks, item_looks, items_looks, object_looks, service_looks, within_looks};
+
+use crate::line::{LineSink, TreeLine};
+use crate::viewer::Viewer;
+use ld_base::id::Id;
+use ld_base::memory::NoMemory;
+use ld_base::steps::Steps;
+use ld_model::completion::OnCompletion;
+use ld_model::environment::{Environment, LearningObject, Service, ServiceKind};
+use ld_model::item::Item;
+use ld_model::view::View;
+use std::sync::ledger::Ledger;
+
+impl<'a, V: View> Viewer<'a, V> {
+    /// Puts the item, where it is visible.
+    fn put_item<S: LineSink, L: Ledger>(
+        &self,
+        depth: u128,
+        item: &Item,
+        lines: &mut S,
+        steps: &mut Steps<L>,
+    ) -> Result<(), NoMemory>
+        requires { HasCells (V.has_cell self.now.view.now) (item_looks self.now.unit.now
+            self.now.person.0 item.now) }
+        ensures ok { OnOk result (S.told lines.new ≡ fold S.after (S.told lines.old) (item_lines
+            self.now.unit.now (seen_by (V.persons_of self.now.view.now)
+            (V.cells_of self.now.view.now)) self.now.person.0 depth item.now)) }
+        ensures err { IsErr result → S.can_fail ≡ true }
+        ensures kept { S.kept lines.new ≡ S.kept lines.old }
+        ensures room { S.room lines.old ≤ S.room lines.new }
+        ensures cost { steps.new ≤ steps.old + length (item_looks self.now.unit.now
+            self.now.person.0 item.now) }
+    {
+        if !self.is_visible(&item.identifier, steps) {
+            return Ok(());
+        }
+        lines.put(&TreeLine {
+            depth,
+            word: "item",
+            identifier: &item.identifier,
+            note: Some(item.href.as_str()),
+            title: item.title.as_ref(),
+        })
+    }
+
+    /// Puts the items that are visible.
+    pub(crate) fn put_items<S: LineSink, L: Ledger>(
+        &self,
+        depth: u128,
+        items: &[Item],
+        lines: &mut S,
+        steps: &mut Steps<L>,
+    ) -> Result<(), NoMemory>
+        requires { HasCells (V.has_cell self.now.view.now) (items_looks self.now.unit.now
+            self.now.person.0 items.now) }
+        ensures ok { OnOk result (S.told lines.new ≡ fold S.after (S.told lines.old)
+            (all_item_lines self.now.unit.now (seen_by (V.persons_of self.now.view.now)
+            (V.cells_of self.now.view.now)) self.now.person.0 depth items.now)) }
+        ensures err { IsErr result → S.can_fail ≡ true }
+        ensures kept { S.kept lines.new ≡ S.kept lines.old }
+        ensures room { S.room lines.old ≤ S.room lines.new }
+        ensures cost { steps.new ≤ steps.old + length (items_looks self.now.unit.now
+            self.now.person.0 items.now) }
+    {
+        for item in items {
+            self.put_item(depth, item, lines, steps)?;
+        }
+        Ok(())
+    }
+
+    /// Puts the feedback of a thing that is done.
+    pub(crate) fn put_feedback<S: LineSink, L: Ledger>(
+        &self,
+        depth: u128,
+        done: bool,
+        follows: &Option<OnCompletion>,
+        lines: &mut S,
+        steps: &mut Steps<L>,
+    ) -> Result<(), NoMemory>
+        requires { HasCells (V.has_cell self.now.view.now) (feedback_looks self.now.unit.now
+            self.now.person.0 follows.now) }
+        ensures ok { OnOk result (S.told lines.new ≡ fold S.after (S.told lines.old) (once_done
+            (status_by done true) (all_item_lines self.now.unit.now (seen_by
+            (V.persons_of self.now.view.now) (V.cells_of self.now.view.now)) self.now.person.0
+            depth (feedback_of follows.now)))) }
+        ensures err { IsErr result → S.can_fail ≡ true }
+        ensures kept { S.kept lines.new ≡ S.kept lines.old }
+        ensures room { S.room lines.old ≤ S.room lines.new }
+        ensures cost { steps.new ≤ steps.old + length (feedback_looks self.now.unit.now
+            self.now.person.0 follows.now) }
+    {
+        if !done {
+            return Ok(());
+        }
+        match follows {
+            Some(on_completion) => {
+                self.put_items(depth, on_completion.feedback.as_slice(), lines, steps)
+            }
+            None => Ok(()),
+        }
+    }
+
+    /// Puts the learning object and its items, where it is visible.
+    fn put_object<S: LineSink, L: Ledger>(
+        &self,
+        depth: u128,
+        object: &LearningObject,
+        lines: &mut S,
+        steps: &mut Steps<L>,
+    ) -> Result<(), NoMemory>
+        requires depth { depth < 2 ^ 120 }
+        requires cells { HasCells (V.has_cell self.now.view.now) (object_looks self.now.unit.now
+            self.now.person.0 object.now) }
+        ensures ok { OnOk result (S.told lines.new ≡ fold S.after (S.told lines.old) (object_lines
+            self.now.unit.now (seen_by (V.persons_of self.now.view.now)
+            (V.cells_of self.now.view.now)) self.now.person.0 depth object.now)) }
+        ensures err { IsErr result → S.can_fail ≡ true }
+        ensures kept { S.kept lines.new ≡ S.kept lines.old }
+        ensures room { S.room lines.old ≤ S.room lines.new }
+        ensures cost { steps.new ≤ steps.old + length (object_looks self.now.unit.now
+            self.now.person.0 object.now) }
+    {
+        if !self.is_visible(&object.identifier, steps) {
+            return Ok(());
+        }
+        lines.put(&TreeLine {
+            depth,
+            word: "object",
+            identifier: &object.identifier,
+            note: None,
+            title: object.title.as_ref(),
+        })?;
+        self.put_items(depth + 1, object.items.as_slice(), lines, steps)
+    }
+
+    /// Puts the learning objects that are visible.
+    fn put_objects<S: LineSink, L: Ledger>(
+        &self,
+        depth: u128,
+        objects: &[LearningObject],
+        lines: &mut S,
+        steps: &mut Steps<L>,
+    ) -> Result<(), NoMemory>
+        requires depth { depth < 2 ^ 120 }
+        requires cells { HasCells (V.has_cell self.now.view.now) (flat_map (object_looks
+            self.now.unit.now self.now.person.0) objects.now) }
+        ensures ok { OnOk result (S.told lines.new ≡ fold S.after (S.told lines.old) (flat_map
+            (object_lines self.now.unit.now (seen_by (V.persons_of self.now.view.now)
+            (V.cells_of self.now.view.now)) self.now.person.0 depth) objects.now)) }
+        ensures err { IsErr result → S.can_fail ≡ true }
+        ensures kept { S.kept lines.new ≡ S.kept lines.old }
+        ensures room { S.room lines.old ≤ S.room lines.new }
+        ensures cost { steps.new ≤ steps.old + length (flat_map (object_looks self.now.unit.now
+            self.now.person.0) objects.now) }
+    {
+        for object in objects {
+            self.put_object(depth, object, lines, steps)?;
+        }
+        Ok(())
+    }
+
+    /// Puts the service, where it is visible.
+    fn put_service<S: LineSink, L: Ledger>(
+        &self,
+        depth: u128,
+        service: &Service,
+        lines: &mut S,
+        steps: &mut Steps<L>,
+    ) -> Result<(), NoMemory>
+        requires { HasCells (V.has_cell self.now.view.now) (service_looks self.now.unit.now
+            self.now.person.0 service.now) }
+        ensures ok { OnOk result (S.told lines.new ≡ fold S.after (S.told lines.old) (service_lines
+            self.now.unit.now (seen_by (V.persons_of self.now.view.now)
+            (V.cells_of self.now.view.now)) self.now.person.0 depth service.now)) }
+        ensures err { IsErr result → S.can_fail ≡ true }
+        ensures kept { S.kept lines.new ≡ S.kept lines.old }
+        ensures room { S.room lines.old ≤ S.room lines.new }
+        ensures cost { steps.new ≤ steps.old + length (service_looks self.now.unit.now
+            self.now.person.0 service.now) }
+    {
+        if !self.is_visible(&service.identifier, steps) {
+            return Ok(());
+        }
+        lines.put(&TreeLine {
+            depth,
+            word: "service",
+            identifier: &service.identifier,
+            note: Some(service_word(service.kind)),
+            title: service.title.as_ref(),
+        })
+    }
+
+    /// Puts the services that are visible.
+    fn put_services<S: LineSink, L: Ledger>(
+        &self,
+        depth: u128,
+        services: &[Service],
+        lines: &mut S,
+        steps: &mut Steps<L>,
+    ) -> Result<(), NoMemory>
+        requires { HasCells (V.has_cell self.now.view.now) (flat_map (service_looks
+            self.now.unit.now self.now.person.0) services.now) }
+        ensures ok { OnOk result (S.told lines.new ≡ fold S.after (S.told lines.old) (flat_map
+            (service_lines self.now.unit.now (seen_by (V.persons_of self.now.view.now)
+            (V.cells_of self.now.view.now)) self.now.person.0 depth) services.now)) }
+        ensures err { IsErr result → S.can_fail ≡ true }
+        ensures kept { S.kept lines.new ≡ S.kept lines.old }
+        ensures room { S.room lines.old ≤ S.room lines.new }
+        ensures cost { steps.new ≤ steps.old + length (flat_map (service_looks self.now.unit.now
+            self.now.person.0) services.now) }
+    {
+        for service in services {
+            self.put_service(depth, service, lines, steps)?;
+        }
+        Ok(())
+    }
+
+    /// Puts the environment of this identifier, where it is visible, below at most so many
+    /// environments.
+    #[cycle(environments)]
+    #[tactic(auto, using(crate::proofs::Fuel::environments_more))]
+    pub(crate) fn put_environment<S: LineSink, L: Ledger>(
+        &self,
+        left: u128,
+        depth: u128,
+        id: &'a Id,
+        lines: &mut S,
+        steps: &mut Steps<L>,
+    ) -> Result<(), NoMemory>
+        requires depth { depth + left < 2 ^ 119 }
+        requires cells { HasCells (V.has_cell self.now.view.now) (environment_looks left
+            self.now.unit.now self.now.person.0 id.now) }
+        ensures ok { OnOk result (S.told lines.new ≡ fold S.after (S.told lines.old)
+            (environment_lines left self.now.unit.now (seen_by (V.persons_of self.now.view.now)
+            (V.cells_of self.now.view.now)) self.now.person.0 depth id.now)) }
+        ensures err { IsErr result → S.can_fail ≡ true }
+        ensures kept { S.kept lines.new ≡ S.kept lines.old }
+        ensures room { S.room lines.old ≤ S.room lines.new }
+        ensures cost { steps.new ≤ steps.old + length (environment_looks left self.now.unit.now
+            self.now.person.0 id.now) }
+    {
+        if left == 0 || !self.is_visible(id, steps) {
+            return Ok(());
+        }
+        match self.environment(id) {
+            Some(environment) => self.put_within(left - 1, depth, id, environment, lines, steps),
+            None => Ok(()),
+        }
+    }
+
+    /// Puts the environment and what stands in it, above at most so many environments.
+    #[cycle(environments)]
+    fn put_within<S: LineSink, L: Ledger>(
+        &self,
+        left: u128,
+        depth: u128,
+        id: &'a Id,
+        environment: &'a Environment,
+        lines: &mut S,
+        steps: &mut Steps<L>,
+    ) -> Result<(), NoMemory>
+        requires depth { depth + 1 + left < 2 ^ 119 }
+        requires cells { HasCells (V.has_cell self.now.view.now) (within_looks self.now.unit.now
+            self.now.person.0 (environment_looks left self.now.unit.now self.now.person.0)
+            environment.now) }
+        ensures ok { OnOk result (S.told lines.new ≡ fold S.after (S.told lines.old) (within_lines
+            self.now.unit.now (seen_by (V.persons_of self.now.view.now)
+            (V.cells_of self.now.view.now)) self.now.person.0 depth (environment_lines left
+            self.now.unit.now (seen_by (V.persons_of self.now.view.now)
+            (V.cells_of self.now.view.now)) self.now.person.0 (depth + 1)) id.now environment.now)) }
+        ensures err { IsErr result → S.can_fail ≡ true }
+        ensures kept { S.kept lines.new ≡ S.kept lines.old }
+        ensures room { S.room lines.old ≤ S.room lines.new }
+        ensures cost { steps.new ≤ steps.old + length (within_looks self.now.unit.now
+            self.now.person.0 (environment_looks left self.now.unit.now self.now.person.0)
+            environment.now) }
+    {
+        lines.put(&TreeLine {
+            depth,
+            word: "environment",
+            identifier: id,
+            note: None,
+            title: environment.title.as_ref(),
+        })?;
+        let objects = environment.learning_objects.as_slice();
+        self.put_objects(depth + 1, objects, lines, steps)?;
+        self.put_services(depth + 1, environment.services.as_slice(), lines, steps)?;
+        self.put_further(
+            left,
+            depth + 1,
+            environment.environments.as_slice(),
+            lines,
+            steps,
+        )
+    }
+
+    /// Puts the environments, below at most so many environments.
+    #[cycle(environments)]
+    fn put_further<S: LineSink, L: Ledger>(
+        &self,
+        left: u128,
+        depth: u128,
+        ids: &'a [Id],
+        lines: &mut S,
+        steps: &mut Steps<L>,
+    ) -> Result<(), NoMemory>
+        requires depth { depth + left < 2 ^ 119 }
+        requires cells { HasCells (V.has_cell self.now.view.now) (flat_map (environment_looks left
+            self.now.unit.now self.now.person.0) ids.now) }
+        ensures ok { OnOk result (S.told lines.new ≡ fold S.after (S.told lines.old) (flat_map
+            (environment_lines left self.now.unit.now (seen_by (V.persons_of self.now.view.now)
+            (V.cells_of self.now.view.now)) self.now.person.0 depth) ids.now)) }
+        ensures err { IsErr result → S.can_fail ≡ true }
+        ensures kept { S.kept lines.new ≡ S.kept lines.old }
+        ensures room { S.room lines.old ≤ S.room lines.new }
+        ensures cost { steps.new ≤ steps.old + length (flat_map (environment_looks left
+            self.now.unit.now self.now.person.0) ids.now) }
+    {
+        for id in ids {
+            self.put_environment(left, depth, id, lines, steps)?;
+        }
+        Ok(())
+    }
+
+    /// Puts the environments.
+    pub(crate) fn put_environments<S: LineSink, L: Ledger>(
+        &self,
+        depth: u128,
+        ids: &'a [Id],
+        lines: &mut S,
+        steps: &mut Steps<L>,
+    ) -> Result<(), NoMemory>
+        requires depth { depth < 2 ^ 118 }
+        requires cells { HasCells (V.has_cell self.now.view.now) (environments_looks
+            self.now.unit.now self.now.person.0 ids.now) }
+        ensures ok { OnOk result (S.told lines.new ≡ fold S.after (S.told lines.old)
+            (all_environment_lines self.now.unit.now (seen_by (V.persons_of self.now.view.now)
+            (V.cells_of self.now.view.now)) self.now.person.0 depth ids.now)) }
+        ensures err { IsErr result → S.can_fail ≡ true }
+        ensures kept { S.kept lines.new ≡ S.kept lines.old }
+        ensures room { S.room lines.old ≤ S.room lines.new }
+        ensures cost { steps.new ≤ steps.old + length (environments_looks self.now.unit.now
+            self.now.person.0 ids.now) }
+    {
+        let all = self.unit.environments.len() as u128;
+        self.put_further(all, depth, ids, lines, steps)
+    }
+}
+
+/// The word of a kind of service.
+fn service_word(kind: ServiceKind) -> &'static str
+    ensures { result.now ≡ service_word kind }
+{
+    match kind {
+        ServiceKind::SendMail => "send-mail",
+        ServiceKind::Conference => "conference",
+        ServiceKind::Monitor => "monitor",
+        ServiceKind::IndexSearch => "index-search",
+    }
+}

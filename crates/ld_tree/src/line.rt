@@ -1,0 +1,45 @@
+//! A line of a tree, and what takes lines.
+ghost use Rattle.std.specs.Prelude.{◌≡◌, ◌≤◌, ℕ, Bool, true, List, OnOk, IsErr};
+ghost use Rattle.ld_tree.specs.LineView.{line_view};
+ghost use Rattle.ld_tree.specs.Lines.{TreeLine as Line};
+
+use ld_base::id::Id;
+use ld_base::memory::NoMemory;
+use ld_base::plain_text::PlainText;
+
+/// A line of a tree. (docs/MEANING.md, "The tree")
+#[derive(Drop)]
+pub(crate) struct TreeLine<'a> {
+    /// How deep the line stands, from 0 for the unit, in a number that no depth of lists passes.
+    pub(crate) depth: u128,
+    /// What the line shows, as `unit` or `activity`.
+    pub(crate) word: &'static str,
+    pub(crate) identifier: &'a Id,
+    /// How it stands with a thing that can be done, the address of an item, or the kind of a service.
+    pub(crate) note: Option<&'a str>,
+    pub(crate) title: Option<&'a PlainText>,
+}
+
+/// Who is told the lines of a tree, one after another. It means what was told so far, and what that is
+/// after one more line; what every call keeps, even one that fails; a room, which never falls; and
+/// whether a call can fail at all, which is for want of memory alone.
+pub(crate) trait LineSink {
+    ghost Told: { Type 0 };
+
+    ghost told: { Self → Told };
+
+    ghost after: { Told → Line → Told };
+
+    ghost kept: { Self → List ℕ };
+
+    ghost room: { Self → ℕ };
+
+    ghost can_fail: { Bool };
+
+    /// Takes a line.
+    fn put(&mut self, line: &TreeLine<'_>) -> Result<(), NoMemory>
+        ensures ok { OnOk result (told self.new ≡ after (told self.old) (line_view line.now)) }
+        ensures err { IsErr result → can_fail ≡ true }
+        ensures kept { kept self.new ≡ kept self.old }
+        ensures room { room self.old ≤ room self.new };
+}

@@ -1,0 +1,94 @@
+//! The text of a person's tree, and which activities are open in it.
+ghost use Rattle.std.specs.Prelude.{◌≡◌, ◌+◌, ◌≤◌, ◌++◌, length, map, IfOk, OnOk};
+ghost use Rattle.ld_base.specs.Roomy.{KeepsRoom};
+ghost use Rattle.ld_expr.specs.Viewing.{HasCells, seen_by};
+ghost use Rattle.ld_names.specs.Names.{names_of};
+ghost use Rattle.ld_tree.specs.Lines.{line_text, lines_text};
+ghost use Rattle.ld_tree.specs.Telling.{KeepsFront};
+ghost use Rattle.ld_tree.specs.Tree.{is_open, tree_lines};
+ghost use Rattle.ld_tree.specs.TreeLooks.{tree_looks};
+
+use crate::finder::Finder;
+use crate::printer::Printer;
+use crate::viewer::Viewer;
+use ld_base::id::Id;
+use ld_base::memory::NoMemory;
+use ld_base::numbers::PersonNo;
+use ld_base::steps::Steps;
+use ld_base::text::Text;
+use ld_model::unit::Unit;
+use ld_model::view::View;
+use ld_names::names::Names;
+use std::alloc::Global;
+use std::mem::replace;
+use std::sync::ledger::Ledger;
+
+/// Appends the lines of the person's tree, each behind the end of the line before it, and gives their
+/// number. The names are those of the unit, and the view has the cells at which the tree looks; each
+/// look is one step. The only error is want of memory, which leaves what stood in `out` and perhaps a
+/// beginning of the lines behind it. (docs/MEANING.md, "The tree")
+pub fn tree_text<'a, V: View, L: Ledger>(
+    alloc: Global,
+    unit: &'a Unit,
+    names: &'a Names,
+    view: &'a V,
+    person: PersonNo,
+    out: &mut Text,
+    steps: &mut Steps<L>,
+) -> Result<u32, NoMemory>
+    requires names { names.now ≡ names_of unit.now }
+    requires cells { HasCells (V.has_cell view.now) (tree_looks unit.now person.0) }
+    ensures text { OnOk result (out.new.bytes ≡ out.old.bytes ++ lines_text (map line_text
+        (tree_lines unit.now (seen_by (V.persons_of view.now) (V.cells_of view.now)) person.0))) }
+    ensures count { IfOk result (λ n. n ≡ length
+        (tree_lines unit.now (seen_by (V.persons_of view.now) (V.cells_of view.now)) person.0)) }
+    ensures front { KeepsFront out.old.bytes out.new.bytes }
+    ensures room { KeepsRoom out.old out.new }
+    ensures cost { steps.new ≤ steps.old + length (tree_looks unit.now person.0) }
+{
+    let viewer = Viewer {
+        unit,
+        names,
+        view,
+        person,
+    };
+    let mut printer = Printer::behind(alloc, replace(out, Text::new(alloc)));
+    let put = viewer.put_tree(&mut printer, steps);
+    let count = printer.count();
+    *out = printer.into_text();
+    put?;
+    Ok(count)
+}
+
+/// Whether the activity of this identifier is open for the person: whether a line of the person's tree
+/// says so. It walks the unit as `tree_text` does and under its conditions, but it prints nothing and
+/// takes no memory. (docs/MEANING.md, "The tree")
+pub fn is_open<'a, V: View, L: Ledger>(
+    unit: &'a Unit,
+    names: &'a Names,
+    view: &'a V,
+    person: PersonNo,
+    activity: &Id,
+    steps: &mut Steps<L>,
+) -> bool
+    requires names { names.now ≡ names_of unit.now }
+    requires cells { HasCells (V.has_cell view.now) (tree_looks unit.now person.0) }
+    ensures value { result ≡ is_open unit.now
+        (seen_by (V.persons_of view.now) (V.cells_of view.now)) person.0 activity.now }
+    ensures cost { steps.new ≤ steps.old + length (tree_looks unit.now person.0) }
+{
+    let viewer = Viewer {
+        unit,
+        names,
+        view,
+        person,
+    };
+    let mut finder = Finder {
+        activity,
+        found: false,
+    };
+    match viewer.put_tree(&mut finder, steps) {
+        Ok(()) => finder.found,
+        Err(_) => unreachable!(),
+    }
+}
