@@ -13,7 +13,7 @@ use Rattle.ld_model.specs.declared.environment.ServiceKind.{ServiceKind}
 use Rattle.ld_model.specs.declared.environment.ServiceKind.TheVariants.{SendMail, Monitor}
 use Rattle.ld_model.specs.declared.method.Act.{Act}
 use Rattle.ld_model.specs.declared.method.Play.{Play}
-use Rattle.ld_rules.specs.RunCells.{begins_as}
+use Rattle.ld_state.specs.RunCells.{begins_as}
 use Rattle.ld_model.specs.declared.activity.Activity.{Activity}
 use Rattle.ld_model.specs.declared.activity.StructureKind.TheVariants.{Sequence, Selection}
 use Rattle.ld_model.specs.declared.completion.Completion.TheVariants.{WhenRolePartCompleted, WhenPlayCompleted, WhenLastActCompleted}
@@ -21,10 +21,11 @@ use Rattle.ld_model.specs.declared.item.Item.{Item}
 use Rattle.ld_model.specs.declared.role.RoleKind.TheVariants.{Learner}
 use Rattle.ld_model.specs.declared.unit.Unit.{Unit as Course}
 use Rattle.ld_cascade.specs.Settling.{visited, fired_below, after_sweeps, all_firings}
+use Rattle.ld_names.specs.Names.{named_by}
 use Rattle.ld_parts.specs.Listing.{value_set_parts, condition_true_parts, completed_parts, completion_parts, follows_parts, on_completion_parts, role_part, property_parts_at, object_parts_at, service_parts, environment_parts_at, parts_before_items, ending_parts, activity_parts_at, structure_parts_at, role_part_parts_at, act_parts_at, play_parts_at, method_parts, unit_parts, action_parts, condition_parts_at, middle_parts, parts_of}
 use Rattle.ld_walk.specs.CommonParts.{change_parts, notice_parts}
 use Rattle.ld_rules.specs.Actions.{site_firing}
-use Rattle.ld_rules.specs.RunState.{cell_of}
+use Rattle.ld_state.specs.RunState.{cell_of}
 use Rattle.ld_rules.specs.SiteTests.{site_test}
 use Rattle.ld_rules.specs.RunSettling.{run_settling}
 use Rattle.ld_run.specs.Checks.{admitted}
@@ -101,7 +102,7 @@ abbrev p3 : Play
 p3 = record (play (act (codes "b1") (part (codes "rp3") (codes "learner") (codes "e2") ∷ []) None
     ∷ [])) { identifier = codes "p3" }
 
-abbrev the_course : Course
+abbrev pub the_course : Course
 the_course = record (course (codes "t") (enclosing learner (role (codes "leader") Learner ∷ []) ∷ tutor
     ∷ [])
     (x ∷ y ∷ choice (codes "z") ∷ choice (codes "z1") ∷ choice (codes "z2") ∷ [])
@@ -117,7 +118,7 @@ the_course = record (course (codes "t") (enclosing learner (role (codes "leader"
       };
     }
 
-abbrev the_lines : List Line
+abbrev pub the_lines : List Line
 the_lines =
     Create (moment 8 0) (codes "r") (codes "t")
     ∷ at 8 0 (Enrol (codes "bob"))
@@ -174,5 +175,5 @@ pub all_kinds_of_lines : told 2 the_course the_lines ≡
     ++ codes "  item fu u.html\n" ++ codes "  play p1 done\n" ++ codes "    item fp p.html\n"
     ++ codes "    act a1 done\n" ++ codes "      item fa a.html\n" ++ codes "  play p3 open\n")
     ∷ codes "no 31 not-open\n" ∷ []
-unfolding world_step reply_block run_step admitted visited fired_below after_sweeps all_firings run_settling site_test site_firing value_set_parts condition_true_parts completed_parts completion_parts follows_parts on_completion_parts role_part property_parts_at object_parts_at service_parts environment_parts_at parts_before_items ending_parts activity_parts_at structure_parts_at role_part_parts_at act_parts_at play_parts_at method_parts unit_parts action_parts condition_parts_at middle_parts parts_of change_parts notice_parts cell_of begins_as tree_lines is_open digits escape_byte value_of text_of truth_of integer_of signed_numeral numeral fits_in
+unfolding world_step reply_block run_step admitted visited fired_below after_sweeps all_firings run_settling site_test site_firing value_set_parts condition_true_parts completed_parts completion_parts follows_parts on_completion_parts role_part property_parts_at object_parts_at service_parts environment_parts_at parts_before_items ending_parts activity_parts_at structure_parts_at role_part_parts_at act_parts_at play_parts_at method_parts unit_parts action_parts condition_parts_at middle_parts parts_of named_by change_parts notice_parts cell_of begins_as tree_lines is_open digits escape_byte value_of text_of truth_of integer_of signed_numeral numeral fits_in
 all_kinds_of_lines = refl

@@ -11,7 +11,7 @@ use Rattle.ld_model.specs.declared.completion.Change.{Change as ChangeOf}
 use Rattle.ld_model.specs.declared.completion.Notice.{Notice}
 use Rattle.ld_model.specs.declared.method.Act.{Act}
 use Rattle.ld_value.specs.declared.kind.Kind.TheVariants.{Integer as IntegerKind}
-use Rattle.ld_rules.specs.RunCells.{begins_as}
+use Rattle.ld_state.specs.RunCells.{begins_as}
 use Rattle.ld_model.specs.declared.activity.Activity.{Activity}
 use Rattle.ld_model.specs.declared.completion.Completion.TheVariants.{WhenConditionTrue, WhenPropertyValueIsSet}
 use Rattle.ld_model.specs.declared.condition.Action.TheVariants.{Change, Notify}
@@ -19,10 +19,11 @@ use Rattle.ld_model.specs.declared.property.Property.{Property as PropertyOf}
 use Rattle.ld_model.specs.declared.property.PropertyKind.TheVariants.{Loc, LocPers}
 use Rattle.ld_model.specs.declared.unit.Unit.{Unit as Course}
 use Rattle.ld_cascade.specs.Settling.{visited, fired_below, after_sweeps, all_firings}
+use Rattle.ld_names.specs.Names.{named_by}
 use Rattle.ld_parts.specs.Listing.{value_set_parts, condition_true_parts, completed_parts, completion_parts, follows_parts, on_completion_parts, role_part, property_parts_at, object_parts_at, service_parts, environment_parts_at, parts_before_items, ending_parts, activity_parts_at, structure_parts_at, role_part_parts_at, act_parts_at, play_parts_at, method_parts, unit_parts, action_parts, condition_parts_at, middle_parts, parts_of}
 use Rattle.ld_walk.specs.CommonParts.{change_parts, notice_parts}
 use Rattle.ld_rules.specs.Actions.{site_firing}
-use Rattle.ld_rules.specs.RunState.{cell_of}
+use Rattle.ld_state.specs.RunState.{cell_of}
 use Rattle.ld_rules.specs.SiteTests.{site_test}
 use Rattle.ld_rules.specs.RunSettling.{run_settling}
 use Rattle.ld_run.specs.Checks.{admitted}
@@ -73,7 +74,7 @@ a next_score next_total = record (act (codes "a")
       });
     }
 
-abbrev the_course : TermOf → TermOf → TermOf → Course
+abbrev pub the_course : TermOf → TermOf → TermOf → Course
 the_course next_score next_total elapsed = with_conditions (score ∷ total ∷ [])
     (condition (done_test (codes "a")) (Change (set_to (codes "total") next_total) ∷ []) []
     ∷ condition (is_greater elapsed (span (codes "PT1H"))) (Notify (note (codes "Late") None) ∷ []) [] ∷ [])
@@ -82,7 +83,7 @@ the_course next_score next_total elapsed = with_conditions (score ∷ total ∷ 
     ∷ [])
     [] (a next_score next_total ∷ []))
 
-abbrev the_lines : List Line
+abbrev pub the_lines : List Line
 the_lines =
     Create (moment 8 0) (codes "r") (codes "u")
     ∷ at 8 0 (Enrol (codes "ann"))
@@ -99,10 +100,10 @@ the_lines =
     ∷ at 10 1 Tick ∷ []
 
 -- The property's value, and one more.
-abbrev one_more_than : List ℕ → TermOf
+abbrev pub one_more_than : List ℕ → TermOf
 one_more_than id = sum_of_two (property_term id) (whole (codes "1"))
 
-abbrev since_start : TermOf
+abbrev pub since_start : TermOf
 since_start = less_by now_term started_term
 
 pub effects :
@@ -121,5 +122,5 @@ pub effects :
     ++ text_of_moment (clock 9 20) ++ codes " x \"Done\"\n")
     ∷ codes "ok tick turns=0 fired=0 rejected=0 sent=0\n"
     ∷ codes "ok tick turns=1 fired=2 rejected=0 sent=2\n" ∷ []
-unfolding world_step reply_block run_step admitted visited fired_below after_sweeps all_firings run_settling site_test site_firing value_set_parts condition_true_parts completed_parts completion_parts follows_parts on_completion_parts role_part property_parts_at object_parts_at service_parts environment_parts_at parts_before_items ending_parts activity_parts_at structure_parts_at role_part_parts_at act_parts_at play_parts_at method_parts unit_parts action_parts condition_parts_at middle_parts parts_of change_parts notice_parts cell_of begins_as tree_lines is_open digits escape_byte value_of text_of truth_of integer_of signed_numeral numeral fits_in text_of_moment day_and_second_text duration_of time_in front_part seconds_if is_duration seconds_of
+unfolding world_step reply_block run_step admitted visited fired_below after_sweeps all_firings run_settling site_test site_firing value_set_parts condition_true_parts completed_parts completion_parts follows_parts on_completion_parts role_part property_parts_at object_parts_at service_parts environment_parts_at parts_before_items ending_parts activity_parts_at structure_parts_at role_part_parts_at act_parts_at play_parts_at method_parts unit_parts action_parts condition_parts_at middle_parts parts_of named_by change_parts notice_parts cell_of begins_as tree_lines is_open digits escape_byte value_of text_of truth_of integer_of signed_numeral numeral fits_in text_of_moment day_and_second_text duration_of time_in front_part seconds_if is_duration seconds_of
 effects = refl

@@ -17,12 +17,13 @@ use Rattle.ld_model.specs.declared.unit.Unit.{Unit as Course}
 use Rattle.ld_lines.specs.Commands.{command_of, line_of_verb, command_of_verb, property_command, showing_command}
 use Rattle.ld_lines.specs.Lines.{lines_of, pieces_of, without_blank}
 use Rattle.ld_cascade.specs.Settling.{visited, fired_below, after_sweeps, all_firings}
+use Rattle.ld_names.specs.Names.{named_by}
 use Rattle.ld_parts.specs.Listing.{value_set_parts, condition_true_parts, completed_parts, completion_parts, follows_parts, on_completion_parts, role_part, property_parts_at, object_parts_at, service_parts, environment_parts_at, parts_before_items, ending_parts, activity_parts_at, structure_parts_at, role_part_parts_at, act_parts_at, play_parts_at, method_parts, unit_parts, action_parts, condition_parts_at, middle_parts, parts_of}
 use Rattle.ld_walk.specs.CommonParts.{change_parts, notice_parts}
 use Rattle.ld_rules.specs.Actions.{site_firing}
-use Rattle.ld_rules.specs.RunCells.{begins_as}
+use Rattle.ld_state.specs.RunCells.{begins_as}
 use Rattle.ld_rules.specs.RunSettling.{run_settling}
-use Rattle.ld_rules.specs.RunState.{cell_of}
+use Rattle.ld_state.specs.RunState.{cell_of}
 use Rattle.ld_rules.specs.SiteTests.{site_test}
 use Rattle.ld_run.specs.Checks.{admitted}
 use Rattle.ld_run.specs.RunStep.{run_step}
@@ -60,5 +61,5 @@ pub from_bytes_to_text : the_text ≡
     ++ codes "ok tree turns=0 fired=0 rejected=0 sent=0 lines=5\n"
     ++ codes "unit u open\n" ++ codes "  play p open\n" ++ codes "    act a open\n"
     ++ codes "      part rp done\n" ++ codes "        activity read done\n"
-unfolding is_utf8 chars encode begins_identifier continues_identifier command_of json_of line_of_verb command_of_verb property_command showing_command number_of items members value lex punctuate code_unit short_escape content after_number word moment_of has_moment_form named_day named_second day_of second_of days_from_civil day_count days_of_years days_of_months pieces_of without_blank world_step reply_block run_step admitted visited fired_below after_sweeps all_firings run_settling site_test site_firing value_set_parts condition_true_parts completed_parts completion_parts follows_parts on_completion_parts role_part property_parts_at object_parts_at service_parts environment_parts_at parts_before_items ending_parts activity_parts_at structure_parts_at role_part_parts_at act_parts_at play_parts_at method_parts unit_parts action_parts condition_parts_at middle_parts parts_of change_parts notice_parts cell_of begins_as tree_lines is_open digits
+unfolding is_utf8 chars encode begins_identifier continues_identifier command_of json_of line_of_verb command_of_verb property_command showing_command number_of items members value lex punctuate code_unit short_escape content after_number word moment_of has_moment_form named_day named_second day_of second_of days_from_civil day_count days_of_years days_of_months pieces_of without_blank world_step reply_block run_step admitted visited fired_below after_sweeps all_firings run_settling site_test site_firing value_set_parts condition_true_parts completed_parts completion_parts follows_parts on_completion_parts role_part property_parts_at object_parts_at service_parts environment_parts_at parts_before_items ending_parts activity_parts_at structure_parts_at role_part_parts_at act_parts_at play_parts_at method_parts unit_parts action_parts condition_parts_at middle_parts parts_of named_by change_parts notice_parts cell_of begins_as tree_lines is_open digits
 from_bytes_to_text = refl

@@ -8,17 +8,18 @@ use Rattle.ld_value.specs.Values.{value_of, text_of, truth_of, integer_of, signe
 use Rattle.ld_model.specs.Expressions.{done_test}
 use Rattle.ld_value.specs.Numeral.{numeral}
 use Rattle.ld_model.specs.declared.method.Act.{Act}
-use Rattle.ld_rules.specs.RunCells.{begins_as}
+use Rattle.ld_state.specs.RunCells.{begins_as}
 use Rattle.ld_model.specs.declared.activity.StructureKind.TheVariants.{Selection}
 use Rattle.ld_model.specs.declared.completion.Completion.TheVariants.{WhenRolePartCompleted, WhenPlayCompleted, WhenLastActCompleted}
 use Rattle.ld_model.specs.declared.condition.Action.TheVariants.{Notify}
 use Rattle.ld_model.specs.declared.condition.Condition.{Condition}
 use Rattle.ld_model.specs.declared.unit.Unit.{Unit as Course}
 use Rattle.ld_cascade.specs.Settling.{visited, fired_below, after_sweeps, all_firings}
+use Rattle.ld_names.specs.Names.{named_by}
 use Rattle.ld_parts.specs.Listing.{value_set_parts, condition_true_parts, completed_parts, completion_parts, follows_parts, on_completion_parts, role_part, property_parts_at, object_parts_at, service_parts, environment_parts_at, parts_before_items, ending_parts, activity_parts_at, structure_parts_at, role_part_parts_at, act_parts_at, play_parts_at, method_parts, unit_parts, action_parts, condition_parts_at, middle_parts, parts_of}
 use Rattle.ld_walk.specs.CommonParts.{change_parts, notice_parts}
 use Rattle.ld_rules.specs.Actions.{site_firing}
-use Rattle.ld_rules.specs.RunState.{cell_of}
+use Rattle.ld_state.specs.RunState.{cell_of}
 use Rattle.ld_rules.specs.SiteTests.{site_test}
 use Rattle.ld_rules.specs.RunSettling.{run_settling}
 use Rattle.ld_run.specs.Checks.{admitted}
@@ -42,7 +43,7 @@ abbrev both : List ℕ → List ℕ → List ℕ → List ℕ → List ℕ → A
 both id p q s w = act id (part p (codes "learner") s ∷ part q (codes "tutor") w
     ∷ []) (Some (WhenRolePartCompleted (p ∷ q ∷ [])))
 
-abbrev the_course : Course
+abbrev pub the_course : Course
 the_course = record (with_conditions [] (sends (codes "e01") (codes "Expert e01")
     ∷ sends (codes "e02") (codes "Expert e02") ∷ [])
     (course (codes "jigsaw") (learner ∷ tutor ∷ []) (map choice (codes "e01" ∷ codes "e02" ∷ codes "w1"
@@ -57,7 +58,7 @@ the_course = record (with_conditions [] (sends (codes "e01") (codes "Expert e01"
       };
     }
 
-abbrev the_lines : List Line
+abbrev pub the_lines : List Line
 the_lines =
     Create (moment 8 0) (codes "r") (codes "jigsaw")
     ∷ at 8 0 (Enrol (codes "l01"))
@@ -98,5 +99,5 @@ pub jigsaw : told 3 the_course the_lines ≡
     ∷ codes "ok complete turns=1 fired=7 rejected=0 sent=1\n"
     ∷ (codes "ok tree turns=0 fired=0 rejected=0 sent=0 lines=3\n" ++ codes "unit jigsaw done\n"
     ++ codes "  play p done\n" ++ codes "    act a1 done\n") ∷ []
-unfolding world_step reply_block run_step admitted visited fired_below after_sweeps all_firings run_settling site_test site_firing value_set_parts condition_true_parts completed_parts completion_parts follows_parts on_completion_parts role_part property_parts_at object_parts_at service_parts environment_parts_at parts_before_items ending_parts activity_parts_at structure_parts_at role_part_parts_at act_parts_at play_parts_at method_parts unit_parts action_parts condition_parts_at middle_parts parts_of change_parts notice_parts cell_of begins_as tree_lines is_open digits escape_byte value_of text_of truth_of integer_of signed_numeral numeral fits_in text_of_moment day_and_second_text
+unfolding world_step reply_block run_step admitted visited fired_below after_sweeps all_firings run_settling site_test site_firing value_set_parts condition_true_parts completed_parts completion_parts follows_parts on_completion_parts role_part property_parts_at object_parts_at service_parts environment_parts_at parts_before_items ending_parts activity_parts_at structure_parts_at role_part_parts_at act_parts_at play_parts_at method_parts unit_parts action_parts condition_parts_at middle_parts parts_of named_by change_parts notice_parts cell_of begins_as tree_lines is_open digits escape_byte value_of text_of truth_of integer_of signed_numeral numeral fits_in text_of_moment day_and_second_text
 jigsaw = refl

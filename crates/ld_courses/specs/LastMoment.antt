@@ -5,13 +5,14 @@ use Rattle.json.specs.Print.{escape_byte}
 use Rattle.ld_value.specs.Calendar.{text_of_moment}
 use Rattle.ld_value.specs.Values.{value_of, text_of, truth_of, integer_of, signed_numeral, fits_in}
 use Rattle.ld_value.specs.Numeral.{numeral}
-use Rattle.ld_rules.specs.RunCells.{begins_as}
+use Rattle.ld_state.specs.RunCells.{begins_as}
 use Rattle.ld_model.specs.declared.unit.Unit.{Unit as Course}
 use Rattle.ld_cascade.specs.Settling.{visited, fired_below, after_sweeps, all_firings}
+use Rattle.ld_names.specs.Names.{named_by}
 use Rattle.ld_parts.specs.Listing.{value_set_parts, condition_true_parts, completed_parts, completion_parts, follows_parts, on_completion_parts, role_part, property_parts_at, object_parts_at, service_parts, environment_parts_at, parts_before_items, ending_parts, activity_parts_at, structure_parts_at, role_part_parts_at, act_parts_at, play_parts_at, method_parts, unit_parts, action_parts, condition_parts_at, middle_parts, parts_of}
 use Rattle.ld_walk.specs.CommonParts.{change_parts, notice_parts}
 use Rattle.ld_rules.specs.Actions.{site_firing}
-use Rattle.ld_rules.specs.RunState.{cell_of}
+use Rattle.ld_state.specs.RunState.{cell_of}
 use Rattle.ld_rules.specs.SiteTests.{site_test}
 use Rattle.ld_rules.specs.RunSettling.{run_settling}
 use Rattle.ld_run.specs.Checks.{admitted}
@@ -23,10 +24,10 @@ use Rattle.ld_lines.specs.declared.line.Line.TheVariants.{Create, OfRun}
 use Rattle.ld_world.specs.World.{world_step, reply_block}
 use Rattle.ld_courses.specs.Courses.{after_1970, learner, choice, course, one_part, clock, moment, at, told}
 
-abbrev the_course : Course
+abbrev pub the_course : Course
 the_course = course (codes "u") (learner ∷ []) (choice (codes "read") ∷ []) [] (one_part (codes "read"))
 
-abbrev the_lines : List Line
+abbrev pub the_lines : List Line
 the_lines =
     Create (moment 8 0) (codes "r") (codes "u")
     ∷ at 8 0 (Enrol (codes "ann"))
@@ -46,5 +47,5 @@ pub last_moment : told 1 the_course the_lines ≡
     ∷ codes "ok create\n"
     ∷ codes "ok enrol turns=0 fired=0 rejected=0 sent=0\n"
     ∷ codes "ok tick turns=0 fired=0 rejected=0 sent=0\n" ∷ []
-unfolding world_step reply_block run_step admitted visited fired_below after_sweeps all_firings run_settling site_test site_firing value_set_parts condition_true_parts completed_parts completion_parts follows_parts on_completion_parts role_part property_parts_at object_parts_at service_parts environment_parts_at parts_before_items ending_parts activity_parts_at structure_parts_at role_part_parts_at act_parts_at play_parts_at method_parts unit_parts action_parts condition_parts_at middle_parts parts_of change_parts notice_parts cell_of begins_as tree_lines is_open digits escape_byte value_of text_of truth_of integer_of signed_numeral numeral fits_in
+unfolding world_step reply_block run_step admitted visited fired_below after_sweeps all_firings run_settling site_test site_firing value_set_parts condition_true_parts completed_parts completion_parts follows_parts on_completion_parts role_part property_parts_at object_parts_at service_parts environment_parts_at parts_before_items ending_parts activity_parts_at structure_parts_at role_part_parts_at act_parts_at play_parts_at method_parts unit_parts action_parts condition_parts_at middle_parts parts_of named_by change_parts notice_parts cell_of begins_as tree_lines is_open digits escape_byte value_of text_of truth_of integer_of signed_numeral numeral fits_in
 last_moment = refl

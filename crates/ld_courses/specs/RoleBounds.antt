@@ -4,16 +4,17 @@ use Rattle.std.specs.Fmt.{digits}
 use Rattle.json.specs.Print.{escape_byte}
 use Rattle.ld_value.specs.Values.{value_of, text_of, truth_of, integer_of, signed_numeral, fits_in}
 use Rattle.ld_value.specs.Numeral.{numeral}
-use Rattle.ld_rules.specs.RunCells.{begins_as}
+use Rattle.ld_state.specs.RunCells.{begins_as}
 use Rattle.ld_model.specs.RoleRows.{RoleRow}
 use Rattle.ld_model.specs.declared.role.RoleKind.TheVariants.{Staff}
 use Rattle.ld_model.specs.declared.role.MatchPersons.TheVariants.{ExclusivelyInRoles}
 use Rattle.ld_model.specs.declared.unit.Unit.{Unit as Course}
 use Rattle.ld_cascade.specs.Settling.{visited, fired_below, after_sweeps, all_firings}
+use Rattle.ld_names.specs.Names.{named_by}
 use Rattle.ld_parts.specs.Listing.{value_set_parts, condition_true_parts, completed_parts, completion_parts, follows_parts, on_completion_parts, role_part, property_parts_at, object_parts_at, service_parts, environment_parts_at, parts_before_items, ending_parts, activity_parts_at, structure_parts_at, role_part_parts_at, act_parts_at, play_parts_at, method_parts, unit_parts, action_parts, condition_parts_at, middle_parts, parts_of}
 use Rattle.ld_walk.specs.CommonParts.{change_parts, notice_parts}
 use Rattle.ld_rules.specs.Actions.{site_firing}
-use Rattle.ld_rules.specs.RunState.{cell_of}
+use Rattle.ld_state.specs.RunState.{cell_of}
 use Rattle.ld_rules.specs.SiteTests.{site_test}
 use Rattle.ld_rules.specs.RunSettling.{run_settling}
 use Rattle.ld_run.specs.Checks.{admitted}
@@ -33,11 +34,11 @@ abbrev group : List RoleRow
 group = enclosing (map limited (role (codes "group") Staff)) (role (codes "chair") Staff
     ∷ role (codes "scribe") Staff ∷ [])
 
-abbrev the_course : Course
+abbrev pub the_course : Course
 the_course = course (codes "u") (learner ∷ group ∷ []) (choice (codes "read")
     ∷ []) [] (one_part (codes "read"))
 
-abbrev the_lines : List Line
+abbrev pub the_lines : List Line
 the_lines =
     Create (moment 8 0) (codes "r") (codes "u")
     ∷ at 8 0 (Enrol (codes "ann"))
@@ -67,5 +68,5 @@ pub role_bounds : told 3 the_course the_lines ≡
     ∷ codes "no 12 holds-already\n"
     ∷ codes "no 13 not-held\n"
     ∷ codes "ok drop turns=0 fired=0 rejected=0 sent=0\n" ∷ []
-unfolding world_step reply_block run_step admitted visited fired_below after_sweeps all_firings run_settling site_test site_firing value_set_parts condition_true_parts completed_parts completion_parts follows_parts on_completion_parts role_part property_parts_at object_parts_at service_parts environment_parts_at parts_before_items ending_parts activity_parts_at structure_parts_at role_part_parts_at act_parts_at play_parts_at method_parts unit_parts action_parts condition_parts_at middle_parts parts_of change_parts notice_parts cell_of begins_as tree_lines is_open digits escape_byte value_of text_of truth_of integer_of signed_numeral numeral fits_in
+unfolding world_step reply_block run_step admitted visited fired_below after_sweeps all_firings run_settling site_test site_firing value_set_parts condition_true_parts completed_parts completion_parts follows_parts on_completion_parts role_part property_parts_at object_parts_at service_parts environment_parts_at parts_before_items ending_parts activity_parts_at structure_parts_at role_part_parts_at act_parts_at play_parts_at method_parts unit_parts action_parts condition_parts_at middle_parts parts_of named_by change_parts notice_parts cell_of begins_as tree_lines is_open digits escape_byte value_of text_of truth_of integer_of signed_numeral numeral fits_in
 role_bounds = refl

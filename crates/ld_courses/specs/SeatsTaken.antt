@@ -4,7 +4,7 @@ use Rattle.std.specs.Fmt.{digits}
 use Rattle.ld_lines.specs.declared.command.RunCommand.TheVariants.{Enrol}
 use Rattle.ld_lines.specs.declared.line.Line.{Line}
 use Rattle.ld_lines.specs.declared.line.Line.TheVariants.{Create}
-use Rattle.ld_rules.specs.RunCells.{begins_as}
+use Rattle.ld_state.specs.RunCells.{begins_as}
 use Rattle.ld_run.specs.Checks.{admitted}
 use Rattle.ld_run.specs.RunStep.{run_step}
 use Rattle.ld_world.specs.World.{world_step, reply_block}

@@ -6,15 +6,16 @@ use Rattle.ld_value.specs.Values.{value_of, text_of, truth_of, integer_of, signe
 use Rattle.ld_model.specs.Expressions.{property_term, TermOf}
 use Rattle.ld_value.specs.Numeral.{numeral}
 use Rattle.ld_value.specs.declared.kind.Kind.TheVariants.{Boolean as BooleanKind, Integer as IntegerKind}
-use Rattle.ld_rules.specs.RunCells.{begins_as}
+use Rattle.ld_state.specs.RunCells.{begins_as}
 use Rattle.ld_model.specs.declared.condition.Action.TheVariants.{Change}
 use Rattle.ld_model.specs.declared.property.PropertyKind.TheVariants.{Loc}
 use Rattle.ld_model.specs.declared.unit.Unit.{Unit as Course}
 use Rattle.ld_cascade.specs.Settling.{visited, fired_below, after_sweeps, all_firings}
+use Rattle.ld_names.specs.Names.{named_by}
 use Rattle.ld_parts.specs.Listing.{value_set_parts, condition_true_parts, completed_parts, completion_parts, follows_parts, on_completion_parts, role_part, property_parts_at, object_parts_at, service_parts, environment_parts_at, parts_before_items, ending_parts, activity_parts_at, structure_parts_at, role_part_parts_at, act_parts_at, play_parts_at, method_parts, unit_parts, action_parts, condition_parts_at, middle_parts, parts_of}
 use Rattle.ld_walk.specs.CommonParts.{change_parts, notice_parts}
 use Rattle.ld_rules.specs.Actions.{site_firing}
-use Rattle.ld_rules.specs.RunState.{cell_of}
+use Rattle.ld_state.specs.RunState.{cell_of}
 use Rattle.ld_rules.specs.SiteTests.{site_test}
 use Rattle.ld_rules.specs.RunSettling.{run_settling}
 use Rattle.ld_run.specs.Checks.{admitted}
@@ -26,7 +27,7 @@ use Rattle.ld_lines.specs.declared.line.Line.TheVariants.{Create}
 use Rattle.ld_world.specs.World.{world_step, reply_block}
 use Rattle.ld_courses.specs.Courses.{whole, truth, is_equal, sum_of_two, learner, choice, course, one_part, property, with_conditions, condition, moment, at, told}
 
-abbrev the_course : TermOf → Course
+abbrev pub the_course : TermOf → Course
 the_course more = with_conditions
     (property (codes "n") Loc IntegerKind (Some (codes "9223372036854775807"))
     ∷ property (codes "go") Loc BooleanKind (Some (codes "false")) ∷ [])
@@ -34,7 +35,7 @@ the_course more = with_conditions
     (Change (record { property = codes "n"; value = more }) ∷ []) [] ∷ [])
     (course (codes "u") (learner ∷ []) (choice (codes "read") ∷ []) [] (one_part (codes "read")))
 
-abbrev the_lines : List Line
+abbrev pub the_lines : List Line
 the_lines =
     Create (moment 8 0) (codes "r") (codes "u")
     ∷ at 8 0 (Enrol (codes "ann"))
@@ -43,7 +44,7 @@ the_lines =
     ∷ at 10 0 (Set (codes "ann") (codes "go") (codes "true"))
     ∷ at 10 0 (Get (codes "ann") (codes "n")) ∷ []
 
-abbrev one_more : TermOf
+abbrev pub one_more : TermOf
 one_more = sum_of_two (property_term (codes "n")) (whole (codes "1"))
 
 pub sum_out_of_range : told 1 (the_course one_more) the_lines ≡
@@ -53,5 +54,5 @@ pub sum_out_of_range : told 1 (the_course one_more) the_lines ≡
     ∷ codes "ok start turns=1 fired=2 rejected=0 sent=0\n"
     ∷ codes "ok set turns=1 fired=1 rejected=1 sent=0\n"
     ∷ codes "ok get turns=0 fired=0 rejected=0 sent=0 value=\"9223372036854775807\"\n" ∷ []
-unfolding world_step reply_block run_step admitted visited fired_below after_sweeps all_firings run_settling site_test site_firing value_set_parts condition_true_parts completed_parts completion_parts follows_parts on_completion_parts role_part property_parts_at object_parts_at service_parts environment_parts_at parts_before_items ending_parts activity_parts_at structure_parts_at role_part_parts_at act_parts_at play_parts_at method_parts unit_parts action_parts condition_parts_at middle_parts parts_of change_parts notice_parts cell_of begins_as tree_lines is_open digits escape_byte value_of text_of truth_of integer_of signed_numeral numeral fits_in
+unfolding world_step reply_block run_step admitted visited fired_below after_sweeps all_firings run_settling site_test site_firing value_set_parts condition_true_parts completed_parts completion_parts follows_parts on_completion_parts role_part property_parts_at object_parts_at service_parts environment_parts_at parts_before_items ending_parts activity_parts_at structure_parts_at role_part_parts_at act_parts_at play_parts_at method_parts unit_parts action_parts condition_parts_at middle_parts parts_of named_by change_parts notice_parts cell_of begins_as tree_lines is_open digits escape_byte value_of text_of truth_of integer_of signed_numeral numeral fits_in
 sum_out_of_range = refl

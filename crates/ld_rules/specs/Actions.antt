@@ -27,8 +27,8 @@ use Rattle.ld_expr.specs.Membership.{is_member_of}
 use Rattle.ld_expr.specs.Owners.{of_person, fits_property}
 use Rattle.ld_expr.specs.Seen.{Seen, everyone, moment_of_value, visibility_cell, act_opened_cell}
 use Rattle.ld_expr.specs.Terms.{term_value, cell_of_property}
-use Rattle.ld_rules.specs.RunCells.{cell_if}
-use Rattle.ld_rules.specs.RunState.{RunState, NoticeState, seen_in, with_cell}
+use Rattle.ld_state.specs.RunCells.{cell_if}
+use Rattle.ld_state.specs.RunState.{RunState, NoticeState, seen_in, with_cell}
 use Rattle.ld_rules.specs.SiteTests.{site_test, site_mark, rule_of}
 
 -- A state, and what was done on the way to it: the cells that got another value, in order and with

@@ -8,7 +8,7 @@ use Rattle.ld_model.specs.declared.unit.Unit.{Unit as Course}
 use Rattle.ld_names.specs.Rules.{Site}
 use Rattle.ld_expr.specs.Lookup.{list_from}
 use Rattle.ld_rules.specs.Actions.{actions_of, targets_of}
-use Rattle.ld_rules.specs.RunState.{RunState, seen_in}
+use Rattle.ld_state.specs.RunState.{RunState, seen_in}
 use Rattle.ld_rules.specs.SiteTests.{site_test, rule_of}
 
 -- How many leaves a term has.

@@ -1,10 +1,10 @@
 pub mod Actions
 pub mod Costs
-pub mod GlobalValues
+pub mod LawWords
 pub mod Reach
-pub mod RunCells
 pub mod RunSettling
-pub mod RunState
 pub mod RunSystem
+pub mod Seating
 pub mod SiteLooks
 pub mod SiteTests
+pub mod SiteWalk

@@ -5,7 +5,7 @@ use Rattle.ld_cascade.specs.System.{System}
 use Rattle.ld_cascade.specs.Settling.{Sums, sums_of, no_sums, after_sweeps, all_firings, sweep_firings}
 use Rattle.ld_model.specs.Counting.{numbers_below, number_where}
 use Rattle.ld_model.specs.declared.unit.Unit.{Unit as Course}
-use Rattle.ld_rules.specs.RunState.{RunState}
+use Rattle.ld_state.specs.RunState.{RunState}
 use Rattle.ld_rules.specs.RunSystem.{run_system}
 
 -- The sweep after so many fires nothing.
@@ -34,6 +34,7 @@ settlement_after unit s turns = record {
 abbrev pub no_settling : RunState → Settlement
 no_settling s = record { turns = 0; sums = no_sums; state = s }
 
--- The settling of a run; none where it passes the unit's budget.
+-- The settling of a run; none where it passes the unit's budget. How many seats the run has plays no part
+-- in it, as long as there is one for each person: `seats_play_no_part` in proofs/Seats.
 unfoldable pub run_settling : Course → RunState → Option Settlement
 run_settling unit s = option_map (settlement_after unit s) (turns_within (run_system unit) s unit.turns)

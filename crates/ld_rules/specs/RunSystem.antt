@@ -15,8 +15,8 @@ use Rattle.ld_expr.specs.Lookup.{list_from}
 use Rattle.ld_roles.specs.Roster.{Persons}
 use Rattle.ld_rules.specs.Actions.{Doing, nothing_done, site_firing}
 use Rattle.ld_rules.specs.Costs.{site_cost}
-use Rattle.ld_rules.specs.RunCells.{IsRunOf, all_cells, slot_of}
-use Rattle.ld_rules.specs.RunState.{RunState, seen_in, cell_of}
+use Rattle.ld_state.specs.RunCells.{IsRunOf, all_cells, slot_of}
+use Rattle.ld_state.specs.RunState.{RunState, seen_in, cell_of}
 use Rattle.ld_rules.specs.SiteLooks.{site_looks, open_looks}
 use Rattle.ld_rules.specs.SiteTests.{site_test, site_mark}
 

@@ -24,7 +24,7 @@ use Rattle.ld_expr.specs.Membership.{members_of}
 use Rattle.ld_expr.specs.Owners.{of_person}
 use Rattle.ld_expr.specs.Seen.{Seen, member_cell}
 use Rattle.ld_rules.specs.Reach.{reaches, role_parts_of}
-use Rattle.ld_rules.specs.RunCells.{cell_if}
+use Rattle.ld_state.specs.RunCells.{cell_if}
 use Rattle.ld_rules.specs.SiteTests.{Completing, activity_completing, act_completing, play_completing, unit_completing, opening_cell, says_for_good, is_latched, site_mark, rule_of}
 
 abbrev pub cell_list : Option CellName → List CellName

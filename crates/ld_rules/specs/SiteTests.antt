@@ -3,8 +3,7 @@ use Rattle.std.specs.Prelude.{ℕ, zero, suc, pos, ◌+ℤ◌, List, length, cou
 use Rattle.std.specs.List.{list_all, last_or}
 use Rattle.std.specs.Option.{option_map}
 use Rattle.ld_base.specs.Maybe.{◌>>=◌}
-use Rattle.ld_value.specs.Datum.{Datum, same_datum}
-use Rattle.ld_value.specs.Values.{value_of}
+use Rattle.ld_value.specs.Datum.{Datum}
 use Rattle.ld_model.specs.declared.activity.Activity.{Activity}
 use Rattle.ld_model.specs.declared.activity.Structure.{Structure}
 use Rattle.ld_model.specs.declared.activity.StructureKind.{StructureKind}
@@ -27,11 +26,11 @@ use Rattle.ld_names.specs.Rules.{Site, rules_of}
 use Rattle.ld_expr.specs.Done.{is_done}
 use Rattle.ld_expr.specs.Holding.{holds_in}
 use Rattle.ld_refs.specs.Extents.{play_at, act_at, role_part_at}
-use Rattle.ld_expr.specs.Lookup.{is_some_and, property_of, environment_named}
+use Rattle.ld_expr.specs.Lookup.{is_some_and, environment_named}
 use Rattle.ld_expr.specs.Membership.{members_of, some_and_each}
 use Rattle.ld_expr.specs.Owners.{of_person}
+use Rattle.ld_expr.specs.PropertyTests.{has_value}
 use Rattle.ld_expr.specs.Seen.{Seen, says_yes, moment_of_value, chosen_cell, opened_cell, act_opened_cell, mark_cell}
-use Rattle.ld_expr.specs.Terms.{property_value}
 use Rattle.ld_rules.specs.Reach.{is_mine}
 
 -- ---- completion rules
@@ -49,17 +48,6 @@ abbrev pub has_passed : Seen → ℕ → Option Datum → Bool
 has_passed seen seconds start = is_some_and
     (λ begun. is_some_and (int_le (begun +ℤ pos seconds)) (moment_of_value (seen.value Now)))
     (moment_of_value start)
-
--- The value that the text is as one of the property's datatype.
-abbrev pub value_for : Course → List ℕ → List ℕ → Option Datum
-value_for unit id text = property_of unit id >>= λ property. value_of property.datatype text
-
--- The property has the value of the text, or any value where no text is given.
-abbrev pub has_value : Course → Seen → Owner → List ℕ → Option (List ℕ) → Bool
-has_value unit seen owner id None = is_some (property_value unit seen owner id)
-has_value unit seen owner id (Some text) = is_some_and
-    (λ wanted. is_some_and (same_datum wanted) (property_value unit seen owner id))
-    (value_for unit id text)
 
 abbrev pub completion_holds : Course → Seen → Completing → Completion → Bool
 completion_holds unit seen c UserChoice = is_some_and (λ cell. says_yes (seen.value cell)) c.chosen

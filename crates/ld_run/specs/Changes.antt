@@ -8,10 +8,10 @@ use Rattle.ld_model.specs.declared.cell.Owner.TheVariants.{Run, Person}
 use Rattle.ld_model.specs.declared.unit.Unit.{Unit as Course}
 use Rattle.ld_expr.specs.Owners.{of_person}
 use Rattle.ld_expr.specs.Seen.{chosen_cell, opened_cell}
-use Rattle.ld_rules.specs.RunCells.{begins_as}
-use Rattle.ld_rules.specs.GlobalValues.{GlobalValues}
+use Rattle.ld_state.specs.RunCells.{begins_as}
+use Rattle.ld_state.specs.GlobalValues.{GlobalValues}
 use Rattle.ld_roles.specs.Roster.{newcomer, with_role, changed_at}
-use Rattle.ld_rules.specs.RunState.{RunState, with_cell}
+use Rattle.ld_state.specs.RunState.{RunState, with_cell}
 use Rattle.ld_run.specs.Commands.{Admitted, enrols, assigns, drops, starts, opens, completes, sets, clears, gets, shows_tree, shows_outbox, reports, ticks}
 
 abbrev pub is_owned_by : ℕ → Owner → Bool

@@ -1,8 +1,12 @@
+pub mod Causes
 pub mod Changes
 pub mod Checks
 pub mod Commands
 pub mod Globals
+pub mod LineWords
+pub mod Reached
 pub mod Refusals
 pub mod Replies
 pub mod Reports
 pub mod RunStep
+pub mod SameSteps

@@ -4,7 +4,7 @@ use Rattle.std.specs.Option.{option_map_or}
 use Rattle.ld_json.specs.Print.{json_text}
 use Rattle.ld_cascade.specs.Settling.{Sums}
 use Rattle.ld_model.specs.declared.unit.Unit.{Unit as Course}
-use Rattle.ld_rules.specs.RunState.{RunState, seen_in}
+use Rattle.ld_state.specs.RunState.{RunState, seen_in}
 use Rattle.ld_tree.specs.Lines.{spaced, line_text, lines_text}
 use Rattle.ld_tree.specs.Tree.{tree_lines}
 use Rattle.ld_value.specs.Datum.{Datum}

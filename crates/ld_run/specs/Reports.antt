@@ -18,7 +18,7 @@ use Rattle.ld_expr.specs.Done.{is_done}
 use Rattle.ld_expr.specs.Lookup.{list_from}
 use Rattle.ld_expr.specs.Membership.{members}
 use Rattle.ld_expr.specs.Seen.{Seen, moment_of_value}
-use Rattle.ld_rules.specs.RunState.{RunState, NoticeState, seen_in}
+use Rattle.ld_state.specs.RunState.{RunState, NoticeState, seen_in}
 use Rattle.ld_rules.specs.SiteTests.{opening_of, is_opened}
 use Rattle.ld_value.specs.Calendar.{text_of_moment}
 use Rattle.ld_value.specs.Datum.{Datum}

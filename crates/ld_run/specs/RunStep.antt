@@ -3,13 +3,13 @@ use Rattle.std.specs.Prelude.{ℕ, ℤ, ◌+◌, Some, Result, Ok, ok_or, Bool, 
 use Rattle.ld_value.specs.Datum.{moment_datum}
 use Rattle.ld_names.specs.Things.{things_of}
 use Rattle.ld_expr.specs.Lookup.{is_some_and}
-use Rattle.ld_rules.specs.GlobalValues.{GlobalValues}
+use Rattle.ld_state.specs.GlobalValues.{GlobalValues}
 use Rattle.ld_cascade.specs.Settling.{Sums, plus}
 use Rattle.ld_model.specs.declared.cell.CellName.TheVariants.{Now}
 use Rattle.ld_model.specs.declared.unit.Unit.{Unit as Course}
 use Rattle.ld_lines.specs.declared.command.RunCommand.{RunCommand}
 use Rattle.ld_rules.specs.RunSettling.{Settlement, run_settling, no_settling}
-use Rattle.ld_rules.specs.RunState.{RunState, seen_in, with_cell}
+use Rattle.ld_state.specs.RunState.{RunState, seen_in, with_cell}
 use Rattle.ld_tree.specs.Tree.{is_open}
 use Rattle.ld_run.specs.Changes.{directly_changed}
 use Rattle.ld_run.specs.Checks.{Passed, admitted, is_started}
@@ -48,7 +48,8 @@ open_for_it unit s _ = Ok tt
 
 -- The step of a run. The checks look at the state as it is; then the moment is kept and the store's values
 -- are taken in; a started run settles; the activity has to be open; the direct change is made, after which
--- the run, if it is started now, settles again; and the store takes the run's values.
+-- the run, if it is started now, settles again; and the store takes the run's values. The run's seats play a
+-- part only where a person joins: proofs/SeatsOfSteps.
 unfoldable pub run_step : Course → RunState → GlobalValues → ℤ → RunCommand → Result DoneCommand Refusal
 run_step unit s store moment asked = do
   command ← admitted unit s moment asked

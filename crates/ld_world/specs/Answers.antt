@@ -27,7 +27,8 @@ Leads old (line ∷ lines) text new =
 abbrev pub Answers : WorldState → List (List ℕ) → List ℕ → Type 0
 Answers world lines text = (new : WorldState) × Leads world lines text new
 
--- The replies where memory is never wanting, one for each line.
+-- The replies where memory is never wanting, one for each line. With more seats they are the same, as long as
+-- no run is full: `replies_with_more` in proofs/SeatsOfWorlds.
 abbrev pub replies : WorldState → List (Option Line) → List (List ℕ)
 replies w [] = []
 replies w (line ∷ lines) =

@@ -1,3 +1,4 @@
 pub mod Answers
 pub mod Published
+pub mod SameWorlds
 pub mod World

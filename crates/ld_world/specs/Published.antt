@@ -19,7 +19,7 @@ use Rattle.ld_value.specs.Values.{Restrictions}
 use Rattle.ld_value.specs.declared.kind.Kind.{Kind}
 use Rattle.ld_value.specs.declared.kind.Kind.TheVariants.{String, Text, Uri, Boolean, Integer, Datetime, Duration}
 use Rattle.ld_expr.specs.Lookup.{is_some_and}
-use Rattle.ld_rules.specs.GlobalValues.{declared_by}
+use Rattle.ld_state.specs.GlobalValues.{declared_by}
 
 -- The number of the folder, and its first fault.
 pub record RefusedFolder : Type 0 where

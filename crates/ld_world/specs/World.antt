@@ -5,8 +5,8 @@ use Rattle.std.specs.Str.{bytes_eq}
 use Rattle.ld_model.specs.Properties.{is_personal}
 use Rattle.ld_model.specs.declared.property.Property.{Property}
 use Rattle.ld_model.specs.declared.unit.Unit.{Unit as Course}
-use Rattle.ld_rules.specs.GlobalValues.{GlobalValues, declared_by, first_values}
-use Rattle.ld_rules.specs.RunState.{RunState, made_at}
+use Rattle.ld_state.specs.GlobalValues.{GlobalValues, declared_by, first_values}
+use Rattle.ld_state.specs.RunState.{RunState, made_at}
 use Rattle.ld_run.specs.Checks.{Passed, fitting_value}
 use Rattle.ld_lines.specs.declared.command.RunCommand.{RunCommand}
 use Rattle.ld_lines.specs.declared.line.Line.{Line}

@@ -24,7 +24,7 @@ use Rattle.ld_names.specs.Things.{Entry, things_of}
 use Rattle.ld_expr.specs.Lookup.{is_some_and, thing_at}
 use Rattle.ld_expr.specs.Owners.{of_person, is_global, is_for_persons}
 use Rattle.ld_expr.specs.Seen.{Seen, property_cell, visibility_cell, member_cell, chosen_cell, opened_cell, act_opened_cell, mark_cell}
-use Rattle.ld_rules.specs.GlobalValues.{GlobalValues}
+use Rattle.ld_state.specs.GlobalValues.{GlobalValues}
 
 -- ---- which cells there are
 
@@ -135,16 +135,25 @@ abbrev pub mark_begins : Rule → Option Datum
 mark_begins (JudgesCondition _) = None
 mark_begins _ = Some (truth_datum false)
 
+-- How what is of the property, the thing or the rule of this number begins.
+abbrev pub begin_of_property : GlobalValues → Option (List ℕ) → List Property → ℕ → Option Datum
+begin_of_property store person properties p = slice_get properties p >>= property_begins store person
+
+abbrev pub begin_of_thing : Course → ℕ → Option Datum
+begin_of_thing unit t = option_map truth_datum (thing_at unit t >>= λ thing. thing.visible)
+
+abbrev pub begin_of_rule : Course → ℕ → Option Datum
+begin_of_rule unit r = slice_get (rules_of unit) r >>= mark_begins
+
 -- How the cell begins in a run that is made at this moment, or for a person of this name who joins it.
 unfoldable pub begins_as : Course → GlobalValues → Option (List ℕ) → ℤ → CellName → Option Datum
-begins_as unit store person moment (Prop p _) = slice_get unit.properties p.0 >>= property_begins store person
-begins_as unit store person moment (Vis t _) =
-    option_map truth_datum (thing_at unit t.0 >>= λ thing. thing.visible)
+begins_as unit store person moment (Prop p _) = begin_of_property store person unit.properties p.0
+begins_as unit store person moment (Vis t _) = begin_of_thing unit t.0
 begins_as unit store person moment (Member _ _) = Some (truth_datum false)
 begins_as unit store person moment (Chosen _ _) = Some (truth_datum false)
 begins_as unit store person moment (Opened _ _) = None
 begins_as unit store person moment (ActOpened _) = None
 begins_as unit store person moment Started = None
-begins_as unit store person moment (Mark r _) = slice_get (rules_of unit) r.0 >>= mark_begins
+begins_as unit store person moment (Mark r _) = begin_of_rule unit r.0
 begins_as unit store person moment Now = Some (moment_datum moment)
 begins_as unit store person moment Roster = Some (number_datum (pos 0))

@@ -7,8 +7,8 @@ use Rattle.ld_model.specs.declared.cell.CellName.TheVariants.{Prop, Vis, Member,
 use Rattle.ld_model.specs.declared.unit.Unit.{Unit as Course}
 use Rattle.ld_expr.specs.Seen.{Seen}
 use Rattle.ld_roles.specs.Roster.{Persons, is_member_in}
-use Rattle.ld_rules.specs.RunCells.{begins_as, all_cells}
-use Rattle.ld_rules.specs.GlobalValues.{GlobalValues}
+use Rattle.ld_state.specs.RunCells.{begins_as, all_cells}
+use Rattle.ld_state.specs.GlobalValues.{GlobalValues}
 
 -- A notice: when it was sent, its subject, the number of its activity, and the numbers of the persons whom
 -- it reaches, in the order of enrolment.

@@ -1,0 +1,13 @@
+pub mod EachLine
+pub mod LawsKept
+pub mod LawsLatching
+pub mod LawsNotices
+pub mod LawsOpenings
+pub mod LawsOrder
+pub mod LawsRefused
+pub mod LawsTree
+pub mod LawsUnstarted
+pub mod SeatsOfChecks
+pub mod SeatsOfReplies
+pub mod SeatsOfStages
+pub mod SeatsOfSteps

@@ -1,0 +1,13 @@
+pub mod Begun
+pub mod Cells
+pub mod Codes
+pub mod Different
+pub mod Elements
+pub mod Laid
+pub mod Owned
+pub mod Positions
+pub mod SameCells
+pub mod Slotting
+pub mod Standing
+pub mod Undone
+pub mod Written

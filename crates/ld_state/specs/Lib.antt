@@ -1,0 +1,9 @@
+pub mod Beginnings
+pub mod Codes
+pub mod GlobalValues
+pub mod Layout
+pub mod Notices
+pub mod Parts
+pub mod RunCells
+pub mod RunState
+pub mod StateView

@@ -1,0 +1,126 @@
+-- What contracts see of the state of a run.
+use Rattle.std.specs.Prelude.{◌≡◌, ◌<◌, ◌≤◌, ◌^◌, ℕ, ℤ, pos, List, length, map, take, Option, Some, None, Bool, true, false, is_some, IfSome}
+use Rattle.std.specs.Option.{option_map}
+use Rattle.ld_base.specs.Maybe.{◌>>=◌}
+use Rattle.ld_value.specs.Datum.{Datum, truth_datum, number_datum}
+use Rattle.ld_cells.specs.Stored.{Kept, held_at}
+use Rattle.ld_model.specs.Cells.{CellMap}
+use Rattle.ld_model.specs.declared.cell.CellName.{CellName}
+use Rattle.ld_model.specs.declared.cell.CellName.TheVariants.{Prop, Vis, Member, Chosen, Opened, ActOpened, Started, Mark, Now, Roster}
+use Rattle.ld_expr.specs.Seen.{member_cell}
+use Rattle.ld_roles.specs.Kept.{PersonRow, persons_of}
+use Rattle.ld_roles.specs.Membership.{is_member_among}
+use Rattle.ld_roles.specs.RoleBounds.{RoleBounds}
+use Rattle.ld_roles.specs.declared.limit.TheConstants.{SEATS}
+use Rattle.ld_state.specs.Layout.{Layout, cells_in, slot_in}
+use Rattle.ld_state.specs.RunState.{RunState, NoticeState}
+
+-- What `undo` gives back: persons, notices and cells at the mark, and the spare there.
+pub record Earlier : Type 0 where
+  pub rows : List PersonRow
+  pub outbox : List NoticeState
+  pub cells : List (Option Datum)
+  pub spare : ℕ
+
+-- In which order the cells stand; the bounds of the roles; the persons in the order of enrolment; the
+-- notices from the oldest on; the cells by slot; what is kept at the mark, if there is one; and how many
+-- writes are sure not to be refused.
+pub record StateView : Type 0 where
+  pub layout : Layout
+  pub roles : List RoleBounds
+  pub rows : List PersonRow
+  pub outbox : List NoticeState
+  pub cells : List (Option Datum)
+  pub kept : Option Earlier
+  pub spare : ℕ
+
+-- What the cell holds among cells in this order; none where there is no such cell.
+abbrev pub value_at : Layout → ℕ → List (Option Datum) → CellMap
+value_at layout persons cells name = slot_in layout persons name >>= held_at cells
+
+-- The same values, but what follows from the persons stands as it began.
+abbrev pub own_values : CellMap → CellMap
+own_values cells (Member r p) = Some (truth_datum false)
+own_values cells Roster = Some (number_datum (pos 0))
+own_values cells (Prop n owner) = cells (Prop n owner)
+own_values cells (Vis t p) = cells (Vis t p)
+own_values cells (Chosen t owner) = cells (Chosen t owner)
+own_values cells (Opened t owner) = cells (Opened t owner)
+own_values cells (ActOpened t) = cells (ActOpened t)
+own_values cells Started = cells Started
+own_values cells (Mark r owner) = cells (Mark r owner)
+own_values cells Now = cells Now
+
+-- The run that has these persons, notices and cells.
+abbrev pub run_with : Layout → List PersonRow → List NoticeState → List (Option Datum) → RunState
+run_with layout rows outbox cells = record {
+  seats = SEATS;
+  persons = persons_of rows;
+  outbox = outbox;
+  cells = own_values (value_at layout (length rows) cells);
+}
+
+abbrev pub run_of : StateView → RunState
+run_of s = run_with s.layout s.rows s.outbox s.cells
+
+-- The run at the mark.
+abbrev pub run_before : StateView → Option RunState
+run_before s = option_map (λ kept. run_with s.layout kept.rows kept.outbox kept.cells) s.kept
+
+-- The same state with a mark, at which all is kept.
+abbrev pub marked : StateView → StateView
+marked s = record s {
+  kept = Some (record { rows = s.rows; outbox = s.outbox; cells = s.cells; spare = s.spare });
+}
+
+-- ---- reading
+
+abbrev pub has_cell : StateView → CellName → Bool
+has_cell s name = is_some (slot_in s.layout (length s.rows) name)
+
+-- The value of a cell, where what `Member` and `Roster` name follows from the persons.
+abbrev pub cells_seen : StateView → CellMap
+cells_seen s (Member r p) = Some (truth_datum (is_member_among s.roles (persons_of s.rows) r.0 p.0))
+cells_seen s Roster = Some (number_datum (pos (length s.rows)))
+cells_seen s (Prop n owner) = value_at s.layout (length s.rows) s.cells (Prop n owner)
+cells_seen s (Vis t p) = value_at s.layout (length s.rows) s.cells (Vis t p)
+cells_seen s (Chosen t owner) = value_at s.layout (length s.rows) s.cells (Chosen t owner)
+cells_seen s (Opened t owner) = value_at s.layout (length s.rows) s.cells (Opened t owner)
+cells_seen s (ActOpened t) = value_at s.layout (length s.rows) s.cells (ActOpened t)
+cells_seen s Started = value_at s.layout (length s.rows) s.cells Started
+cells_seen s (Mark r owner) = value_at s.layout (length s.rows) s.cells (Mark r owner)
+cells_seen s Now = value_at s.layout (length s.rows) s.cells Now
+
+-- The cell's value follows from the persons.
+abbrev pub is_following : CellName → Bool
+is_following (Member r p) = true
+is_following Roster = true
+is_following (Prop n owner) = false
+is_following (Vis t p) = false
+is_following (Chosen t owner) = false
+is_following (Opened t owner) = false
+is_following (ActOpened t) = false
+is_following Started = false
+is_following (Mark r owner) = false
+is_following Now = false
+
+-- ---- what is always so
+
+-- There is a value for each cell, and what follows from the persons is kept so.
+pub record IsFollowing (layout : Layout) (roles : List RoleBounds) (rows : List PersonRow) (cells : List (Option Datum)) : Type 0 where
+  pub count : length cells ≡ length (cells_in layout (length rows))
+  pub few : length cells < 2 ^ 32
+  pub roster :
+      (slot : ℕ) → slot_in layout (length rows) Roster ≡ Some slot
+      → held_at cells slot ≡ Some (number_datum (pos (length rows)))
+  pub member :
+      (r p slot : ℕ) → slot_in layout (length rows) (member_cell r p) ≡ Some slot
+      → held_at cells slot ≡ Some (truth_datum (is_member_among roles (persons_of rows) r p))
+
+-- What is kept at the mark of each part.
+abbrev pub kept_by : Option Kept → Option (List PersonRow) → Option ℕ → List NoticeState → Option Earlier
+kept_by cells persons sent outbox = do
+  at ← cells
+  rows ← persons
+  count ← sent
+  Some (record { rows = rows; outbox = take count outbox; cells = at.cells; spare = at.spare })

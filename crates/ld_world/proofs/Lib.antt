@@ -1,0 +1,2 @@
+pub mod LawsRefused
+pub mod SeatsOfWorlds
