@@ -1,10 +1,13 @@
 pub mod Actions
 pub mod Costs
 pub mod LawWords
+pub mod MembersDoing
 pub mod Reach
+pub mod ReachTable
 pub mod RunSettling
 pub mod RunSystem
 pub mod Seating
 pub mod SiteLooks
 pub mod SiteTests
+pub mod SiteView
 pub mod SiteWalk

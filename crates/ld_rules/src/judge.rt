@@ -1,0 +1,119 @@
+//! Whether the test of a site holds.
+ghost use Rattle.std.specs.Prelude.{◌≡◌, ◌+◌, ◌≤◌, ◌||◌, length, true};
+ghost use Rattle.ld_names.specs.Identifiers.{HasDistinctIdentifiers};
+ghost use Rattle.ld_names.specs.Names.{names_of};
+ghost use Rattle.ld_names.specs.Rules.{rules_of};
+ghost use Rattle.ld_expr.specs.Viewing.{HasCells, seen_by};
+ghost use Rattle.ld_rules.specs.ReachTable.{reach_of};
+ghost use Rattle.ld_rules.specs.SiteLooks.{looks_by, open_looks, rule_looks, site_looks};
+ghost use Rattle.ld_rules.specs.SiteTests.{is_latched, rule_test, says_for_good, site_test};
+ghost use Rattle.ld_rules.specs.SiteView.{looks_until_latched, site_of};
+
+use crate::method_rules::judge_for_run;
+use crate::person_rules::judge_for_person;
+use crate::reach::Reach;
+use crate::site::Site;
+use ld_base::steps::Steps;
+use ld_expr::cells::says_yes;
+use ld_model::cell::{CellName, Owner};
+use ld_model::unit::Unit;
+use ld_model::view::View;
+use ld_names::names::Names;
+use ld_names::rule::Rule;
+use std::sync::ledger::Ledger;
+
+/// Whether the site's test holds in what the view shows: what its rule asks of the run or the
+/// person, or has once said yes to for good. It takes no memory, and at most a step for each cell at
+/// which the rule asks to look. (docs/MEANING.md, "Rules and sites")
+#[tactic(auto, unfolding(crate::specs::SiteLooks::site_looks, crate::specs::SiteTests::site_test))]
+pub fn judge<V: View, L: Ledger>(
+    unit: &Unit,
+    names: &Names,
+    rules: &[Rule],
+    reach: &Reach,
+    site: Site,
+    view: &V,
+    steps: &mut Steps<L>,
+) -> bool
+    requires distinct { HasDistinctIdentifiers unit.now }
+    requires names { names.now ≡ names_of unit.now }
+    requires rules { rules.now ≡ rules_of unit.now }
+    requires reach { reach.now ≡ reach_of unit.now }
+    requires cells { HasCells (V.has_cell view.now) (site_looks unit.now
+        (seen_by (V.persons_of view.now) (V.cells_of view.now)) (site_of site)) }
+    ensures value { result ≡ site_test unit.now
+        (seen_by (V.persons_of view.now) (V.cells_of view.now)) (site_of site) }
+    ensures cost { steps.new ≤ steps.old + length (open_looks unit.now
+        (seen_by (V.persons_of view.now) (V.cells_of view.now)) (site_of site)) }
+{
+    let Some(rule) = rules.get(site.rule.0 as usize) else {
+        return false;
+    };
+    judge_by(unit, names, reach, site, *rule, view, steps)
+}
+
+/// Whether the site's test holds, whose rule this is.
+fn judge_by<V: View, L: Ledger>(
+    unit: &Unit,
+    names: &Names,
+    reach: &Reach,
+    site: Site,
+    rule: Rule,
+    view: &V,
+    steps: &mut Steps<L>,
+) -> bool
+    requires distinct { HasDistinctIdentifiers unit.now }
+    requires names { names.now ≡ names_of unit.now }
+    requires reach { reach.now ≡ reach_of unit.now }
+    requires cells { HasCells (V.has_cell view.now) (looks_until_latched unit.now
+        (seen_by (V.persons_of view.now) (V.cells_of view.now)) (site_of site) rule) }
+    ensures value { result ≡ is_latched
+        (seen_by (V.persons_of view.now) (V.cells_of view.now)) (site_of site) rule
+        || rule_test unit.now (seen_by (V.persons_of view.now) (V.cells_of view.now)) site.owner rule }
+    ensures cost { steps.new ≤ steps.old + length (looks_by unit.now
+        (seen_by (V.persons_of view.now) (V.cells_of view.now)) (site_of site) rule) }
+{
+    if !says_for_good(rule) {
+        return judge_rule(unit, names, reach, rule, site.owner, view, steps);
+    }
+    if says_yes(view, CellName::Mark(site.rule, site.owner), steps) {
+        return true;
+    }
+    judge_rule(unit, names, reach, rule, site.owner, view, steps)
+}
+
+/// Whether what the rule says yes to stays so. Only a condition is judged anew each time.
+fn says_for_good(rule: Rule) -> bool
+    ensures { result ≡ says_for_good rule }
+{
+    match rule {
+        Rule::JudgesCondition(_) => false,
+        _ => true,
+    }
+}
+
+/// What the rule asks of the run or the person.
+fn judge_rule<V: View, L: Ledger>(
+    unit: &Unit,
+    names: &Names,
+    reach: &Reach,
+    rule: Rule,
+    owner: Owner,
+    view: &V,
+    steps: &mut Steps<L>,
+) -> bool
+    requires distinct { HasDistinctIdentifiers unit.now }
+    requires names { names.now ≡ names_of unit.now }
+    requires reach { reach.now ≡ reach_of unit.now }
+    requires cells { HasCells (V.has_cell view.now) (rule_looks unit.now
+        (seen_by (V.persons_of view.now) (V.cells_of view.now)) owner rule) }
+    ensures value { result ≡ rule_test unit.now
+        (seen_by (V.persons_of view.now) (V.cells_of view.now)) owner rule }
+    ensures cost { steps.new ≤ steps.old + length (rule_looks unit.now
+        (seen_by (V.persons_of view.now) (V.cells_of view.now)) owner rule) }
+{
+    match owner {
+        Owner::Run => judge_for_run(unit, names, rule, view, steps),
+        Owner::Person(person) => judge_for_person(unit, names, reach, rule, person, view, steps),
+    }
+}

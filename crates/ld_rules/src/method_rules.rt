@@ -1,0 +1,268 @@
+//! What the rules for the run ask: of acts, role-parts, plays and the unit.
+ghost use Rattle.std.specs.Prelude.{◌≡◌, ◌+◌, ◌≤◌, is_some, length, None, option_copied, option_map};
+ghost use Rattle.std.specs.List.{last_or};
+ghost use Rattle.ld_names.specs.Names.{names_of};
+ghost use Rattle.ld_refs.specs.Extents.{act_at, play_at, role_part_at};
+ghost use Rattle.ld_expr.specs.Looks.{done_looks, members_looks};
+ghost use Rattle.ld_expr.specs.Lookup.{environment_named, is_some_and, list_from};
+ghost use Rattle.ld_expr.specs.Viewing.{HasCells, seen_by};
+ghost use Rattle.ld_rules.specs.SiteLooks.{act_looks, cell_list, completion_looks_if, opening_looks, part_looks, run_looks};
+ghost use Rattle.ld_rules.specs.SiteTests.{act_completing, act_test, is_opened, opening_cell, opening_test, part_test, play_completing, play_test, run_test, unit_completing, unit_test};
+ghost use Rattle.ld_rules.specs.SiteView.{completing_of};
+
+use crate::completion::{Completing, rule_holds};
+use crate::members::{did_all, has_member};
+use crate::place::place_named;
+use ld_base::id::Id;
+use ld_base::steps::Steps;
+use ld_expr::cells::thing_number;
+use ld_expr::done::is_done;
+use ld_model::cell::{CellName, Owner};
+use ld_model::method::{Act, Play, RolePart};
+use ld_model::unit::Unit;
+use ld_model::view::View;
+use ld_names::names::Names;
+use ld_names::rule::Rule;
+use ld_walk::place::Place;
+use std::sync::ledger::Ledger;
+
+/// What the rule asks of the run; of a rule for persons, nothing holds. (docs/MEANING.md, "Rules and
+/// sites")
+pub(crate) fn judge_for_run<V: View, L: Ledger>(
+    unit: &Unit,
+    names: &Names,
+    rule: Rule,
+    view: &V,
+    steps: &mut Steps<L>,
+) -> bool
+    requires names { names.now ≡ names_of unit.now }
+    requires cells { HasCells (V.has_cell view.now) (run_looks unit.now
+        (seen_by (V.persons_of view.now) (V.cells_of view.now)) rule) }
+    ensures value { result ≡ run_test unit.now
+        (seen_by (V.persons_of view.now) (V.cells_of view.now)) rule }
+    ensures cost { steps.new ≤ steps.old + length (run_looks unit.now
+        (seen_by (V.persons_of view.now) (V.cells_of view.now)) rule) }
+{
+    match rule {
+        Rule::OpensAct(play, act) => {
+            judge_opening(unit, names, play as usize, act as usize, view, steps)
+        }
+        Rule::CompletesPart(play, act, part) => {
+            let Some(act) = act_at(unit, play as usize, act as usize) else {
+                return false;
+            };
+            match act.role_parts.get(part as usize) {
+                Some(part) => judge_part(unit, names, act, part, view, steps),
+                None => false,
+            }
+        }
+        Rule::CompletesAct(play, act) => match act_at(unit, play as usize, act as usize) {
+            Some(act) => judge_act(unit, names, act, view, steps),
+            None => false,
+        },
+        Rule::CompletesPlay(play) => match unit.method.plays.get(play as usize) {
+            Some(play) => judge_play(unit, names, play, view, steps),
+            None => false,
+        },
+        Rule::CompletesUnit => judge_unit(unit, names, view, steps),
+        Rule::CompletesActivity(_) | Rule::CompletesStructure(_) | Rule::JudgesCondition(_) => {
+            false
+        }
+    }
+}
+
+/// Whether the act is the first of its play, or the one before it is done.
+fn judge_opening<V: View, L: Ledger>(
+    unit: &Unit,
+    names: &Names,
+    play: usize,
+    act: usize,
+    view: &V,
+    steps: &mut Steps<L>,
+) -> bool
+    requires names { names.now ≡ names_of unit.now }
+    requires cells { HasCells (V.has_cell view.now) (opening_looks unit.now play act) }
+    ensures value { result ≡ opening_test unit.now
+        (seen_by (V.persons_of view.now) (V.cells_of view.now)) play act }
+    ensures cost { steps.new ≤ steps.old + length (opening_looks unit.now play act) }
+{
+    if act == 0 {
+        return true;
+    }
+    match act_at(unit, play, act - 1) {
+        Some(before) => is_done(unit, names, view, Owner::Run, &before.identifier, steps),
+        None => false,
+    }
+}
+
+/// Whether the act is opened, the role has a member, and what the role-part refers to is done for
+/// each member. Of an environment there is nothing to do.
+fn judge_part<V: View, L: Ledger>(
+    unit: &Unit,
+    names: &Names,
+    act: &Act,
+    part: &RolePart,
+    view: &V,
+    steps: &mut Steps<L>,
+) -> bool
+    requires names { names.now ≡ names_of unit.now }
+    requires cells { HasCells (V.has_cell view.now) (part_looks unit.now
+        (seen_by (V.persons_of view.now) (V.cells_of view.now)) act.now part.now) }
+    ensures value { result ≡ part_test unit.now
+        (seen_by (V.persons_of view.now) (V.cells_of view.now)) act.now part.now }
+    ensures cost { steps.new ≤ steps.old + length (part_looks unit.now
+        (seen_by (V.persons_of view.now) (V.cells_of view.now)) act.now part.now) }
+{
+    if !is_opened(unit, names, act, view, steps) {
+        return false;
+    }
+    if is_environment(unit, names, &part.target) {
+        return has_member(unit, names, &part.role, view, steps);
+    }
+    did_all(unit, names, &part.role, &part.target, view, steps)
+}
+
+/// Whether the act is opened, and its completion rule holds.
+fn judge_act<V: View, L: Ledger>(
+    unit: &Unit,
+    names: &Names,
+    act: &Act,
+    view: &V,
+    steps: &mut Steps<L>,
+) -> bool
+    requires names { names.now ≡ names_of unit.now }
+    requires cells { HasCells (V.has_cell view.now) (act_looks unit.now
+        (seen_by (V.persons_of view.now) (V.cells_of view.now)) act.now) }
+    ensures value { result ≡ act_test unit.now
+        (seen_by (V.persons_of view.now) (V.cells_of view.now)) act.now }
+    ensures cost { steps.new ≤ steps.old + length (act_looks unit.now
+        (seen_by (V.persons_of view.now) (V.cells_of view.now)) act.now) }
+{
+    if !is_opened(unit, names, act, view, steps) {
+        return false;
+    }
+    let about = Completing {
+        owner: Owner::Run,
+        chosen: None,
+        start: opening_cell(unit, names, act),
+        last_act: None,
+    };
+    rule_holds(unit, names, about, &act.complete, view, steps)
+}
+
+/// Whether the completion rule of the play holds.
+fn judge_play<V: View, L: Ledger>(
+    unit: &Unit,
+    names: &Names,
+    play: &Play,
+    view: &V,
+    steps: &mut Steps<L>,
+) -> bool
+    requires names { names.now ≡ names_of unit.now }
+    requires cells { HasCells (V.has_cell view.now) (completion_looks_if unit.now
+        (seen_by (V.persons_of view.now) (V.cells_of view.now))
+        (play_completing play.now) play.now.complete) }
+    ensures value { result ≡ play_test unit.now
+        (seen_by (V.persons_of view.now) (V.cells_of view.now)) play.now }
+    ensures cost { steps.new ≤ steps.old + length (completion_looks_if unit.now
+        (seen_by (V.persons_of view.now) (V.cells_of view.now))
+        (play_completing play.now) play.now.complete) }
+{
+    let about = completing_play(play);
+    rule_holds(unit, names, about, &play.complete, view, steps)
+}
+
+/// What the completion rule of the play speaks of: it begins when the run is started.
+fn completing_play(play: &Play) -> Completing<'_>
+    ensures { completing_of result ≡ play_completing play.now }
+{
+    Completing {
+        owner: Owner::Run,
+        chosen: None,
+        start: Some(CellName::Started),
+        last_act: last_act(play),
+    }
+}
+
+/// The last act of the play.
+#[tactic(auto, using(crate::proofs::Last::last_is))]
+fn last_act(play: &Play) -> Option<&Id>
+    ensures { option_copied result
+        ≡ option_map (λ act. act.identifier) (last_or None play.now.acts) }
+{
+    let act = play.acts.as_slice().last()?;
+    Some(&act.identifier)
+}
+
+/// Whether the completion rule of the unit holds.
+fn judge_unit<V: View, L: Ledger>(
+    unit: &Unit,
+    names: &Names,
+    view: &V,
+    steps: &mut Steps<L>,
+) -> bool
+    requires names { names.now ≡ names_of unit.now }
+    requires cells { HasCells (V.has_cell view.now) (completion_looks_if unit.now
+        (seen_by (V.persons_of view.now) (V.cells_of view.now))
+        unit_completing unit.now.method.complete) }
+    ensures value { result ≡ unit_test unit.now
+        (seen_by (V.persons_of view.now) (V.cells_of view.now)) }
+    ensures cost { steps.new ≤ steps.old + length (completion_looks_if unit.now
+        (seen_by (V.persons_of view.now) (V.cells_of view.now))
+        unit_completing unit.now.method.complete) }
+{
+    let about = Completing {
+        owner: Owner::Run,
+        chosen: None,
+        start: Some(CellName::Started),
+        last_act: None,
+    };
+    rule_holds(unit, names, about, &unit.method.complete, view, steps)
+}
+
+/// Whether the act is opened.
+fn is_opened<V: View, L: Ledger>(
+    unit: &Unit,
+    names: &Names,
+    act: &Act,
+    view: &V,
+    steps: &mut Steps<L>,
+) -> bool
+    requires names { names.now ≡ names_of unit.now }
+    requires cells { HasCells (V.has_cell view.now) (cell_list (opening_cell unit.now act.now)) }
+    ensures value { result ≡ is_opened unit.now
+        (seen_by (V.persons_of view.now) (V.cells_of view.now)) act.now }
+    ensures cost { steps.new ≤ steps.old + length (cell_list (opening_cell unit.now act.now)) }
+{
+    match opening_cell(unit, names, act) {
+        Some(cell) => view.get(cell, steps).is_some(),
+        None => false,
+    }
+}
+
+/// The cell that says when the act was opened.
+fn opening_cell(unit: &Unit, names: &Names, act: &Act) -> Option<CellName>
+    requires { names.now ≡ names_of unit.now }
+    ensures { result ≡ opening_cell unit.now act.now }
+{
+    let thing = thing_number(unit, names, &act.identifier)?;
+    Some(CellName::ActOpened(thing))
+}
+
+/// The act of the play.
+fn act_at(unit: &Unit, play: usize, act: usize) -> Option<&Act>
+    ensures { option_copied result ≡ act_at unit.now play act }
+{
+    unit.method.plays.get(play)?.acts.get(act)
+}
+
+/// Whether the identifier names an environment.
+fn is_environment(unit: &Unit, names: &Names, id: &Id) -> bool
+    requires { names.now ≡ names_of unit.now }
+    ensures { result ≡ is_some (environment_named unit.now id.now) }
+{
+    match place_named(unit, names, id) {
+        Some(Place::Environment(number)) => unit.environments.get(number as usize).is_some(),
+        _ => false,
+    }
+}

@@ -1,0 +1,276 @@
+//! What the rules for one person ask.
+ghost use Rattle.std.specs.Prelude.{◌≡◌, ◌+◌, ◌≤◌, ◌<◌, count_by, length, map, slice_get, Some};
+ghost use Rattle.std.specs.List.{list_any};
+ghost use Rattle.ld_names.specs.Identifiers.{HasDistinctIdentifiers};
+ghost use Rattle.ld_names.specs.Names.{names_of};
+ghost use Rattle.ld_expr.specs.Done.{is_done};
+ghost use Rattle.ld_expr.specs.Lookup.{is_some_and, list_from};
+ghost use Rattle.ld_expr.specs.Membership.{is_member};
+ghost use Rattle.ld_expr.specs.Owners.{of_person};
+ghost use Rattle.ld_expr.specs.Seen.{member_cell};
+ghost use Rattle.ld_expr.specs.Viewing.{HasCells, seen_by};
+ghost use Rattle.ld_rules.specs.Reach.{is_mine};
+ghost use Rattle.ld_rules.specs.ReachTable.{reach_of};
+ghost use Rattle.ld_rules.specs.SiteLooks.{activity_looks, all_done_looks, completion_looks_if, person_looks, reaching_roles};
+ghost use Rattle.ld_rules.specs.SiteTests.{activity_completing, activity_test, completion_holds, holds_or_absent, number_needed, person_test, structure_test};
+ghost use Rattle.ld_rules.specs.SiteView.{completing_of};
+
+use crate::completion::{Completing, completion_holds};
+use crate::reach::Reach;
+use ld_base::id::Id;
+use ld_base::numbers::{PersonNo, RoleNo};
+use ld_base::steps::Steps;
+use ld_expr::cells::{says_yes, thing_number};
+use ld_expr::done::is_done;
+use ld_expr::holding::holds;
+use ld_model::activity::{Activity, Structure, StructureKind};
+use ld_model::cell::{CellName, Owner};
+use ld_model::unit::Unit;
+use ld_model::view::View;
+use ld_names::names::Names;
+use ld_names::rule::Rule;
+use std::sync::ledger::Ledger;
+
+/// What the rule asks of the person; of a rule for the run, nothing holds. (docs/MEANING.md, "Rules
+/// and sites")
+pub(crate) fn judge_for_person<V: View, L: Ledger>(
+    unit: &Unit,
+    names: &Names,
+    reach: &Reach,
+    rule: Rule,
+    person: PersonNo,
+    view: &V,
+    steps: &mut Steps<L>,
+) -> bool
+    requires distinct { HasDistinctIdentifiers unit.now }
+    requires names { names.now ≡ names_of unit.now }
+    requires reach { reach.now ≡ reach_of unit.now }
+    requires cells { HasCells (V.has_cell view.now) (person_looks unit.now
+        (seen_by (V.persons_of view.now) (V.cells_of view.now)) person.0 rule) }
+    ensures value { result ≡ person_test unit.now
+        (seen_by (V.persons_of view.now) (V.cells_of view.now)) person.0 rule }
+    ensures cost { steps.new ≤ steps.old + length (person_looks unit.now
+        (seen_by (V.persons_of view.now) (V.cells_of view.now)) person.0 rule) }
+{
+    match rule {
+        Rule::CompletesActivity(number) => {
+            judge_activity(unit, names, reach, number as usize, person, view, steps)
+        }
+        Rule::CompletesStructure(number) => match unit.structures.get(number as usize) {
+            Some(structure) => judge_structure(unit, names, structure, person, view, steps),
+            None => false,
+        },
+        Rule::JudgesCondition(number) => match unit.conditions.get(number as usize) {
+            Some(condition) => {
+                holds(
+                    unit,
+                    names,
+                    &condition.test,
+                    view,
+                    Owner::Person(person),
+                    steps,
+                )
+            }
+            None => false,
+        },
+        Rule::OpensAct(_, _)
+        | Rule::CompletesPart(_, _, _)
+        | Rule::CompletesAct(_, _)
+        | Rule::CompletesPlay(_)
+        | Rule::CompletesUnit => false,
+    }
+}
+
+/// Whether the activity of this number is the person's, and its completion rule holds, if there is
+/// one.
+fn judge_activity<V: View, L: Ledger>(
+    unit: &Unit,
+    names: &Names,
+    reach: &Reach,
+    number: usize,
+    person: PersonNo,
+    view: &V,
+    steps: &mut Steps<L>,
+) -> bool
+    requires distinct { HasDistinctIdentifiers unit.now }
+    requires names { names.now ≡ names_of unit.now }
+    requires reach { reach.now ≡ reach_of unit.now }
+    requires cells { HasCells (V.has_cell view.now) (list_from (activity_looks unit.now
+        (seen_by (V.persons_of view.now) (V.cells_of view.now)) person.0)
+        (slice_get unit.now.activities number)) }
+    ensures value { result ≡ is_some_and (activity_test unit.now
+        (seen_by (V.persons_of view.now) (V.cells_of view.now)) person.0)
+        (slice_get unit.now.activities number) }
+    ensures cost { steps.new ≤ steps.old + length (list_from (activity_looks unit.now
+        (seen_by (V.persons_of view.now) (V.cells_of view.now)) person.0)
+        (slice_get unit.now.activities number)) }
+{
+    let Some(activity) = unit.activities.get(number) else {
+        return false;
+    };
+    if !is_mine(unit, reach, number, activity, person, view, steps) {
+        return false;
+    }
+    is_completed(unit, names, activity, person, view, steps)
+}
+
+/// Whether the activity, which is the one of this number, is the person's.
+#[tactic(auto, using(crate::proofs::Judging::row_is, crate::proofs::Judging::row_there, crate::proofs::Mine::mine_by_roles))]
+fn is_mine<V: View, L: Ledger>(
+    unit: &Unit,
+    reach: &Reach,
+    number: usize,
+    activity: &Activity,
+    person: PersonNo,
+    view: &V,
+    steps: &mut Steps<L>,
+) -> bool
+    requires distinct { HasDistinctIdentifiers unit.now }
+    requires reach { reach.now ≡ reach_of unit.now }
+    requires number { slice_get unit.now.activities number ≡ Some activity.now }
+    requires cells { HasCells (V.has_cell view.now) (map (λ r. member_cell r person.0)
+        (reaching_roles unit.now activity.now.identifier)) }
+    ensures value { result ≡ is_mine unit.now
+        (seen_by (V.persons_of view.now) (V.cells_of view.now))
+        activity.now.identifier person.0 }
+    ensures cost { steps.new
+        ≤ steps.old + length (reaching_roles unit.now activity.now.identifier) }
+{
+    is_in_one(reach.roles(number), person, view, steps)
+}
+
+/// Whether the person is a member of one of the roles, which are given by their numbers.
+fn is_in_one<V: View, L: Ledger>(
+    roles: &[u32],
+    person: PersonNo,
+    view: &V,
+    steps: &mut Steps<L>,
+) -> bool
+    requires { HasCells (V.has_cell view.now) (map (λ r. member_cell r person.0) roles.now) }
+    ensures value { result ≡ list_any (λ r. is_member
+        (seen_by (V.persons_of view.now) (V.cells_of view.now)) r person.0) roles.now }
+    ensures cost { steps.new ≤ steps.old + length roles.now }
+{
+    for role in roles {
+        if says_yes(view, CellName::Member(RoleNo(*role), person), steps) {
+            return true;
+        }
+    }
+    false
+}
+
+/// Whether the completion rule of the activity holds for the person, if there is one.
+fn is_completed<V: View, L: Ledger>(
+    unit: &Unit,
+    names: &Names,
+    activity: &Activity,
+    person: PersonNo,
+    view: &V,
+    steps: &mut Steps<L>,
+) -> bool
+    requires names { names.now ≡ names_of unit.now }
+    requires cells { HasCells (V.has_cell view.now) (completion_looks_if unit.now
+        (seen_by (V.persons_of view.now) (V.cells_of view.now))
+        (activity_completing unit.now person.0 activity.now) activity.now.complete) }
+    ensures value { result ≡ holds_or_absent (completion_holds unit.now
+        (seen_by (V.persons_of view.now) (V.cells_of view.now))
+        (activity_completing unit.now person.0 activity.now)) activity.now.complete }
+    ensures cost { steps.new ≤ steps.old + length (completion_looks_if unit.now
+        (seen_by (V.persons_of view.now) (V.cells_of view.now))
+        (activity_completing unit.now person.0 activity.now) activity.now.complete) }
+{
+    match &activity.complete {
+        Some(completion) => {
+            let about = completing_activity(unit, names, activity, person);
+            completion_holds(unit, names, about, completion, view, steps)
+        }
+        None => true,
+    }
+}
+
+/// What the completion rule of the activity speaks of: it begins when the person first opens it.
+fn completing_activity<'a>(
+    unit: &Unit,
+    names: &Names,
+    activity: &Activity,
+    person: PersonNo,
+) -> Completing<'a>
+    requires { names.now ≡ names_of unit.now }
+    ensures { completing_of result ≡ activity_completing unit.now person.0 activity.now }
+{
+    let owner = Owner::Person(person);
+    match thing_number(unit, names, &activity.identifier) {
+        Some(thing) => Completing {
+            owner,
+            chosen: Some(CellName::Chosen(thing, owner)),
+            start: Some(CellName::Opened(thing, owner)),
+            last_act: None,
+        },
+        None => Completing {
+            owner,
+            chosen: None,
+            start: None,
+            last_act: None,
+        },
+    }
+}
+
+/// Whether so many of the structure's children are done for the person as it needs.
+fn judge_structure<V: View, L: Ledger>(
+    unit: &Unit,
+    names: &Names,
+    structure: &Structure,
+    person: PersonNo,
+    view: &V,
+    steps: &mut Steps<L>,
+) -> bool
+    requires names { names.now ≡ names_of unit.now }
+    requires cells { HasCells (V.has_cell view.now)
+        (all_done_looks unit.now (of_person person.0) structure.now.children) }
+    ensures value { result ≡ structure_test unit.now
+        (seen_by (V.persons_of view.now) (V.cells_of view.now)) person.0 structure.now }
+    ensures cost { steps.new ≤ steps.old
+        + length (all_done_looks unit.now (of_person person.0) structure.now.children) }
+{
+    let children = structure.children.as_slice();
+    number_needed(structure) <= count_done(unit, names, children, person, view, steps)
+}
+
+/// How many of the structure's children are to be done.
+fn number_needed(structure: &Structure) -> usize
+    ensures { result ≡ number_needed structure.now.kind structure.now.number_to_select
+        (length structure.now.children) }
+{
+    let all = structure.children.len();
+    match structure.kind {
+        StructureKind::Sequence => all,
+        StructureKind::Selection => match structure.number_to_select {
+            Some(number) => number as usize,
+            None => all,
+        },
+    }
+}
+
+/// How many of what the identifiers name is done for the person.
+fn count_done<V: View, L: Ledger>(
+    unit: &Unit,
+    names: &Names,
+    ids: &[Id],
+    person: PersonNo,
+    view: &V,
+    steps: &mut Steps<L>,
+) -> usize
+    requires names { names.now ≡ names_of unit.now }
+    requires cells { HasCells (V.has_cell view.now)
+        (all_done_looks unit.now (of_person person.0) ids.now) }
+    ensures value { result ≡ count_by (is_done unit.now
+        (seen_by (V.persons_of view.now) (V.cells_of view.now)) (of_person person.0)) ids.now }
+    ensures cost { steps.new ≤ steps.old
+        + length (all_done_looks unit.now (of_person person.0) ids.now) }
+{
+    let mut count = 0;
+    for id in ids {
+        count += usize::from(is_done(unit, names, view, Owner::Person(person), id, steps));
+    }
+    count
+}
