@@ -1,9 +1,12 @@
 -- How the state of a run begins.
-use Rattle.std.proofs.Common.{◌≡◌, refl, sym, ap, subst, ◌∙◌, ℕ, ℤ, ◌+◌, ◌<◌, ◌^◌, List, [], ◌∷◌, ◌++◌, map, length, Option, Some, None, IfSome, is_some, true, false, Contains, slice_get, append-nil, arith}
+use Rattle.std.proofs.Common.{◌≡◌, refl, sym, ap, subst, ◌∙◌, ℕ, ℤ, ◌<◌, ◌^◌, List, [], map, length, Option, Some, None, IfSome, is_some, Bool, true, false, flat_map, if◌then◌else◌, slice_get, append-nil, arith}
+use mathlib.Core.Path.{fun_ext}
 use Rattle.std.proofs.lemmas.List.{length-map}
 use Rattle.ld_base.specs.Maybe.{◌>>=◌}
 use Rattle.ld_value.specs.Datum.{Datum}
 use Rattle.ld_cells.specs.Stored.{Kept, Stored, held_at}
+use Rattle.ld_model.specs.Cells.{CellMap}
+use Rattle.ld_model.specs.Counting.{numbers_below}
 use Rattle.ld_model.specs.declared.cell.CellName.{CellName}
 use Rattle.ld_model.specs.declared.cell.CellName.TheVariants.{Prop, Vis, Member, Chosen, Opened, ActOpened, Started, Mark, Now, Roster}
 use Rattle.ld_model.specs.declared.unit.Unit.{Unit as Course}
@@ -13,14 +16,15 @@ use Rattle.ld_roles.specs.RoleBounds.{RoleBounds, role_bounds}
 use Rattle.ld_roles.specs.declared.limit.TheConstants.{SEATS}
 use Rattle.ld_state.specs.GlobalValues.{GlobalValues}
 use Rattle.ld_state.specs.Layout.{Layout, layout_of, cells_in, slot_in}
-use Rattle.ld_state.specs.RunCells.{begins_as, run_cells, all_cells}
-use Rattle.ld_state.specs.RunState.{IsSameRun, made_at}
+use Rattle.ld_state.specs.RunCells.{begins_as, is_kept_by_run, run_cells, person_cells, all_cells}
+use Rattle.ld_state.specs.RunState.{made_at}
 use Rattle.ld_state.specs.Notices.{notices_of}
 use Rattle.ld_state.specs.Parts.{IsState, state_of}
-use Rattle.ld_state.specs.StateView.{IsFollowing, own_values, run_of, run_with, value_at}
+use Rattle.ld_state.specs.StateView.{IsFollowing, is_following, own_values, run_of, run_with, value_at}
 use Rattle.ld_state.specs.declared.notice.OutNotice.{OutNotice}
 use Rattle.ld_state.proofs.Cells.{slot_stands}
-use Rattle.ld_state.proofs.Elements.{in_from_contains, stands_in}
+use Rattle.ld_state.proofs.Elements.{IsIn, different, in_left, in_stands, stands_in}
+use Rattle.ld_state.proofs.Kept.{kept_is_there, there_is_kept}
 use Rattle.ld_state.proofs.Laid.{slot_laid}
 use Rattle.ld_state.proofs.Standing.{made_at_number, stands_at}
 
@@ -55,33 +59,48 @@ module _ (unit : Course) (store : GlobalValues) (moment : ℤ) where
   abbrev cells : List (Option Datum)
   cells = map begin (run_cells unit)
 
-  there : (name : CellName) → Contains (all_cells unit 0) name → value_at (layout_of unit) 0 cells name ≡ begin name
+  abbrev shown : CellName → Option Datum
+  shown = value_at (layout_of unit) 0 cells
+
+  there : (name : CellName) → IsIn (all_cells unit 0) name → shown name ≡ begin name
   there name inside =
-      let at = stands_in (all_cells unit 0) name (in_from_contains (all_cells unit 0) name inside) in
+      let at = stands_in (all_cells unit 0) name inside in
       let found : slot_in (layout_of unit) 0 name ≡ Some at.number = slot_laid unit 0 name ∙ slot_stands unit 0 at.number name at.at in
       ap (λ slot. slot >>= held_at cells) found ∙ begun_at (layout_of unit) begin at.number name found
 
-  own_there : (name : CellName) → value_at (layout_of unit) 0 cells name ≡ begin name
-      → own_values (value_at (layout_of unit) 0 cells) name ≡ begin name
-  unfolding begins_as
-  own_there (Member r p) is = refl
-  own_there Roster is = refl
-  own_there (Prop n owner) is = is
-  own_there (Vis t p) is = is
-  own_there (Chosen t owner) is = is
-  own_there (Opened t owner) is = is
-  own_there (ActOpened t) is = is
-  own_there Started is = is
-  own_there (Mark r owner) is = is
-  own_there Now is = is
+  not_there : (name : CellName) → (IsIn (run_cells unit) name → ⊥) → shown name ≡ None
+  not_there name absent = by (slot_in (layout_of unit) 0 name) refl
+    where
+      by : (o : Option ℕ) → slot_in (layout_of unit) 0 name ≡ o → (o >>= held_at cells) ≡ None
+      by None at = refl
+      by (Some slot) at =
+          absurd (absent (subst (λ names. IsIn names name) (nobody_in (layout_of unit))
+          (in_stands (cells_in (layout_of unit) 0) slot name (stands_at (layout_of unit) 0 slot name at))))
 
-  pub begins_same : IsSameRun unit (run_with (layout_of unit) [] [] cells) (made_at SEATS unit store moment)
-  begins_same = record {
-    seats = refl;
-    persons = refl;
-    outbox = refl;
-    cells = λ name inside. own_there name (there name inside);
-  }
+  kept : (name : CellName) → is_following name ≡ false
+      → shown name ≡ (if is_kept_by_run unit name then begin name else None)
+  kept name own = by (is_kept_by_run unit name) refl
+    where
+      by : (b : Bool) → is_kept_by_run unit name ≡ b → shown name ≡ (if b then begin name else None)
+      by true is =
+          there name (in_left (run_cells unit) (flat_map (person_cells unit) (numbers_below 0)) name
+          (kept_is_there unit name is))
+      by false is = not_there name (λ inside. different (sym (there_is_kept unit name own inside) ∙ is))
+
+  own_kept : (name : CellName) → own_values shown name ≡ (if is_kept_by_run unit name then begin name else None)
+  own_kept (Member r p) = refl
+  own_kept Roster = refl
+  own_kept (Prop n owner) = kept (Prop n owner) refl
+  own_kept (Vis t p) = kept (Vis t p) refl
+  own_kept (Chosen t owner) = kept (Chosen t owner) refl
+  own_kept (Opened t owner) = kept (Opened t owner) refl
+  own_kept (ActOpened t) = kept (ActOpened t) refl
+  own_kept Started = kept Started refl
+  own_kept (Mark r owner) = kept (Mark r owner) refl
+  own_kept Now = kept Now refl
+
+  pub begins_same : run_with (layout_of unit) [] [] cells ≡ made_at SEATS unit store moment
+  begins_same = ap (λ (m : CellMap). record (run_with (layout_of unit) [] [] cells) { cells = m }) (fun_ext own_kept)
 
 -- ---- the state by its parts
 
@@ -103,12 +122,12 @@ pub new_run : (unit : Course) (store : GlobalValues) (moment : ℤ) (layout : La
     (outbox : List OutNotice) (names : List CellName) → stored.cells ≡ map (begins_as unit store None moment) names
     → names ≡ layout.run → layout ≡ layout_of unit → outbox ≡ []
     → roster ≡ record { roles = role_bounds unit; rows = []; kept = None }
-    → IsSameRun unit (run_of (state_of layout stored roster outbox None)) (made_at SEATS unit store moment)
+    → run_of (state_of layout stored roster outbox None) ≡ made_at SEATS unit store moment
 new_run unit store moment layout stored roster outbox names is named laid none empty =
     let cells_are : stored.cells ≡ map (begins_as unit store None moment) (run_cells unit) =
     is ∙ ap (map (begins_as unit store None moment)) (named ∙ ap (λ (l : Layout). l.run) laid) in
-    subst (λ (r : RosterView). IsSameRun unit (run_with layout r.rows (notices_of outbox) stored.cells) (made_at SEATS unit store moment)) (sym empty)
-    (subst (λ ns. IsSameRun unit (run_with layout [] (notices_of ns) stored.cells) (made_at SEATS unit store moment)) (sym none)
-    (subst (λ l. IsSameRun unit (run_with l [] [] stored.cells) (made_at SEATS unit store moment)) (sym laid)
-    (subst (λ cs. IsSameRun unit (run_with (layout_of unit) [] [] cs) (made_at SEATS unit store moment)) (sym cells_are)
-    (begins_same unit store moment))))
+    ap (λ (r : RosterView). run_with layout r.rows (notices_of outbox) stored.cells) empty
+    ∙ ap (λ ns. run_with layout [] (notices_of ns) stored.cells) none
+    ∙ ap (λ l. run_with l [] [] stored.cells) laid
+    ∙ ap (run_with (layout_of unit) [] []) cells_are
+    ∙ begins_same unit store moment

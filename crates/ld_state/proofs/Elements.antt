@@ -127,6 +127,19 @@ from_numbered f [] n y there = absurd there
 from_numbered f (z ∷ zs) n y there =
     one_more f z zs n y (or_later (from_numbered f zs (n + 1) y) (in_either (f n z) (each_numbered_from f (n + 1) zs) y there))
 
+-- A part of what is listed of one element, where the first has the number 0.
+pub record Listed {A B : Type 0} (f : ℕ → A → List B) (xs : List A) (y : B) : Type 0 where
+  pub number : ℕ
+  pub element : A
+  pub at : slice_get xs number ≡ Some element
+  pub inside : IsIn (f number element) y
+
+pub from_each : {A B : Type 0} → (f : ℕ → A → List B) (xs : List A) (y : B) → IsIn (each_numbered f xs) y
+    → Listed f xs y
+from_each f xs y there =
+    let by = from_numbered f xs 0 y there in
+    record { number = by.number; element = by.element; at = by.at; inside = subst (λ m. IsIn (f m by.element) y) (omega arith) by.inside }
+
 -- An element of the list that gives this, or of which this is made.
 pub record From {A B : Type 0} (f : A → List B) (xs : List A) (y : B) : Type 0 where
   pub element : A

@@ -39,7 +39,7 @@ thing_for p n entry =
     (map-append (cell_for p) (cell_if active (chosen_cell n 0)) (cell_if active (opened_cell n (of_person 0)))
     ∙ ap₂ (λ xs ys. xs ++ ys) (for_person p active (chosen_cell n 0)) (for_person p active (opened_cell n (of_person 0))))
 
-cells_for : (unit : Course) (p : ℕ) → map (cell_for p) (person_cells unit 0) ≡ person_cells unit p
+pub cells_for : (unit : Course) (p : ℕ) → map (cell_for p) (person_cells unit 0) ≡ person_cells unit p
 cells_for unit p =
     let values = each_numbered (own_property_cells 0) unit.properties in
     let things = each_numbered (own_thing_cells 0) (things_of unit) in

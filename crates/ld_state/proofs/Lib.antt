@@ -3,11 +3,16 @@ pub mod Cells
 pub mod Codes
 pub mod Different
 pub mod Elements
+pub mod Joined
+pub mod Kept
+pub mod KeptForPersons
 pub mod Laid
+pub mod Memberships
 pub mod Owned
 pub mod Positions
 pub mod SameCells
 pub mod Slotting
 pub mod Standing
+pub mod There
 pub mod Undone
 pub mod Written

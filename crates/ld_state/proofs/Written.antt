@@ -1,18 +1,17 @@
 -- What a write to a cell leaves of the state.
-use Rattle.std.proofs.Common.{◌≡◌, ◌≢◌, refl, sym, ap, subst, ◌∙◌, ℕ, ◌+◌, ◌<◌, inl, inr, List, map, length, set, Option, Some, None, Bool, true, false, cond, IfSome, is_some, Result, Ok, Err, OnOk, OnErr, arith}
+use Rattle.std.proofs.Common.{◌≡◌, refl, sym, ap, subst, ◌∙◌, ℕ, ◌<◌, List, length, set, Option, Some, None, Bool, true, false, cond, IfSome, is_some, Result, Ok, Err, OnOk, OnErr, arith}
 use mathlib.Core.Path.{fun_ext}
 use Rattle.std.proofs.lemmas.List.{length-set, get_or-set_same, get_or-set_other}
-use Rattle.std.specs.Option.{option_map}
 use Rattle.ld_base.specs.Maybe.{◌>>=◌}
 use Rattle.ld_value.specs.Datum.{Datum}
 use Rattle.ld_cells.specs.Stored.{Kept, Stored, held_at}
-use Rattle.ld_model.specs.Cells.{CellMap, put_cell, same_cell}
+use Rattle.ld_model.specs.Cells.{CellMap, same_cell}
 use Rattle.ld_model.specs.declared.cell.CellName.{CellName}
 use Rattle.ld_model.specs.declared.cell.CellName.TheVariants.{Prop, Vis, Member, Chosen, Opened, ActOpened, Started, Mark, Now, Roster}
 use Rattle.ld_expr.specs.Seen.{member_cell}
 use Rattle.ld_roles.specs.Kept.{PersonRow, RosterView}
 use Rattle.ld_roles.specs.RoleBounds.{RoleBounds}
-use Rattle.ld_state.specs.Layout.{Layout, cells_in, slot_in}
+use Rattle.ld_state.specs.Layout.{Layout, slot_in}
 use Rattle.ld_state.specs.Parts.{IsState}
 use Rattle.ld_state.specs.declared.notice.OutNotice.{OutNotice}
 use Rattle.ld_state.specs.RunState.{NoticeState, with_cell}
@@ -74,7 +73,7 @@ own_alike cells others Now same = same
 module _ (layout : Layout) (rows : List PersonRow) (cells : List (Option Datum)) (name : CellName) (slot : ℕ)
     (found : slot_in layout (length rows) name ≡ Some slot) (value : Option Datum) where
   -- Another cell holds what it held.
-  other_holds : (k : ℕ) (other : CellName) → slot_in layout (length rows) other ≡ Some k → (other ≡ name → ⊥)
+  pub other_holds : (k : ℕ) (other : CellName) → slot_in layout (length rows) other ≡ Some k → (other ≡ name → ⊥)
       → held_at (set cells slot value) k ≡ held_at cells k
   other_holds k other at apart =
       get_or-set_other cells slot k value None

@@ -1,7 +1,8 @@
 -- The order of the cells of a run, whose places in it are their slots.
-use Rattle.std.specs.Prelude.{ℕ, List, ◌++◌, map, flat_map, Option}
+use Rattle.std.specs.Prelude.{◌≡◌, ℕ, List, ◌++◌, map, flat_map, length, Option}
 use Rattle.ld_model.specs.Cells.{same_cell}
 use Rattle.ld_model.specs.Counting.{numbers_below, number_where}
+use Rattle.ld_model.specs.Roles.{roles_of}
 use Rattle.ld_model.specs.declared.cell.CellName.{CellName}
 use Rattle.ld_model.specs.declared.cell.CellName.TheVariants.{Prop, Vis, Member, Chosen, Opened, ActOpened, Started, Mark, Now, Roster}
 use Rattle.ld_model.specs.declared.unit.Unit.{Unit as Course}
@@ -36,3 +37,7 @@ cells_in layout persons = layout.run ++ flat_map (λ p. map (cell_for p) layout.
 -- The slot of the cell: its place among all cells.
 abbrev pub slot_in : Layout → ℕ → CellName → Option ℕ
 slot_in layout persons cell = number_where (same_cell cell) (cells_in layout persons)
+
+-- So many roles have the units whose cells stand so.
+abbrev pub AreRolesOf : Layout → ℕ → Type 0
+AreRolesOf layout roles = (unit : Course) → layout ≡ layout_of unit → roles ≡ length (roles_of unit)

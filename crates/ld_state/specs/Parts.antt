@@ -1,10 +1,10 @@
 -- What contracts see of a state by its parts.
 use Rattle.std.specs.Prelude.{◌≡◌, ◌≤◌, ℕ, List, length, Option, is_some, IfSome}
-use Rattle.ld_cells.specs.Stored.{Stored, Kept}
+use Rattle.ld_cells.specs.Stored.{Stored}
 use Rattle.ld_roles.specs.Kept.{RosterView}
 use Rattle.ld_state.specs.Layout.{Layout}
 use Rattle.ld_state.specs.Notices.{notices_of}
-use Rattle.ld_state.specs.StateView.{StateView, Earlier, IsFollowing, kept_by}
+use Rattle.ld_state.specs.StateView.{StateView, IsFollowing, kept_by}
 use Rattle.ld_state.specs.declared.notice.OutNotice.{OutNotice}
 
 abbrev pub state_of : Layout → Stored → RosterView → List OutNotice → Option ℕ → StateView

@@ -2,7 +2,7 @@
 use Rattle.std.specs.Prelude.{◌≡◌, ℕ, ℤ, pos, List, [], ◌∷◌, ◌++◌, map, flat_map, length, Option, Some, None, Bool, true, false, not, is_some, slice_get, IsTrue, IsSome, Contains, if◌then◌else◌}
 use Rattle.std.specs.Option.{option_map}
 use Rattle.ld_base.specs.Maybe.{◌>>=◌}
-use Rattle.ld_value.specs.Datum.{Datum, truth_datum, number_datum, moment_datum}
+use Rattle.ld_value.specs.Datum.{Datum, truth_datum, number_datum, moment_datum, same_truth}
 use Rattle.ld_value.specs.Values.{is_value}
 use Rattle.ld_value.specs.declared.kind.Kind.{Kind}
 use Rattle.ld_value.specs.declared.kind.Kind.TheVariants as kind
@@ -87,6 +87,33 @@ all_cells unit persons = run_cells unit ++ flat_map (person_cells unit) (numbers
 abbrev pub slot_of : Course → ℕ → CellName → Option ℕ
 slot_of unit persons cell = number_where (same_cell cell) (all_cells unit persons)
 
+-- ---- which of them a run keeps
+
+-- The cell is one of which the run as a whole keeps a value. What `Roster` names follows from the persons.
+abbrev pub is_kept_by_run : Course → CellName → Bool
+is_kept_by_run unit (Prop n Run) =
+    is_some_and (λ property. not (is_personal property.kind)) (slice_get unit.properties n.0)
+is_kept_by_run unit (ActOpened t) = is_some_and (λ entry. is_act_place entry.place) (thing_at unit t.0)
+is_kept_by_run unit Started = true
+is_kept_by_run unit (Mark r Run) =
+    is_some_and (λ rule. not (is_for_persons (kind_of rule))) (slice_get (rules_of unit) r.0)
+is_kept_by_run unit Now = true
+is_kept_by_run unit _ = false
+
+abbrev pub is_activity : Course → ℕ → Bool
+is_activity unit t = is_some_and (λ entry. is_activity_place entry.place) (thing_at unit t)
+
+-- The cell is one of which a value is kept for each person. What `Member` names follows from the persons.
+abbrev pub is_kept_for_persons : Course → CellName → Bool
+is_kept_for_persons unit (Prop n _) =
+    is_some_and (λ property. is_personal property.kind) (slice_get unit.properties n.0)
+is_kept_for_persons unit (Vis t _) = is_some_and (λ entry. is_some entry.visible) (thing_at unit t.0)
+is_kept_for_persons unit (Chosen t _) = is_activity unit t.0
+is_kept_for_persons unit (Opened t _) = is_activity unit t.0
+is_kept_for_persons unit (Mark r _) =
+    is_some_and (λ rule. is_for_persons (kind_of rule)) (slice_get (rules_of unit) r.0)
+is_kept_for_persons unit _ = false
+
 -- ---- which values they may have
 
 -- A datatype whose values are all those of the type: texts of three datatypes are of one type.
@@ -125,10 +152,17 @@ pub record IsRunOf (unit : Course) (seen : Seen) : Type 0 where
 
 -- ---- how they begin
 
--- A property's initial value; of a global one, what the store holds, for the person of this name.
+-- What the store holds of a global property: for the person of this name where each person has an own
+-- value, and else for no person in particular.
+abbrev pub stored_value : GlobalValues → Option (List ℕ) → Property → Option Datum
+stored_value store person property = if same_truth (is_personal property.kind) (is_some person)
+    then (property.uri >>= λ uri. store uri person)
+    else None
+
+-- A property's initial value; of a global one, what the store holds.
 abbrev pub property_begins : GlobalValues → Option (List ℕ) → Property → Option Datum
 property_begins store person property =
-    if is_global property.kind then (property.uri >>= λ uri. store uri person) else initial_of property
+    if is_global property.kind then stored_value store person property else initial_of property
 
 -- A condition has not been judged; no other rule has said yes.
 abbrev pub mark_begins : Rule → Option Datum

@@ -1,13 +1,15 @@
 -- The state of a run, and what is seen of it.
-use Rattle.std.specs.Prelude.{ℕ, ℤ, pos, List, [], length, Option, Some, None, ◌≡◌, Contains}
+use Rattle.std.specs.Prelude.{ℕ, ℤ, pos, List, [], ◌∷◌, ◌++◌, length, Option, Some, None, Bool, false, ◌&&◌, nat_eq, if◌then◌else◌}
 use Rattle.ld_value.specs.Datum.{Datum, truth_datum, number_datum}
 use Rattle.ld_model.specs.Cells.{CellMap, put_cell}
 use Rattle.ld_model.specs.declared.cell.CellName.{CellName}
 use Rattle.ld_model.specs.declared.cell.CellName.TheVariants.{Prop, Vis, Member, Chosen, Opened, ActOpened, Started, Mark, Now, Roster}
+use Rattle.ld_model.specs.declared.cell.Owner.{Owner}
+use Rattle.ld_model.specs.declared.cell.Owner.TheVariants.{Run, Person}
 use Rattle.ld_model.specs.declared.unit.Unit.{Unit as Course}
 use Rattle.ld_expr.specs.Seen.{Seen}
-use Rattle.ld_roles.specs.Roster.{Persons, is_member_in}
-use Rattle.ld_state.specs.RunCells.{begins_as, all_cells}
+use Rattle.ld_roles.specs.Roster.{Persons, is_member_in, newcomer, with_role, changed_at}
+use Rattle.ld_state.specs.RunCells.{begins_as, is_kept_by_run, is_kept_for_persons}
 use Rattle.ld_state.specs.GlobalValues.{GlobalValues}
 
 -- A notice: when it was sent, its subject, the number of its activity, and the numbers of the persons whom
@@ -48,13 +50,52 @@ with_cell s name value = record s { cells = put_cell s.cells name value }
 
 -- The state of a run with so many seats that is made at this moment.
 abbrev pub made_at : ℕ → Course → GlobalValues → ℤ → RunState
-made_at seats unit store moment =
-    record { seats = seats; persons = []; outbox = []; cells = begins_as unit store None moment }
+made_at seats unit store moment = record {
+  seats = seats;
+  persons = [];
+  outbox = [];
+  cells = λ cell. if is_kept_by_run unit cell then begins_as unit store None moment cell else None;
+}
 
--- Two states of a unit are one where they agree on seats, persons, outbox and each cell that they have.
-pub record IsSameRun (unit : Course) (s t : RunState) : Type 0 where
-  pub seats : s.seats ≡ t.seats
-  pub persons : s.persons ≡ t.persons
-  pub outbox : s.outbox ≡ t.outbox
-  pub cells :
-      (name : CellName) → Contains (all_cells unit (length s.persons)) name → s.cells name ≡ t.cells name
+-- ---- persons
+
+abbrev pub is_owned_by : ℕ → Owner → Bool
+is_owned_by p Run = false
+is_owned_by p (Person q) = nat_eq q.0 p
+
+-- The cell is one of the person of this number.
+abbrev pub is_cell_of : ℕ → CellName → Bool
+is_cell_of p (Prop _ owner) = is_owned_by p owner
+is_cell_of p (Vis _ q) = nat_eq q.0 p
+is_cell_of p (Member _ q) = nat_eq q.0 p
+is_cell_of p (Chosen _ owner) = is_owned_by p owner
+is_cell_of p (Opened _ owner) = is_owned_by p owner
+is_cell_of p (Mark _ owner) = is_owned_by p owner
+is_cell_of p (ActOpened _) = false
+is_cell_of p Started = false
+is_cell_of p Now = false
+is_cell_of p Roster = false
+
+-- The cell is one of which a value is kept for the person of this number.
+abbrev pub is_kept_for : Course → ℕ → CellName → Bool
+is_kept_for unit p cell = is_cell_of p cell && is_kept_for_persons unit cell
+
+-- The person of this name joins, last of all, with new cells.
+abbrev pub joined : Course → GlobalValues → RunState → ℤ → List ℕ → RunState
+joined unit store s moment name = record {
+  seats = s.seats;
+  persons = s.persons ++ newcomer name ∷ [];
+  outbox = s.outbox;
+  cells =
+      λ cell. if is_kept_for unit (length s.persons) cell
+      then begins_as unit store (Some name) moment cell
+      else s.cells cell;
+}
+
+-- The person holds the role, or no longer does.
+abbrev pub holding : RunState → ℕ → ℕ → Bool → RunState
+holding s p role held = record s { persons = changed_at (with_role role held) p s.persons }
+
+-- The notice is sent.
+abbrev pub with_notice : RunState → NoticeState → RunState
+with_notice s notice = record s { outbox = s.outbox ++ notice ∷ [] }

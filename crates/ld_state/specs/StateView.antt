@@ -1,18 +1,20 @@
 -- What contracts see of the state of a run.
-use Rattle.std.specs.Prelude.{◌≡◌, ◌<◌, ◌≤◌, ◌^◌, ℕ, ℤ, pos, List, length, map, take, Option, Some, None, Bool, true, false, is_some, IfSome}
+use Rattle.std.specs.Prelude.{◌≡◌, ◌<◌, ◌+◌, ◌^◌, ℕ, pos, List, ◌∷◌, length, map, filter, filter_map, take, not, Option, Some, None, Bool, true, false, is_some, IfSome}
 use Rattle.std.specs.Option.{option_map}
 use Rattle.ld_base.specs.Maybe.{◌>>=◌}
-use Rattle.ld_value.specs.Datum.{Datum, truth_datum, number_datum}
+use Rattle.ld_value.specs.Datum.{Datum, truth_datum, number_datum, same_truth}
 use Rattle.ld_cells.specs.Stored.{Kept, held_at}
 use Rattle.ld_model.specs.Cells.{CellMap}
+use Rattle.ld_model.specs.Counting.{numbers_below}
 use Rattle.ld_model.specs.declared.cell.CellName.{CellName}
 use Rattle.ld_model.specs.declared.cell.CellName.TheVariants.{Prop, Vis, Member, Chosen, Opened, ActOpened, Started, Mark, Now, Roster}
+use Rattle.ld_model.specs.declared.unit.Unit.{Unit as Course}
 use Rattle.ld_expr.specs.Seen.{member_cell}
 use Rattle.ld_roles.specs.Kept.{PersonRow, persons_of}
 use Rattle.ld_roles.specs.Membership.{is_member_among}
-use Rattle.ld_roles.specs.RoleBounds.{RoleBounds}
+use Rattle.ld_roles.specs.RoleBounds.{RoleBounds, role_bounds}
 use Rattle.ld_roles.specs.declared.limit.TheConstants.{SEATS}
-use Rattle.ld_state.specs.Layout.{Layout, cells_in, slot_in}
+use Rattle.ld_state.specs.Layout.{Layout, layout_of, cell_for, cells_in, slot_in}
 use Rattle.ld_state.specs.RunState.{RunState, NoticeState}
 
 -- What `undo` gives back: persons, notices and cells at the mark, and the spare there.
@@ -38,10 +40,10 @@ pub record StateView : Type 0 where
 abbrev pub value_at : Layout → ℕ → List (Option Datum) → CellMap
 value_at layout persons cells name = slot_in layout persons name >>= held_at cells
 
--- The same values, but what follows from the persons stands as it began.
+-- The same values, but none of what follows from the persons.
 abbrev pub own_values : CellMap → CellMap
-own_values cells (Member r p) = Some (truth_datum false)
-own_values cells Roster = Some (number_datum (pos 0))
+own_values cells (Member r p) = None
+own_values cells Roster = None
 own_values cells (Prop n owner) = cells (Prop n owner)
 own_values cells (Vis t p) = cells (Vis t p)
 own_values cells (Chosen t owner) = cells (Chosen t owner)
@@ -106,6 +108,15 @@ is_following Now = false
 
 -- ---- what is always so
 
+-- Cells and roles are those of the unit.
+pub record IsStateOf (unit : Course) (s : StateView) : Type 0 where
+  pub layout : s.layout ≡ layout_of unit
+  pub roles : s.roles ≡ role_bounds unit
+
+-- There is no mark, or no person has joined since, and no role was given or taken.
+abbrev pub HasMarkedPersons : StateView → Type 0
+HasMarkedPersons s = IfSome s.kept (λ kept. kept.rows ≡ s.rows)
+
 -- There is a value for each cell, and what follows from the persons is kept so.
 pub record IsFollowing (layout : Layout) (roles : List RoleBounds) (rows : List PersonRow) (cells : List (Option Datum)) : Type 0 where
   pub count : length cells ≡ length (cells_in layout (length rows))
@@ -124,3 +135,27 @@ kept_by cells persons sent outbox = do
   rows ← persons
   count ← sent
   Some (record { rows = rows; outbox = take count outbox; cells = at.cells; spare = at.spare })
+
+-- ---- what is told when persons join, or when they get or lose a role
+
+-- The slots of these cells, in a run with so many persons.
+abbrev pub slots_among : Layout → ℕ → List CellName → List ℕ
+slots_among layout persons cells = filter_map (slot_in layout persons) cells
+
+-- Where one more person joins: the slot of `Roster`, and those of the newcomer's cells in their order.
+abbrev pub slots_of_newcomer : StateView → List ℕ
+slots_of_newcomer s =
+    let newcomer = length s.rows in
+    slots_among s.layout (newcomer + 1) (Roster ∷ map (cell_for newcomer) s.layout.own)
+
+-- The roles of which the person is a member in one of the two states alone, in their order.
+abbrev pub roles_changed : StateView → StateView → ℕ → List ℕ
+roles_changed s t p = filter
+    (λ r. not (same_truth
+    (is_member_among s.roles (persons_of s.rows) r p)
+    (is_member_among t.roles (persons_of t.rows) r p)))
+    (numbers_below (length s.roles))
+
+abbrev pub slots_of_membership : StateView → StateView → ℕ → List ℕ
+slots_of_membership s t p =
+    slots_among s.layout (length s.rows) (map (λ r. member_cell r p) (roles_changed s t p))

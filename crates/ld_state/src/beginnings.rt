@@ -14,17 +14,18 @@ use ld_model::property::PropertyKind;
 use ld_model::unit::Unit;
 use ld_names::names::Names;
 use ld_names::rule::Rule;
-use ld_names::thing::ThingEntry;
 use ld_value::moment::Moment;
 use ld_value::value::Value;
 use std::alloc::Global;
 
-/// What the beginnings of a unit's cells are made from: the unit, its names, things and rules.
+/// What the beginnings of a unit's cells are made from: the unit, its names, what of it is shown at
+/// first, and its rules.
 #[derive(Clone, Copy)]
 pub struct Beginnings<'a> {
     pub unit: &'a Unit,
     pub names: &'a Names,
-    pub things: &'a [ThingEntry<'a>],
+    /// Of each thing whether it is visible at first, where it is shown and hidden.
+    pub shown: &'a [Option<bool>],
     pub rules: &'a [Rule],
 }
 
@@ -85,8 +86,8 @@ impl<'a> Beginnings<'a> {
         requires { AreOfUnit self.now }
         ensures { held result ≡ begin_of_thing self.now.unit.now thing }
     {
-        let entry = self.things.get(thing)?;
-        Some(Value::Bool(entry.visible?))
+        let visible = self.shown.get(thing)?;
+        Some(Value::Bool((*visible)?))
     }
 
     /// What the mark of the rule is at first.

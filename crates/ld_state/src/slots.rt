@@ -6,7 +6,7 @@ ghost use Rattle.ld_names.specs.Identifiers.{role_identifiers_in, role_identifie
 ghost use Rattle.ld_state.specs.Codes.{code_of, coded_number};
 ghost use Rattle.ld_model.specs.declared.unit.Unit.{Unit as Course};
 ghost use Rattle.ld_state.specs.RunCells.{slot_of};
-ghost use Rattle.ld_state.specs.Layout.{cells_in, layout_of, slot_in};
+ghost use Rattle.ld_state.specs.Layout.{AreRolesOf, cells_in, layout_of, slot_in};
 
 use crate::code::owner_of;
 use crate::index::Index;
@@ -31,6 +31,8 @@ pub struct Slots {
     run: Index,
     /// The cells of the first person, as which those of each other person are.
     own: Index,
+    /// The number of the unit's roles.
+    roles: u32,
 }
 
 impl Model for Slots {
@@ -39,16 +41,18 @@ impl Model for Slots {
     ghost Value = { Layout };
 
     ghost use Rattle.ld_state.specs.Codes.{AreOf};
+    ghost use Rattle.ld_state.specs.Layout.{AreRolesOf};
 
     ghost view = { λ s. record { run = s.run; own = s.own } };
 
-    ghost invariant = { λ s. AreOf 0 s.run × AreOf 1 s.own };
+    ghost invariant = { λ s. AreOf 0 s.run × AreOf 1 s.own
+        × AreRolesOf (record { run = s.run; own = s.own }) s.roles };
 }
 
 impl Slots {
     /// The slots of the unit, whose listing it is. It takes time and memory as the size of the
     /// listing.
-    #[tactic(auto, using(crate::proofs::Owned::run_are_of, crate::proofs::Owned::own_are_of, crate::proofs::Owned::count_listed))]
+    #[tactic(auto, using(crate::proofs::Owned::run_are_of, crate::proofs::Owned::own_are_of, crate::proofs::Owned::count_listed, crate::proofs::Owned::roles_are))]
     pub fn of(alloc: Global, unit: &Unit, listing: &Listing<'_>) -> Result<Slots, NoMemory>
         requires { listing.now ≡ parts_of unit.now }
         ensures { IfOk result (λ slots. slots ≡ layout_of unit.now) }
@@ -61,6 +65,7 @@ impl Slots {
         Ok(Slots {
             run: Index::of(alloc, run)?,
             own: Index::of(alloc, own)?,
+            roles,
         })
     }
 
@@ -85,6 +90,21 @@ impl Slots {
         ensures few { length result.now < 2 ^ 32 }
     {
         self.run.cells()
+    }
+
+    /// The cells of the first person.
+    pub(crate) fn own_cells(&self) -> &[CellName]
+        ensures cells { result.now ≡ self.now.own }
+        ensures few { length result.now < 2 ^ 32 }
+    {
+        self.own.cells()
+    }
+
+    /// The number of the unit's roles.
+    pub(crate) fn roles(&self) -> u32
+        ensures { AreRolesOf self.now result }
+    {
+        self.roles
     }
 
     /// The slot of the cell of the person.

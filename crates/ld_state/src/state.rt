@@ -1,19 +1,27 @@
 //! The state of a run.
 ghost use Rattle.std.specs.Prelude.{◌≡◌, ◌<◌, ◌≤◌, ◌+◌, ◌++◌, ◌∷◌, [], ℕ, List, length, map, true, false, Some, None, Option, is_some, option_map, IfOk, IfSome, OnOk, OnErr, IsOk, IsSome, vec_len, vec_capacity};
 ghost use Rattle.ld_cells.specs.Stored.{cells_of, held};
+ghost use Rattle.ld_model.specs.declared.unit.Unit.{Unit as Course};
+ghost use Rattle.ld_roles.specs.Kept.{persons_of};
+ghost use Rattle.ld_roles.specs.Persons.{holds_role};
+ghost use Rattle.ld_roles.specs.Refusals.{assign_fault, enrol_fault};
 ghost use Rattle.ld_roles.specs.declared.limit.TheConstants.{SEATS};
 ghost use Rattle.ld_state.specs.Beginnings.{AreOfUnit, stored_for};
 ghost use Rattle.ld_state.specs.GlobalValues.{GlobalValues};
 ghost use Rattle.ld_state.specs.Layout.{layout_of, slot_in};
-ghost use Rattle.ld_state.specs.Notices.{notices_of};
-ghost use Rattle.ld_state.specs.RunState.{IsSameRun, made_at, with_cell};
-ghost use Rattle.ld_state.specs.StateView.{has_cell, is_following, marked, run_before, run_of};
+ghost use Rattle.ld_state.specs.Notices.{notice_of, notices_of};
+ghost use Rattle.ld_state.specs.RunState.{holding, joined, made_at, with_cell, with_notice};
+ghost use Rattle.ld_state.specs.StateView.{HasMarkedPersons, IsStateOf, has_cell, is_following, marked, run_before, run_of, slots_of_membership, slots_of_newcomer};
 
 use crate::beginnings::Beginnings;
+use crate::membership::{reserve_memberships, write_memberships};
+use crate::newcomer::{add_newcomer, begin_own, reserve_newcomer};
 use crate::notice::OutNotice;
 use crate::slots::Slots;
 use crate::writing::{begin_cells, write};
+use ld_base::id::Id;
 use ld_base::memory::NoMemory;
+use ld_base::numbers::{PersonNo, RoleNo};
 use ld_base::steps::Steps;
 use ld_cells::cells::Cells;
 use ld_model::cell::CellName;
@@ -23,13 +31,14 @@ use ld_value::moment::Moment;
 use ld_value::value::Value;
 use std::alloc::Global;
 use std::marker::Model;
+use std::rc::Rc;
 use std::sync::ledger::Ledger;
 
 /// The state of a run: its cells, its persons with the roles that they hold, and the notices that it
 /// has sent. Under a mark all changes can be taken back. (docs/MEANING.md, "The state of a run")
 #[derive(Drop)]
 pub struct State {
-    slots: Slots,
+    slots: Rc<Slots>,
     cells: Cells,
     roster: Roster,
     outbox: Vec<OutNotice>,
@@ -44,9 +53,9 @@ impl Model for State {
 
     ghost use Rattle.ld_state.specs.Parts.{IsState, state_of};
 
-    ghost view = { λ s. state_of s.slots s.cells s.roster s.outbox.items s.sent };
+    ghost view = { λ s. state_of s.slots.value s.cells s.roster s.outbox.items s.sent };
 
-    ghost invariant = { λ s. IsState s.slots s.cells s.roster s.outbox.items s.sent };
+    ghost invariant = { λ s. IsState s.slots.value s.cells s.roster s.outbox.items s.sent };
 }
 
 impl State {
@@ -54,20 +63,20 @@ impl State {
     /// mark. `slots` are the unit's, and `stored` has what the store holds of each global property.
     pub fn new(
         alloc: Global,
-        slots: Slots,
+        slots: Rc<Slots>,
         from: &Beginnings<'_>,
         stored: &[Option<Value>],
         moment: Moment,
     ) -> Result<State, NoMemory>
         requires unit { AreOfUnit from.now }
-        requires slots { slots ≡ layout_of from.now.unit.now }
+        requires slots { slots.value ≡ layout_of from.now.unit.now }
         requires stored { (store : GlobalValues)
             × (cells_of stored.now ≡ stored_for store None from.now.unit.now.properties) }
         ensures run { (store : GlobalValues)
             → cells_of stored.now ≡ stored_for store None from.now.unit.now.properties
-            → IfOk result (λ state. IsSameRun from.now.unit.now (run_of state)
-            (made_at SEATS from.now.unit.now store moment.0)) }
-        ensures layout { IfOk result (λ state. state.layout ≡ slots) }
+            → IfOk result (λ state. run_of state
+            ≡ made_at SEATS from.now.unit.now store moment.0) }
+        ensures unit { IfOk result (IsStateOf from.now.unit.now) }
         ensures unmarked { IfOk result (λ state. state.kept ≡ None) }
     {
         let cells = begin_cells(alloc, slots.run_cells(), from, stored, moment)?;
@@ -133,6 +142,122 @@ impl State {
             Some(slot) => write(&mut self.cells, slot, value, changed),
             None => unreachable!(),
         }
+    }
+
+    /// The person joins, last of all, with new cells, and gets the next number. `from` is of the
+    /// run's unit, and `stored` has what the store holds of each global property for the person. The
+    /// slots of the new cells and that of `Roster` are told. A refusal, for want of memory, changes
+    /// nothing.
+    pub fn enrol(
+        &mut self,
+        alloc: Global,
+        from: &Beginnings<'_>,
+        person: &Id,
+        stored: &[Option<Value>],
+        moment: Moment,
+        changed: &mut Vec<u32>,
+    ) -> Result<PersonNo, NoMemory>
+        requires unit { AreOfUnit from.now }
+        requires own { IsStateOf from.now.unit.now self.old }
+        requires stored { (store : GlobalValues) × (cells_of stored.now
+            ≡ stored_for store (Some person.now) from.now.unit.now.properties) }
+        requires seat { enrol_fault SEATS (persons_of self.old.rows) person.now ≡ None }
+        requires marked { HasMarkedPersons self.old }
+        ensures number { IfOk result (λ number. number.0 ≡ length self.old.rows) }
+        ensures run { (store : GlobalValues) → cells_of stored.now
+            ≡ stored_for store (Some person.now) from.now.unit.now.properties
+            → OnOk result (run_of self.new
+            ≡ joined from.now.unit.now store (run_of self.old) moment.0 person.now) }
+        ensures changed { OnOk result (changed.new.items
+            ≡ changed.old.items ++ slots_of_newcomer self.old) }
+        ensures rows { OnOk result (length self.new.rows ≡ length self.old.rows + 1) }
+        ensures same { IsStateOf from.now.unit.now self.new }
+        ensures kept { self.new.kept ≡ self.old.kept }
+        ensures err { OnErr result (self.new ≡ record self.old { spare = self.new.spare }) }
+        ensures untold { OnErr result (changed.new.items ≡ changed.old.items) }
+        ensures spare { self.old.spare ≤ self.new.spare + 1 }
+    {
+        reserve_newcomer(&self.slots, &mut self.cells, changed)?;
+        let values = begin_own(alloc, self.slots.own_cells(), from, stored, moment)?;
+        let persons = self.roster.persons();
+        let Ok(number) = self.roster.enrol(person) else {
+            return Err(NoMemory);
+        };
+        add_newcomer(&self.slots, persons, &mut self.cells, values, changed);
+        Ok(number)
+    }
+
+    /// The person holds the role from now on. The slots of the `Member` cells that change are told, in
+    /// the order of the roles. A refusal, for want of memory, changes nothing.
+    pub fn assign(
+        &mut self,
+        person: PersonNo,
+        role: RoleNo,
+        changed: &mut Vec<u32>,
+    ) -> Result<(), NoMemory>
+        requires unit { (unit : Course) × IsStateOf unit self.old }
+        requires person { person.0 < length self.old.rows }
+        requires role { role.0 < length self.old.roles }
+        requires may { assign_fault self.old.roles (persons_of self.old.rows) role.0 person.0 ≡ None }
+        requires marked { HasMarkedPersons self.old }
+        ensures run { OnOk result (run_of self.new ≡ holding (run_of self.old) person.0 role.0 true) }
+        ensures changed { OnOk result (changed.new.items ≡ changed.old.items
+            ++ slots_of_membership self.old self.new person.0) }
+        ensures rows { length self.new.rows ≡ length self.old.rows }
+        ensures layout { self.new.layout ≡ self.old.layout }
+        ensures roles { self.new.roles ≡ self.old.roles }
+        ensures kept { self.new.kept ≡ self.old.kept }
+        ensures err { OnErr result (self.new ≡ record self.old { spare = self.new.spare }) }
+        ensures untold { OnErr result (changed.new.items ≡ changed.old.items) }
+    {
+        reserve_memberships(&self.slots, &mut self.cells, changed)?;
+        let Ok(()) = self.roster.assign(person, role) else {
+            unreachable!();
+        };
+        write_memberships(&self.slots, &self.roster, person, &mut self.cells, changed);
+        Ok(())
+    }
+
+    /// The person holds the role no longer. The slots of the `Member` cells that change are told, in
+    /// the order of the roles. A refusal, for want of memory, changes nothing. Whether a role would be
+    /// short of members is not asked here.
+    pub fn drop_role(
+        &mut self,
+        person: PersonNo,
+        role: RoleNo,
+        changed: &mut Vec<u32>,
+    ) -> Result<(), NoMemory>
+        requires unit { (unit : Course) × IsStateOf unit self.old }
+        requires person { person.0 < length self.old.rows }
+        requires role { role.0 < length self.old.roles }
+        requires held { holds_role (persons_of self.old.rows) role.0 person.0 ≡ true }
+        requires marked { HasMarkedPersons self.old }
+        ensures run { OnOk result (run_of self.new ≡ holding (run_of self.old) person.0 role.0 false) }
+        ensures changed { OnOk result (changed.new.items ≡ changed.old.items
+            ++ slots_of_membership self.old self.new person.0) }
+        ensures rows { length self.new.rows ≡ length self.old.rows }
+        ensures layout { self.new.layout ≡ self.old.layout }
+        ensures roles { self.new.roles ≡ self.old.roles }
+        ensures kept { self.new.kept ≡ self.old.kept }
+        ensures err { OnErr result (self.new ≡ record self.old { spare = self.new.spare }) }
+        ensures untold { OnErr result (changed.new.items ≡ changed.old.items) }
+    {
+        reserve_memberships(&self.slots, &mut self.cells, changed)?;
+        let Ok(()) = self.roster.drop_role(person, role, false) else {
+            unreachable!();
+        };
+        write_memberships(&self.slots, &self.roster, person, &mut self.cells, changed);
+        Ok(())
+    }
+
+    /// Sends the notice. A refusal, for want of memory, changes nothing.
+    pub fn send(&mut self, notice: OutNotice) -> Result<(), NoMemory>
+        ensures run { OnOk result (run_of self.new ≡ with_notice (run_of self.old) (notice_of notice)) }
+        ensures rest { OnOk result (self.new ≡ record self.old { outbox = self.new.outbox }) }
+        ensures err { OnErr result (self.new ≡ self.old) }
+    {
+        self.outbox.push(notice)?;
+        Ok(())
     }
 
     /// Keeps the present state, to which `undo` goes back. It takes no memory.

@@ -60,6 +60,7 @@ pub(crate) fn write(
     ensures spare { cells.old.spare ≤ cells.new.spare + 1 }
     ensures unmarked { cells.old.kept ≡ None → cells.new.spare ≡ cells.old.spare }
     ensures room { vec_capacity changed.old ≤ vec_capacity changed.new }
+    ensures cell_room { cells.new.room ≡ cells.old.room }
 {
     changed.reserve(1)?;
     if cells.write(slot, value)? {

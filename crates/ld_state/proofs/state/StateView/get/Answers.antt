@@ -10,7 +10,7 @@ read-requires g c =
     let state = c.self.inside in
     let found = subst (λ (s : StateView). slot_in s.layout (length s.rows) c.args.cell ≡ Some c.in-Some.slot)
     (sym c.self.view_is) (sym c.slot.ensures ∙ c.in-Some.is) in
-    holds_slot state.slots state.roster.roles state.roster.rows state.cells.cells c.self.invariant.now
+    holds_slot state.slots.value state.roster.roles state.roster.rows state.cells.cells c.self.invariant.now
     c.in-Some.slot c.args.cell found
 
 pub returns-clause-value : goal.returns-clause-value
@@ -19,6 +19,6 @@ returns-clause-value g c =
     let found = subst (λ (s : StateView). slot_in s.layout (length s.rows) c.args.cell ≡ Some c.in-Some.slot)
     (sym c.self.view_is) (sym c.slot.ensures ∙ c.in-Some.is) in
     sym c.read.ensures.value
-    ∙ seen_at (state_of state.slots state.cells state.roster state.outbox.items state.sent) c.self.invariant.now
+    ∙ seen_at (state_of state.slots.value state.cells state.roster state.outbox.items state.sent) c.self.invariant.now
     c.in-Some.slot c.args.cell found
     ∙ ap (λ s. cells_seen s c.args.cell) c.self.view_is
