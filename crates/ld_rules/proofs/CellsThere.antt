@@ -117,6 +117,14 @@ module _ (unit : Course) (persons : ℕ) where
       (in_left (each_numbered (own_thing_cells p) (things_of unit)) _ c
       (in_each (own_thing_cells p) (things_of unit) n entry c at inside)))
 
+  -- What a person sees of a thing that is shown and hidden.
+  pub visibility_there : (n : ℕ) (entry : Entry) (p : ℕ) → slice_get (things_of unit) n ≡ Some entry
+      → is_some entry.visible ≡ true → p < persons → IsIn (all_cells unit persons) (visibility_cell n p)
+  visibility_there n entry p at shown below =
+      of_thing n entry p at below (visibility_cell n p)
+      (in_left (cell_if (is_some entry.visible) (visibility_cell n p)) _ (visibility_cell n p)
+      (listed (is_some entry.visible) (visibility_cell n p) shown))
+
   -- Whether a person has said that an activity is completed, and when the person first opened it.
   pub chosen_there : (n : ℕ) (entry : Entry) (p : ℕ) → slice_get (things_of unit) n ≡ Some entry
       → is_activity_place entry.place ≡ true → p < persons → IsIn (all_cells unit persons) (chosen_cell n p)

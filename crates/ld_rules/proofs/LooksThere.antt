@@ -77,7 +77,7 @@ module _ (unit : Course) (persons p : ℕ) (below : p < persons) where
       (opened_there unit persons thing.number thing.entry p thing.at (ap is_activity_place thing.placed ∙ named.such) below)
 
   mutual
-    term_there : (at : At) (of_members clock : Bool) (term : TermOf)
+    pub term_there : (at : At) (of_members clock : Bool) (term : TermOf)
         → AreMet unit (term_parts at of_members clock term)
         → AreCells unit persons (term_looks unit (of_person p) term)
     term_there at m clock (property_term id) met = property_looks_there unit persons p id below

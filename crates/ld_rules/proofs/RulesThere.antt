@@ -42,7 +42,7 @@ use Rattle.ld_rules.proofs.Named.{IsThing, done_there, run_done_there, members_l
 use Rattle.ld_rules.proofs.MetChecks.{AreMet, MeetsChecks, declared_thing, activity_listed, condition_listed, method_listed, play_listed, act_listed}
 use Rattle.ld_rules.proofs.Sites.{IsOwner, a_person, the_run}
 
-cells_from : {A : Type 0} → (unit : Course) (persons : ℕ) (looks : A → List CellName) (o : Option A)
+pub cells_from : {A : Type 0} → (unit : Course) (persons : ℕ) (looks : A → List CellName) (o : Option A)
     → ((x : A) → o ≡ Some x → AreCells unit persons (looks x)) → AreCells unit persons (list_from looks o)
 cells_from unit persons looks None each c inside = absurd inside
 cells_from unit persons looks (Some x) each c inside = each x refl c inside
@@ -97,7 +97,7 @@ module _ (unit : Course) (meets : MeetsChecks unit) where
 
   -- ---- where no check finds a fault
 
-  activity_met : (n : ℕ) (activity : ActivityOf) → slice_get unit.activities n ≡ Some activity
+  pub activity_met : (n : ℕ) (activity : ActivityOf) → slice_get unit.activities n ≡ Some activity
       → AreMet unit (ending_parts (nth (root file.Activities) (codes "activities") n) (kind.Thing (Activity n)) activity.complete activity.on_completion)
   unfolding activity_parts_at
   activity_met n activity at part inside =
@@ -106,7 +106,7 @@ module _ (unit : Course) (meets : MeetsChecks unit) where
       (inr (in_right (parts_before_items place activity) _ part
       (in_right (items_parts place (codes "items") activity.items) _ part inside))))
 
-  act_met : (p a : ℕ) (act : ActOf) → IsAct unit p a act
+  pub act_met : (p a : ℕ) (act : ActOf) → IsAct unit p a act
       → AreMet unit (ending_parts (nth (nth method_at (codes "plays") p) (codes "acts") a) (kind.Thing (Act p a)) act.complete act.on_completion)
   unfolding act_parts_at
   act_met p a act found part inside =
@@ -114,14 +114,14 @@ module _ (unit : Course) (meets : MeetsChecks unit) where
       (inr (in_right (each_numbered (role_part_parts
       (nth (nth method_at (codes "plays") p) (codes "acts") a) p a) act.role_parts) _ part inside)))
 
-  play_met : (p : ℕ) (play : PlayOf) → slice_get unit.method.plays p ≡ Some play
+  pub play_met : (p : ℕ) (play : PlayOf) → slice_get unit.method.plays p ≡ Some play
       → AreMet unit (ending_parts (nth method_at (codes "plays") p) (kind.Thing (Play p)) play.complete play.on_completion)
   unfolding play_parts_at
   play_met p play at part inside =
       meets.met part (play_listed unit p play part at
       (inr (in_right (each_numbered (act_parts (nth method_at (codes "plays") p) p) play.acts) _ part inside)))
 
-  unit_met : AreMet unit (ending_parts method_at kind.Unit unit.method.complete unit.method.on_completion)
+  pub unit_met : AreMet unit (ending_parts method_at kind.Unit unit.method.complete unit.method.on_completion)
   unfolding method_parts
   unit_met part inside =
       meets.met part (method_listed unit part (in_right (each_numbered (play_parts method_at) unit.method.plays) _ part inside))
@@ -190,7 +190,7 @@ module _ (unit : Course) (meets : MeetsChecks unit) where
 
     -- ---- rules for the run
 
-    opening_looked : (p a : ℕ) (act : ActOf) → IsAct unit p a act
+    pub opening_looked : (p a : ℕ) (act : ActOf) → IsAct unit p a act
         → AreCells unit seen.persons (cell_list (opening_cell unit act))
     opening_looked p a act found =
         let thing = act_is p a act found in

@@ -115,7 +115,7 @@ turn_sums_same unit n s k here there =
 sums_append : (y : System) (before after : List (Firing y)) → sums_of y (before ++ after) ≡ plus (sums_of y before) (sums_of y after)
 sums_append y before after = λ i. counted (length-append before after i) (sum_by-append (λ f. y.rejected f.before f.site) before after i) (sum_by-append (λ f. y.sent f.before f.site) before after i)
 
-sums_on : (y : System) (s : y.Situation) (k : ℕ) → sums_of y (all_firings y s (suc k)) ≡ plus (sums_of y (all_firings y s k)) (sums_of y (sweep_firings y (after_sweeps y s k)))
+pub sums_on : (y : System) (s : y.Situation) (k : ℕ) → sums_of y (all_firings y s (suc k)) ≡ plus (sums_of y (all_firings y s k)) (sums_of y (sweep_firings y (after_sweeps y s k)))
 unfolding all_firings
 sums_on y s k = sums_append y (all_firings y s k) (sweep_firings y (after_sweeps y s k))
 

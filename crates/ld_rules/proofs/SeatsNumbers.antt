@@ -21,7 +21,7 @@ kind_ascends seats persons rule OfPerson seat seated =
     widened (site_number seats) (rule * seats) (rule * seats + 0) (rule * seats + 0 + persons) (rule * seats + seats) (map (person_site rule) (numbers_below persons)) (omega arith) (omega (arith, seated)) (persons_ascend seats rule persons 0)
 kind_ascends seats persons rule OfRun seat seated = (omega arith, omega (arith, seat))
 
-rules_ascend : (seats persons n : ℕ) (rules : List Rule) → 0 < seats → persons ≤ seats → Ascends (site_number seats) (n * seats) (each_numbered_from (sites_of_rule persons) n rules) ((n + length rules) * seats)
+pub rules_ascend : (seats persons n : ℕ) (rules : List Rule) → 0 < seats → persons ≤ seats → Ascends (site_number seats) (n * seats) (each_numbered_from (sites_of_rule persons) n rules) ((n + length rules) * seats)
 rules_ascend seats persons n [] seat seated = omega arith
 rules_ascend seats persons n (rule ∷ rules) seat seated =
     ascends_on (site_number seats) (n * seats) (n * seats + seats) ((n + length (rule ∷ rules)) * seats) (sites_of_rule persons n rule) (each_numbered_from (sites_of_rule persons) (n + 1) rules)

@@ -33,11 +33,11 @@ pub record HasSite (unit : Course) (s : RunState) (i : ℕ) (site : Site) : Type
   pub owned : IsOwner (length s.persons) (is_for_persons (kind_of rule)) site.owner
 
 -- What is a site of the rule of a number.
-record IsOfRule (persons n : ℕ) (kind : RuleKind) (site : Site) : Type 0 where
-  number : site.rule ≡ n
-  owned : IsOwner persons (is_for_persons kind) site.owner
+pub record IsOfRule (persons n : ℕ) (kind : RuleKind) (site : Site) : Type 0 where
+  pub number : site.rule ≡ n
+  pub owned : IsOwner persons (is_for_persons kind) site.owner
 
-of_rule : (persons n : ℕ) (kind : RuleKind) (site : Site) → IsIn (sites_by_kind persons n kind) site
+pub of_rule : (persons n : ℕ) (kind : RuleKind) (site : Site) → IsIn (sites_by_kind persons n kind) site
     → IsOfRule persons n kind site
 of_rule persons n OfPerson site inside =
     let by = from_map (person_site n) (numbers_below persons) site inside in

@@ -72,15 +72,15 @@ change_for unit change doing owner =
     (value >>= if_fitting unit change.property)
 
 -- For whom a change is made: at the run's site of a personal property for each person, else for the owner.
-abbrev pub owners_of_change : RunState → Owner → Bool → List Owner
-owners_of_change s Run true = map of_person (numbers_below (length s.persons))
-owners_of_change s owner _ = owner ∷ []
+abbrev pub owners_of_change : ℕ → Owner → Bool → List Owner
+owners_of_change persons Run true = map of_person (numbers_below persons)
+owners_of_change persons owner _ = owner ∷ []
 
 abbrev pub is_of_persons : Course → List ℕ → Bool
 is_of_persons unit id = is_some_and (λ property. is_personal property.kind) (property_of unit id)
 
 abbrev pub targets_of : Course → RunState → Owner → ChangeOf → List Owner
-targets_of unit s owner change = owners_of_change s owner (is_of_persons unit change.property)
+targets_of unit s owner change = owners_of_change (length s.persons) owner (is_of_persons unit change.property)
 
 abbrev pub do_change : Course → Owner → Doing → ChangeOf → Doing
 do_change unit owner doing change =

@@ -1,13 +1,21 @@
-//! The state of a run, what its rules ask of it, and what follows when they fire. So far these are
-//! definitions, and the code that judges sites.
+//! What the rules of a unit ask of the state of a run, and what follows when they fire.
 #![tactic(auto)]
 
+mod actions;
+mod actor;
+mod changes;
 mod completion;
+pub mod firing;
 pub mod judge;
 mod members;
 mod method_rules;
+mod notices;
 mod person_rules;
 mod place;
+pub mod prepared;
 pub mod reach;
 mod role_parts;
+pub mod settling;
 pub mod site;
+mod sweep;
+mod totals;
