@@ -15,10 +15,11 @@ use Rattle.ld_roles.specs.Roster.{short_at_start}
 use Rattle.ld_state.specs.GlobalValues.{GlobalValues}
 use Rattle.ld_rules.specs.LawWords.{is_property}
 use Rattle.ld_rules.specs.RunSettling.{Settlement, run_settling}
-use Rattle.ld_state.specs.RunState.{RunState, with_cell}
+use Rattle.ld_state.specs.RunState.{RunState, with_cell, is_cell_of}
+use Rattle.ld_state.specs.RunCells.{begins_as, is_kept_for_persons}
 use Rattle.ld_rules.proofs.LawsCells.{property_cells}
 use Rattle.ld_rules.proofs.LawsOpenings.{settling_leaves_start}
-use Rattle.ld_run.specs.Changes.{directly_changed, is_cell_of}
+use Rattle.ld_run.specs.Changes.{directly_changed}
 use Rattle.ld_run.specs.Checks.{admitted, in_time, running, the_person, not_enrolled, has_seat, the_role, does_not_hold, holds_it, has_room, keeps_apart, none_short, shortage_if_running, the_activity, only_by_choice, the_property, the_cell, fitting_value, may_write, is_started}
 use Rattle.ld_run.specs.Commands.{Admitted, enrols, assigns, drops, starts, opens, completes, sets, clears, gets, shows_tree, shows_outbox, reports, ticks, has_change}
 use Rattle.ld_run.specs.Globals.{taking_in}
@@ -101,7 +102,8 @@ touches s reports cell = false
 touches s ticks cell = false
 
 pub change_leaves : (unit : Course) (store : GlobalValues) (s : RunState) (moment : ℤ) (command : Admitted) (cell : CellName) → touches s command cell ≡ false → (directly_changed unit store s moment command).cells cell ≡ s.cells cell
-change_leaves unit store s moment (enrols name) cell other = rw other refl
+change_leaves unit store s moment (enrols name) cell other =
+    ap (λ b. if b && is_kept_for_persons unit cell then begins_as unit store (Some name) moment cell else s.cells cell) other
 change_leaves unit store s moment (assigns p role) cell other = refl
 change_leaves unit store s moment (drops p role) cell other = refl
 change_leaves unit store s moment starts cell other = rw other refl

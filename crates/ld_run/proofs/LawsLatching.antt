@@ -15,13 +15,13 @@ use Rattle.ld_roles.specs.Roster.{newcomer, with_role}
 use Rattle.ld_rules.specs.Actions.{site_firing}
 use Rattle.ld_state.specs.GlobalValues.{GlobalValues}
 use Rattle.ld_rules.specs.LawWords.{is_marked, is_for_good, is_property, HasOwner}
-use Rattle.ld_state.specs.RunState.{RunState, with_cell}
+use Rattle.ld_state.specs.RunState.{RunState, with_cell, is_owned_by, is_cell_of}
 use Rattle.ld_rules.proofs.LawsCells.{owner_stays}
 use Rattle.ld_rules.proofs.LawsKept.{settling_keeps}
 use Rattle.ld_rules.proofs.LawsLatching.{firing_latches}
 use Rattle.ld_rules.proofs.LawsOpenings.{told_apart}
 use Rattle.ld_rules.proofs.SeatsKept.{persons_kept}
-use Rattle.ld_run.specs.Changes.{directly_changed, is_owned_by, is_cell_of, with_first}
+use Rattle.ld_run.specs.Changes.{directly_changed, with_first}
 use Rattle.ld_run.specs.Commands.{Admitted, enrols, assigns, drops, starts, opens, completes, sets, clears, gets, shows_tree, shows_outbox, reports, ticks}
 use Rattle.ld_run.specs.RunStep.{DoneCommand, run_step}
 use Rattle.ld_run.proofs.LawsKept.{Fits, touches, change_leaves, begun, IsLasting, step_keeps}

@@ -31,7 +31,7 @@ settled_grows unit true t = by (run_settling unit t) refl
     by (Some x) is = settling_sent unit t x is
 
 -- No direct change sends a notice.
-changed_outbox : (unit : Course) (store : GlobalValues) (s : RunState) (moment : ℤ) (command : Admitted) → (directly_changed unit store s moment command).outbox ≡ s.outbox
+pub changed_outbox : (unit : Course) (store : GlobalValues) (s : RunState) (moment : ℤ) (command : Admitted) → (directly_changed unit store s moment command).outbox ≡ s.outbox
 changed_outbox unit store s moment (enrols name) = refl
 changed_outbox unit store s moment (assigns p role) = refl
 changed_outbox unit store s moment (drops p role) = refl

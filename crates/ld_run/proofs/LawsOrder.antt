@@ -1,16 +1,20 @@
 -- In each state that a run comes to, an act but the first of its play is opened only where the act before it is
 -- done.
-use Rattle.std.proofs.Common.{◌≡◌, refl, sym, ap, ◌∙◌, ℕ, ℤ, Option, Some, None, Bool, true, false, is_some, option_map}
+use Rattle.std.proofs.Common.{◌≡◌, refl, sym, ap, ◌∙◌, ℕ, ℤ, Option, Some, None, Bool, true, false, cond, not, is_some, option_map, slice_get}
 use Rattle.ld_base.specs.Maybe.{◌>>=◌}
+use Rattle.ld_value.specs.Datum.{Datum}
 use Rattle.ld_model.specs.declared.cell.Owner.TheVariants.{Run}
 use Rattle.ld_model.specs.declared.method.Act.{Act}
 use Rattle.ld_model.specs.declared.unit.Unit.{Unit as Course}
+use Rattle.ld_names.specs.declared.rule.Rule.{Rule}
 use Rattle.ld_names.specs.Names.{thing_number}
-use Rattle.ld_expr.specs.Owners.{owner_of, is_person_rule}
+use Rattle.ld_names.specs.Rules.{rules_of, kind_of}
+use Rattle.ld_expr.specs.Lookup.{is_some_and}
+use Rattle.ld_expr.specs.Owners.{owner_of, is_for_persons, is_person_rule}
 use Rattle.ld_expr.specs.Seen.{says_yes, act_opened_cell, mark_cell}
 use Rattle.ld_state.specs.GlobalValues.{GlobalValues}
 use Rattle.ld_rules.specs.LawWords.{IsValid, IsInOrder, ActsOpenInOrder}
-use Rattle.ld_state.specs.RunCells.{begins_as, mark_begins}
+use Rattle.ld_state.specs.RunCells.{begins_as, mark_begins, is_kept_by_run}
 use Rattle.ld_state.specs.RunState.{RunState, made_at, seen_in, cell_of}
 use Rattle.ld_rules.specs.SiteTests.{is_opened}
 use Rattle.ld_state.proofs.Elements.{different}
@@ -71,14 +75,23 @@ none_opened : (unit : Course) (seats : ℕ) (store : GlobalValues) (moment : ℤ
 unfolding cell_of begins_as
 none_opened unit seats store moment act = by (thing_number unit act.identifier)
   where
+    either : (b : Bool) → ◌≡◌ {A = Option Datum} (cond b None None) None
+    either true = refl
+    either false = refl
+
     by : (o : Option ℕ) → is_some (option_map act_opened_cell o >>= cell_of unit (made_at seats unit store moment)) ≡ false
     by None = refl
-    by (Some thing) = refl
+    by (Some thing) = ap is_some (either (is_kept_by_run unit (act_opened_cell thing)))
 
 order_at_first : (unit : Course) (seats : ℕ) (store : GlobalValues) (moment : ℤ) → IsInOrder unit (made_at seats unit store moment)
 unfolding begins_as
 order_at_first unit seats store moment = record {
-  judged = λ rule p a ruled. (false, ap (λ found. found >>= mark_begins) ruled);
+  judged = λ rule p a ruled. (
+    false,
+    ap (λ b. cond b (slice_get (rules_of unit) rule >>= mark_begins) None)
+        (ap (λ (found : Option Rule). is_some_and (λ one. not (is_for_persons (kind_of one))) found) ruled)
+        ∙ ap (λ found. found >>= mark_begins) ruled,
+  );
   ordered = λ p a before act at next opened. different (sym opened ∙ none_opened unit seats store moment act);
 }
 

@@ -11,11 +11,11 @@ use Rattle.ld_names.specs.Rules.{rules_of}
 use Rattle.ld_expr.specs.Seen.{says_yes, act_opened_cell, opened_cell, mark_cell}
 use Rattle.ld_state.specs.GlobalValues.{GlobalValues}
 use Rattle.ld_rules.specs.LawWords.{is_property}
-use Rattle.ld_state.specs.RunCells.{begins_as, mark_begins}
-use Rattle.ld_state.specs.RunState.{RunState, made_at}
+use Rattle.ld_state.specs.RunCells.{begins_as, mark_begins, is_kept_by_run}
+use Rattle.ld_state.specs.RunState.{RunState, made_at, joined, is_kept_for}
 use Rattle.ld_state.proofs.Elements.{different}
 use Rattle.ld_rules.proofs.LawsOpenings.{told_apart, settling_leaves_start}
-use Rattle.ld_run.specs.Changes.{directly_changed, joined, is_owned_by}
+use Rattle.ld_run.specs.Changes.{directly_changed}
 use Rattle.ld_run.specs.Checks.{is_started}
 use Rattle.ld_run.specs.Commands.{Admitted, enrols, assigns, drops, starts, opens, completes, sets, clears, gets, shows_tree, shows_outbox, reports, ticks}
 use Rattle.ld_run.specs.Reached.{IsReached, IsUntouched}
@@ -38,25 +38,29 @@ unmarked_at_first (Some (CompletesPlay _)) = refl
 unmarked_at_first (Some CompletesUnit) = refl
 unmarked_at_first (Some (JudgesCondition _)) = refl
 
-untouched_at_first : (unit : Course) (seats : ℕ) (store : GlobalValues) (moment : ℤ) → IsUntouched (made_at seats unit store moment)
-unfolding begins_as
-untouched_at_first unit seats store moment = record {
-  unmarked = λ rule owner. unmarked_at_first (slice_get (rules_of unit) rule);
-  no_act = λ thing. refl;
-  no_activity = λ thing owner. refl;
-  no_notice = refl;
-}
-
 either : {A : Type 0} (b : Bool) (x y v : A) → x ≡ v → y ≡ v → cond b x y ≡ v
 either true x y v this that = this
 either false x y v this that = that
 
+untouched_at_first : (unit : Course) (seats : ℕ) (store : GlobalValues) (moment : ℤ) → IsUntouched (made_at seats unit store moment)
+unfolding begins_as
+untouched_at_first unit seats store moment = record {
+  unmarked = λ rule owner. by (slice_get (rules_of unit) rule) (is_kept_by_run unit (mark_cell rule owner));
+  no_act = λ thing. either (is_kept_by_run unit (act_opened_cell thing)) None None None refl refl;
+  no_activity = λ thing owner. refl;
+  no_notice = refl;
+}
+  where
+    by : (found : Option Rule) (b : Bool) → says_yes (cond b (found >>= mark_begins) None) ≡ false
+    by found true = unmarked_at_first found
+    by found false = refl
+
 joined_untouched : (unit : Course) (store : GlobalValues) (s : RunState) (moment : ℤ) (name : List ℕ) → IsUntouched s → IsUntouched (joined unit store s moment name)
 unfolding begins_as
 joined_untouched unit store s moment name untouched = record {
-  unmarked = λ rule owner. by rule owner (is_owned_by (length s.persons) owner);
+  unmarked = λ rule owner. by rule owner (is_kept_for unit (length s.persons) (mark_cell rule owner));
   no_act = untouched.no_act;
-  no_activity = λ thing owner. either (is_owned_by (length s.persons) owner) None (s.cells (opened_cell thing owner)) None refl (untouched.no_activity thing owner);
+  no_activity = λ thing owner. either (is_kept_for unit (length s.persons) (opened_cell thing owner)) None (s.cells (opened_cell thing owner)) None refl (untouched.no_activity thing owner);
   no_notice = untouched.no_notice;
 }
   where

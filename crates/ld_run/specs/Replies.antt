@@ -52,9 +52,12 @@ answer_told unit s reports = counted_lines (map spaced (report_lines unit s))
 answer_told unit s _ = []
 
 -- `ok VERB`, the turns and sums, and what is told; the end of the line is not in it.
+abbrev pub told_of : Course → RunState → Admitted → ℕ → Sums → List ℕ
+told_of unit s command turns sums =
+    codes "ok " ++ verb_of command ++ sums_text turns sums ++ answer_told unit s command
+
 abbrev pub done_text : Course → DoneCommand → List ℕ
-done_text unit d =
-    codes "ok " ++ verb_of d.command ++ sums_text d.turns d.sums ++ answer_told unit d.state d.command
+done_text unit d = told_of unit d.state d.command d.turns d.sums
 
 abbrev pub refusal_text : Refusal → List ℕ
 refusal_text refusal = spaced (refusal_words refusal)

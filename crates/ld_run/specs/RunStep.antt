@@ -46,13 +46,11 @@ open_for_it unit s (opens p thing) = refuse_if (not (is_thing_open unit s p thin
 open_for_it unit s (completes p thing) = refuse_if (not (is_thing_open unit s p thing)) NotOpen
 open_for_it unit s _ = Ok tt
 
--- The step of a run. The checks look at the state as it is; then the moment is kept and the store's values
--- are taken in; a started run settles; the activity has to be open; the direct change is made, after which
--- the run, if it is started now, settles again; and the store takes the run's values. The run's seats play a
--- part only where a person joins: proofs/SeatsOfSteps.
-unfoldable pub run_step : Course → RunState → GlobalValues → ℤ → RunCommand → Result DoneCommand Refusal
-run_step unit s store moment asked = do
-  command ← admitted unit s moment asked
+-- What an admitted command does: the moment is kept and the store's values are taken in; a started run
+-- settles; the activity has to be open; the direct change is made, after which the run, if it is started
+-- now, settles again; and the store takes the run's values.
+abbrev pub done_by : Course → RunState → GlobalValues → ℤ → Admitted → Result DoneCommand Refusal
+done_by unit s store moment command = do
   first ← settled (is_started s) unit (taking_in unit store (at_moment s moment))
   open_for_it unit first.state command
   let changed_state = directly_changed unit store first.state moment command
@@ -64,3 +62,10 @@ run_step unit s store moment asked = do
     state = second.state;
     store = giving_back unit second.state store;
   })
+
+-- The step of a run: the checks look at the state as it is, and what they admit is done. The run's seats play
+-- a part only where a person joins: proofs/SeatsOfSteps.
+unfoldable pub run_step : Course → RunState → GlobalValues → ℤ → RunCommand → Result DoneCommand Refusal
+run_step unit s store moment asked = do
+  command ← admitted unit s moment asked
+  done_by unit s store moment command

@@ -1,2 +1,23 @@
-//! What a command does to its run, and how it is answered. So far these are definitions alone.
+//! One run: its commands, what refuses them, and the replies.
 #![tactic(auto)]
+
+mod activity_checks;
+pub mod admitted;
+mod changes;
+mod checker;
+pub mod checks;
+mod method_lines;
+mod outbox;
+mod printed;
+mod property_checks;
+pub mod refusal;
+mod refusal_text;
+pub mod replies;
+mod report;
+mod role_checks;
+mod role_lines;
+pub mod run;
+mod stages;
+pub mod telling;
+mod value_text;
+mod verbs;

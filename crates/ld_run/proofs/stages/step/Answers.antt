@@ -1,0 +1,34 @@
+use Rattle.std.proofs.Common.{◌∙◌, IfErr, Result, sym, subst}
+use Rattle.ld_state.specs.StateView.{run_of}
+use Rattle.ld_state.proofs.Written.{on_ok}
+use Rattle.ld_run.specs.AdmittedView.{admitted_of}
+use Rattle.ld_run.specs.RefusalView.{RefusesWith, refusal_of}
+use Rattle.ld_run.specs.Refusals.{Refusal}
+use Rattle.ld_run.specs.RunStep.{DoneCommand}
+use Rattle.ld_run.proofs.Answered.{check_printable}
+use Rattle.ld_run.proofs.StepStages.{step_of_admitted, step_of_refused}
+use Rattle.ld_run.proofs.stages.step.Goals as goal
+
+pub returns-in-Ok-clause-done : goal.returns-in-Ok-clause-done
+returns-in-Ok-clause-done g c store =
+    let by_stages = step_of_admitted c.args.unit.now (run_of c.args.state.now) store c.args.moment.0 c.args.command.now
+    (admitted_of c.in-Ok.admitted) c.in-Ok.ensures.admitted in
+    on_ok c.try_admitted.result (c.try_admitted.ensures.done store)
+    (λ found. let (d, is, left, text) = found in (d, by_stages ∙ is, left, text))
+
+pub returns-in-Ok-clause-refused : goal.returns-in-Ok-clause-refused
+returns-in-Ok-clause-refused g c store =
+    let by_stages = step_of_admitted c.args.unit.now (run_of c.args.state.now) store c.args.moment.0 c.args.command.now
+    (admitted_of c.in-Ok.admitted) c.in-Ok.ensures.admitted in
+    subst (λ (answer : Result DoneCommand Refusal). IfErr c.try_admitted.result (RefusesWith answer)) (sym by_stages)
+    (c.try_admitted.ensures.refused store)
+
+pub returns-in-Err-clause-refused : goal.returns-in-Err-clause-refused
+returns-in-Err-clause-refused g c store other =
+    step_of_refused c.args.unit.now (run_of c.args.state.now) store c.args.moment.0 c.args.command.now
+    (refusal_of c.in-Err.refusal) (c.in-Err.ensures.refused other)
+
+pub returns-in-Err-clause-printable : goal.returns-in-Err-clause-printable
+returns-in-Err-clause-printable g c =
+    check_printable c.args.unit.now (run_of c.args.state.now) c.args.moment.0 c.args.command.now c.in-Err.refusal
+    c.requires.sound c.in-Err.ensures.refused

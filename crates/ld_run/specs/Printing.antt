@@ -1,0 +1,34 @@
+-- What has to be so for what is told to have a text.
+use Rattle.std.specs.Prelude.{◌≡◌, ◌≤◌, ◌<◌, List, length, Bool, true, IfSome}
+use Rattle.std.specs.List.{All}
+use Rattle.std.specs.Option.{ForSome}
+use Rattle.ld_value.specs.Calendar.{IsMoment}
+use Rattle.ld_model.specs.Cells.{CellMap}
+use Rattle.ld_model.specs.declared.cell.CellName.{CellName}
+use Rattle.ld_model.specs.declared.unit.Unit.{Unit as Course}
+use Rattle.ld_names.specs.Things.{things_of}
+use Rattle.ld_expr.specs.Seen.{moment_of_value}
+use Rattle.ld_state.specs.RunState.{NoticeState}
+use Rattle.ld_run.specs.Refusals.{Refusal, MomentBack, RoleShort}
+
+-- The moment that the refusal tells lies in the years 1 to 9999.
+abbrev pub IsPrintable : Refusal → Type 0
+IsPrintable (MomentBack last) = IsMoment last
+IsPrintable _ = Unit {0}
+
+-- The identifier that the refusal tells has at most 64 bytes.
+abbrev pub TellsShortly : Refusal → Type 0
+TellsShortly (RoleShort role _ _) = length role ≤ 64
+TellsShortly _ = Unit {0}
+
+-- A moment in a cell that there is lies in the years 1 to 9999.
+abbrev pub HasMoments : (CellName → Bool) → CellMap → Type 0
+HasMoments has cells = (name : CellName) → has name ≡ true → ForSome (moment_of_value (cells name)) IsMoment
+
+-- The moment of the notice lies in those years, and its activity, if it has one, is a thing of the unit.
+pub record IsNoticeOf (unit : Course) (notice : NoticeState) : Type 0 where
+  pub moment : IsMoment notice.moment
+  pub activity : IfSome notice.activity (λ thing. thing < length (things_of unit))
+
+abbrev pub AreNoticesOf : Course → List NoticeState → Type 0
+AreNoticesOf unit notices = All (IsNoticeOf unit) notices
