@@ -53,9 +53,13 @@ same_declaration a b =
 
 -- ---- faults beside other units
 
+-- An earlier unit has the identifier.
+abbrev pub repeated_unit : Told
+repeated_unit = record { file = UnitFile; place = codes "/identifier"; code = RepeatedUnit }
+
 abbrev pub repeats_unit : List Course → Course → List Told
 repeats_unit units unit = if list_any (λ other. bytes_eq other.identifier unit.identifier) units
-    then record { file = UnitFile; place = codes "/identifier"; code = RepeatedUnit } ∷ []
+    then repeated_unit ∷ []
     else []
 
 -- A property whose uri an earlier unit declares with other contents.

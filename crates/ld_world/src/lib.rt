@@ -1,3 +1,6 @@
-//! Units, the store and the runs: what a line does, and which texts answer lines. So far these are
-//! definitions alone.
+//! The world: published units, the runs that were made of them, and the lines that are answered.
 #![tactic(auto)]
+
+mod publishing;
+mod runs;
+pub mod world;

@@ -1,0 +1,72 @@
+//! Publishing a unit beside others.
+ghost use Rattle.std.specs.Prelude.{◌≡◌, [], map, find, option_map, option_copied, IfErr, OnOk};
+ghost use Rattle.std.specs.Str.{bytes_eq};
+ghost use Rattle.ld_json.specs.Fault.{Says, SaysFirst};
+ghost use Rattle.ld_world.specs.Published.{faults_beside, repeated_unit};
+ghost use Rattle.ld_world.specs.World.{unit_named};
+ghost use Rattle.ld_world.specs.WorldView.{SharesNothing};
+
+use ld_base::id::Id;
+use ld_base::text::Text;
+use ld_json::code::Code;
+use ld_json::fault::{Fault, ReadFault};
+use ld_json::file::FileNo;
+use ld_model::unit::Unit;
+use ld_rules::prepared::PreparedUnit;
+use std::alloc::Global;
+use std::rc::Rc;
+
+/// That the unit can be published beside the others. No unit has a global property yet, so the one
+/// fault is that its identifier is repeated.
+pub(crate) fn check_beside(
+    alloc: Global,
+    units: &[Rc<PreparedUnit>],
+    unit: &Unit,
+) -> Result<(), ReadFault>
+    requires { SharesNothing unit.now }
+    ensures faultless { OnOk result
+        (faults_beside (map (λ other. other.value) units.now) unit.now ≡ []) }
+    ensures first { IfErr result
+        (SaysFirst (faults_beside (map (λ other. other.value) units.now) unit.now)) }
+{
+    if let Some(_) = find_unit(units, &unit.identifier) {
+        return Err(repeated_unit(alloc));
+    }
+    Ok(())
+}
+
+/// The refusal that an earlier unit has the identifier, or `NoMemory`.
+fn repeated_unit(alloc: Global) -> ReadFault
+    ensures { Says repeated_unit result }
+{
+    match Text::of(alloc, "/identifier") {
+        Ok(place) => ReadFault::Refused(Fault {
+            file: FileNo::Unit,
+            place,
+            code: Code::RepeatedUnit,
+        }),
+        Err(_) => ReadFault::NoMemory,
+    }
+}
+
+/// The published unit of this identifier. It takes time as the number of units, and no memory.
+pub(crate) fn find_unit<'a>(units: &'a [Rc<PreparedUnit>], id: &Id) -> Option<&'a Rc<PreparedUnit>>
+    ensures { option_map (λ unit. unit.value) (option_copied result)
+        ≡ unit_named (map (λ unit. unit.value) units.now) id.now }
+{
+    first_named(units, id)
+}
+
+/// The first of the units that has the identifier.
+fn first_named<'a>(units: &'a [Rc<PreparedUnit>], id: &Id) -> Option<&'a Rc<PreparedUnit>>
+    ensures { option_copied result ≡ find (λ unit. bytes_eq unit.value.identifier id.now) units.now }
+{
+    units.iter().find(|unit| has_identifier(unit, id))
+}
+
+/// Whether the unit has the identifier.
+fn has_identifier(unit: &PreparedUnit, id: &Id) -> bool
+    ensures { result ≡ bytes_eq unit.now.identifier id.now }
+{
+    unit.unit().identifier == *id
+}

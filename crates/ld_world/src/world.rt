@@ -1,0 +1,194 @@
+//! The world of published units and their runs.
+ghost use Rattle.std.specs.Prelude.{◌≡◌, ◌≤◌, ◌++◌, ℕ, List, [], ◌∷◌, None, Some, IfErr, OnErr, OnOk};
+ghost use Rattle.ld_base.specs.Roomy.{room_of, KeepsRoom};
+ghost use Rattle.ld_json.specs.Fault.{SaysFirst};
+ghost use Rattle.ld_lines.specs.LineMoment.{moment_of_line};
+ghost use Rattle.ld_run.specs.Refusals as why;
+ghost use Rattle.ld_run.specs.Replies.{refusal_text};
+ghost use Rattle.ld_state.specs.GlobalValues.{declared_by};
+ghost use Rattle.ld_value.specs.Calendar.{IsMoment};
+ghost use Rattle.ld_world.specs.Answers.{AnswersLine, line_of};
+ghost use Rattle.ld_world.specs.Published.{faults_beside};
+ghost use Rattle.ld_world.specs.World.{first_world};
+ghost use Rattle.ld_world.specs.WorldView.{world_of};
+
+use crate::publishing::check_beside;
+use crate::runs::{ask_run, make_run};
+use indexmap::IndexMap;
+use ld_base::id::Id;
+use ld_base::memory::NoMemory;
+use ld_base::steps::Steps;
+use ld_base::text::Text;
+use ld_json::fault::ReadFault;
+use ld_lines::fault::LineFault;
+use ld_lines::line::Line;
+use ld_lines::lines::LINE_LIMIT;
+use ld_lines::read::read_command;
+use ld_refs::check::Checked;
+use ld_rules::prepared::PreparedUnit;
+use ld_run::refusal::Refusal;
+use ld_run::run::Run;
+use ld_run::telling::{refuse, say_no_memory};
+use std::alloc::Global;
+use std::marker::Model;
+use std::rc::Rc;
+use std::sync::ledger::Ledger;
+
+/// Published units, and the runs that were made of them by their names. (docs/MEANING.md, "Histories")
+pub struct World {
+    units: Vec<Rc<PreparedUnit>>,
+    runs: IndexMap<Id, Run>,
+}
+
+// By hand, so that a function which lets one go calls this and is not proved over each field anew.
+impl Drop for World {
+    fn drop(self) {
+        let Self { units: _, runs: _ } = self;
+    }
+}
+
+impl Model for World {
+    ghost use Rattle.std.specs.Prelude.{map};
+    ghost use Rattle.std.specs.Coded.{codes};
+    ghost use Rattle.ld_model.specs.ExpressionCodes.{coded_term, coded_test};
+    ghost use Rattle.ld_world.specs.WorldView.{WorldView};
+
+    ghost Value = { WorldView };
+
+    ghost coded = { Prim.hlevel (codes, coded_term, coded_test) };
+
+    ghost view = { λ s. record {
+      units = map (λ unit. unit.value) s.units.items;
+      runs = s.runs.entries;
+    } };
+
+    ghost use Rattle.std.specs.List.{AllByRecursion};
+    ghost use Rattle.ld_world.specs.WorldView.{RunsShareNothing, SharesNothing};
+
+    ghost invariant = { λ s. AllByRecursion SharesNothing (map (λ unit. unit.value) s.units.items)
+        × RunsShareNothing s.runs.entries };
+}
+
+impl World {
+    /// A world without units. It takes no memory.
+    pub fn new(alloc: Global) -> World
+        ensures { world_of result ≡ first_world [] }
+    {
+        World {
+            units: Vec::new(alloc),
+            runs: IndexMap::new(alloc),
+        }
+    }
+
+    /// Publishes the unit beside those that are published. It is refused where one of them has its
+    /// identifier. A refusal drops the unit and leaves the world as it was. (docs/FORMATS.md, "Order of
+    /// faults")
+    pub fn publish(&mut self, alloc: Global, unit: Checked) -> Result<(), ReadFault>
+        requires first { world_of self.old ≡ first_world self.old.units }
+        ensures ok { OnOk result (world_of self.new
+            ≡ first_world (self.old.units ++ unit.unit ∷ [])) }
+        ensures faultless { OnOk result (faults_beside self.old.units unit.unit ≡ []) }
+        ensures refused { IfErr result (SaysFirst (faults_beside self.old.units unit.unit)) }
+        ensures err { OnErr result (self.new ≡ self.old) }
+    {
+        check_beside(alloc, &self.units, unit.unit())?;
+        let prepared = PreparedUnit::new(alloc, unit)?;
+        let shared = Rc::new(alloc, prepared)?;
+        self.units.push(shared)?;
+        Ok(())
+    }
+
+    /// Answers a line: `out` is emptied and then holds the reply block. Where memory is wanting it
+    /// says so, and the line counts as not given.
+    pub fn answer<L: Ledger>(
+        &mut self,
+        alloc: Global,
+        line: &[u8],
+        out: &mut Text,
+        steps: &mut Steps<L>,
+    )
+        requires room { 128 ≤ room_of out.old }
+        ensures answers { AnswersLine (world_of self.old) (line_of line.now)
+            out.new.bytes (world_of self.new) }
+        ensures room { 128 ≤ room_of out.new }
+    {
+        if let Err(_) = self.try_answer(alloc, line, out, steps) {
+            say_no_memory(out)
+        }
+    }
+
+    /// Answers a line that is too long to be one.
+    pub fn answer_bad_line(&mut self, out: &mut Text)
+        requires room { 128 ≤ room_of out.old }
+        ensures answers { AnswersLine (world_of self.old) None out.new.bytes (world_of self.new) }
+        ensures room { 128 ≤ room_of out.new }
+    {
+        if let Err(_) = refuse(Refusal::BadLine, out) {
+            say_no_memory(out)
+        }
+    }
+
+    /// Answers a line. Where memory is wanting the world stays as it was.
+    fn try_answer<L: Ledger>(
+        &mut self,
+        alloc: Global,
+        line: &[u8],
+        out: &mut Text,
+        steps: &mut Steps<L>,
+    ) -> Result<(), NoMemory>
+        requires room { 128 ≤ room_of out.old }
+        ensures ok { OnOk result (AnswersLine (world_of self.old) (line_of line.now)
+            out.new.bytes (world_of self.new)) }
+        ensures err { OnErr result (self.new ≡ self.old) }
+        ensures room { 128 ≤ room_of out.new }
+    {
+        if line.len() > LINE_LIMIT {
+            return refuse(Refusal::BadLine, out);
+        }
+        match read_command(alloc, line) {
+            Ok(line) => self.do_line(alloc, line, out, steps),
+            Err(LineFault::BadLine) => refuse(Refusal::BadLine, out),
+            Err(LineFault::NoMemory) => Err(NoMemory),
+        }
+    }
+
+    /// Does what the line asks for. Where memory is wanting the world stays as it was.
+    fn do_line<L: Ledger>(
+        &mut self,
+        alloc: Global,
+        line: Line,
+        out: &mut Text,
+        steps: &mut Steps<L>,
+    ) -> Result<(), NoMemory>
+        requires moment { IsMoment (moment_of_line line).0 }
+        requires room { 128 ≤ room_of out.old }
+        ensures ok { OnOk result (AnswersLine (world_of self.old) (Some line)
+            out.new.bytes (world_of self.new)) }
+        ensures err { OnErr result (self.new ≡ self.old) }
+        ensures room { 128 ≤ room_of out.new }
+    {
+        match line {
+            Line::Create { moment, run, unit } => {
+                make_run(alloc, &self.units, &mut self.runs, moment, run, &unit, out)
+            }
+            Line::OfRun {
+                moment,
+                run,
+                command,
+            } => ask_run(alloc, &mut self.runs, moment, &run, &command, out, steps),
+            Line::GlobalSet { .. } => self.refuse_uri(out),
+            Line::GlobalGet { .. } => self.refuse_uri(out),
+        }
+    }
+
+    /// Says that the uri is not known: no unit declares one yet.
+    fn refuse_uri(&self, out: &mut Text) -> Result<(), NoMemory>
+        ensures text { OnOk result (out.new.bytes ≡ refusal_text why.UnknownGlobal ++ 10 ∷ []) }
+        ensures unknown { (uri : List ℕ) → declared_by self.now.units uri ≡ None }
+        ensures room { KeepsRoom out.old out.new }
+    {
+        // The world's invariant says so of its units.
+        let _ = &self.units;
+        refuse(Refusal::UnknownGlobal, out)
+    }
+}
