@@ -1,20 +1,20 @@
--- A folder with a fault was refused.
-use Rattle.std.proofs.Common.{arith, refl, ℕ, List, ◌≡◌, Option, Some, sym, inl}
+-- A folder was refused.
+use Rattle.std.proofs.Common.{arith, refl, ℕ, List, ◌≡◌, Option, Some, Err, sym, inl}
 use Rattle.ld_base.specs.Outside.{Files, then_piece, AddsPrefix}
-use Rattle.ld_json.specs.Fault.{Told}
+use Rattle.ld_world.specs.Published.{RefusedFolder, refused_line}
 use Rattle.ld_top.specs.declared.ending.Ending.{Ending}
 use Rattle.ld_top.specs.declared.ending.Ending.TheVariants.{Done, BadWords, ShelfFault, UnitRefused, ReadFault, WriteFault, NoMemory, InputTooLong}
 use Rattle.ld_top.specs.Endings.{number_of}
-use Rattle.ld_top.specs.InFolder.{HasFirstFault}
-use Rattle.ld_top.specs.Replay.{Refused, CutShort, refused_line}
+use Rattle.ld_top.specs.InFolder.{WhereTold}
+use Rattle.ld_top.specs.Replay.{Publishes, Refused, CutShort}
 
--- The first fault was found, and its line was written.
-pub refused_for : (folder : Option (List ℕ)) (name : List ℕ) (files : Option Files) (old new : Option (List ℕ)) (fault : Told) → Some name ≡ folder → HasFirstFault files name fault → new ≡ then_piece old (refused_line fault) → Refused folder files old new
-refused_for folder name files old new fault is first written = rw (sym is) (fault, first, written)
+-- The line that tells the refusal was written.
+pub refused_for : (folders : Option (List (List ℕ))) (names : List (List ℕ)) (files : Option Files) (old new : Option (List ℕ)) (refused : RefusedFolder) → Some names ≡ folders → WhereTold files (λ told. Publishes told names (Err refused)) → new ≡ then_piece old (refused_line refused) → Refused folders files old new
+refused_for folders names files old new refused is told written = rw (sym is) (refused, told, written)
 
--- The first fault was found, and its line was begun.
-pub cut_for : (folder : Option (List ℕ)) (name : List ℕ) (files : Option Files) (left old new : Option (List ℕ)) (fault : Told) → Some name ≡ folder → HasFirstFault files name fault → AddsPrefix old (refused_line fault) new → CutShort folder files left left old new
-cut_for folder name files left old new fault is first adds = inl (rw (sym is) (fault, first, adds, refl))
+-- It was begun.
+pub cut_for : (folders : Option (List (List ℕ))) (names : List (List ℕ)) (files : Option Files) (left old new : Option (List ℕ)) (refused : RefusedFolder) → Some names ≡ folders → WhereTold files (λ told. Publishes told names (Err refused)) → AddsPrefix old (refused_line refused) new → CutShort folders files left left old new
+cut_for folders names files left old new refused is told adds = inl (rw (sym is) (refused, told, (adds, refl)))
 
 -- Only one ending has the number 4.
 pub only_four : (ending : Ending) → number_of ending ≡ 4 → ending ≡ UnitRefused

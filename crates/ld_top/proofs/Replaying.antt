@@ -8,9 +8,9 @@ use Rattle.ld_lines.specs.Lines.{lines_of, ended_lines_of}
 use Rattle.ld_lines.specs.Reading.{Reading, IsEnd}
 use Rattle.ld_lines.proofs.Handed.{Handed-first, Handed-next}
 use Rattle.ld_lines.specs.declared.stop.LineStop.TheVariants.{ReadFault, InputTooLong}
+use Rattle.ld_world.specs.Answers.{AnswersLine, Leads, line_of}
+use Rattle.ld_world.specs.World.{WorldState}
 use Rattle.ld_top.specs.Answering.{AnswersWhat, Answered, AnsweredAll, AnsweredTaken, AnsweredCut, BeginsWithLines}
-use Rattle.ld_top.specs.Answers.{AnswersLine, Leads, line_of}
-use Rattle.ld_top.specs.World.{WorldState}
 
 pub record IsUnderWay (at_first : WorldState) (first : Option (List ℕ)) (before : Option (List ℕ)) (r : Reading) (left : Option (List ℕ)) (world : WorldState) (written : Option (List ℕ)) : Type 0 where
   pub bytes : List ℕ

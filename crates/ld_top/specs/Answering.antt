@@ -6,10 +6,10 @@ use Rattle.ld_lines.specs.Answer.{Answer, WholeLine, OverLine, NoLine, Fault, To
 use Rattle.ld_lines.specs.Reading.{IsEnd}
 use Rattle.ld_lines.specs.declared.stop.LineStop.{LineStop}
 use Rattle.ld_lines.specs.declared.stop.LineStop.TheVariants.{ReadFault, InputTooLong}
-use Rattle.ld_top.specs.Answers.{AnswersLine, Leads, Answers, line_of}
+use Rattle.ld_world.specs.Answers.{AnswersLine, Leads, Answers, line_of}
+use Rattle.ld_world.specs.World.{WorldState}
 use Rattle.ld_top.specs.declared.ending.Ending.{Ending}
 use Rattle.ld_top.specs.declared.ending.Ending.TheVariants.{Done, BadWords, ShelfFault, UnitRefused, ReadFault as Unread, WriteFault, NoMemory, InputTooLong as Endless}
-use Rattle.ld_top.specs.World.{WorldState}
 
 -- What is told of the turn, and what is written, fit what came from the source. `true` says that a
 -- line was answered, `false` that there is none any more.

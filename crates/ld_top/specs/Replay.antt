@@ -1,52 +1,74 @@
 -- What a call of the program is to have done when it ends.
-use Rattle.std.specs.Prelude.{ℕ, List, [], ◌∷◌, ◌++◌, ◌≡◌, ◌⊎◌, Option, Some, None, codes}
+use Rattle.std.specs.Prelude.{ℕ, List, [], ◌∷◌, ◌≡◌, ◌⊎◌, Option, Some, None, Result, Ok, Err}
 use Rattle.ld_base.specs.Outside.{Files, then_piece, AddsPrefix}
-use Rattle.ld_json.specs.Codes.{word_of}
 use Rattle.ld_json.specs.Fault.{Told}
-use Rattle.ld_json.specs.Files.{file_name}
-use Rattle.ld_json.specs.Places.{printed_place}
 use Rattle.ld_model.specs.declared.unit.Unit.{Unit as Course}
+use Rattle.ld_world.specs.Published.{RefusedFolder, published, refused_line}
+use Rattle.ld_world.specs.World.{first_world}
 use Rattle.ld_top.specs.Answering.{AnsweredAll, AnsweredTaken, AnsweredCut}
-use Rattle.ld_top.specs.InFolder.{HasUnit, HasFirstFault}
-use Rattle.ld_top.specs.World.{first_world}
+use Rattle.ld_top.specs.InFolder.{IsReading, WhereTold}
 
--- The line that is written for a folder that is refused: the file, the place and the code of a fault.
-abbrev pub refused_line : Told → List ℕ
-refused_line fault = codes "refused 1 " ++ (file_name fault.file ++ 32 ∷ (printed_place fault.place ++ 32 ∷ (word_of fault.code ++ 10 ∷ [])))
+-- ---- the folders
 
--- The folder has a unit and no fault, and from the unit's world on this was done.
-abbrev pub FromUnit : Option Files → List ℕ → (Course → Type 0) → Type 0
-FromUnit files folder Done = (unit : Course) × HasUnit files folder unit × Done unit
+-- These are the readings of the folders, one for each.
+abbrev pub AreReadings : Files → List (List ℕ) → List (Result Course Told) → Type 0
+AreReadings files [] [] = Unit {0}
+AreReadings files [] (reading ∷ readings) = ⊥
+AreReadings files (folder ∷ folders) [] = ⊥
+AreReadings files (folder ∷ folders) (reading ∷ readings) =
+    IsReading files folder reading × AreReadings files folders readings
 
--- Nothing but the form of the words is asked where there is no folder in them.
-abbrev pub InFolder : Option (List ℕ) → (List ℕ → Type 0) → Type 0
-InFolder None Holds = ⊥
-InFolder (Some folder) Holds = Holds folder
+-- The units of the folders are published in their order, or the first folder that is refused is this one.
+abbrev pub Publishes : Files → List (List ℕ) → Result (List Course) RefusedFolder → Type 0
+Publishes files folders result =
+    (readings : List (Result Course Told)) × AreReadings files folders readings × (published readings ≡ result)
 
--- `replay FOLDER` was done: the source told its end below 2^40 bytes, and what was written answers all
+-- The folders' units are published, and from their world on this was done.
+abbrev pub FromUnits : Option Files → List (List ℕ) → (List Course → Type 0) → Type 0
+FromUnits files folders Done =
+    (units : List Course) × WhereTold files (λ told. Publishes told folders (Ok units)) × Done units
+
+-- A folder is refused, and of the line that tells which, and for what, this was done.
+abbrev pub FromRefusal : Option Files → List (List ℕ) → (List ℕ → Type 0) → Type 0
+FromRefusal files folders Done =
+    (refused : RefusedFolder) × WhereTold files (λ told. Publishes told folders (Err refused)) × Done (refused_line refused)
+
+-- Nothing but the form of the words is asked where there are no folders in them.
+abbrev pub InFolders : Option (List (List ℕ)) → (List (List ℕ) → Type 0) → Type 0
+InFolders None Holds = ⊥
+InFolders (Some folders) Holds = Holds folders
+
+-- ---- the ends of a call
+
+-- `replay FOLDER..` was done: the source told its end below 2^40 bytes, and what was written answers all
 -- its lines.
-abbrev pub ReplayedAll : Option (List ℕ) → Option Files → Option (List ℕ) → Option (List ℕ) → Option (List ℕ) → Option (List ℕ) → Type 0
-ReplayedAll folder files before left old new = InFolder folder (λ name. FromUnit files name (λ unit. AnsweredAll (first_world (unit ∷ [])) before left old new))
+abbrev pub ReplayedAll : Option (List (List ℕ)) → Option Files → Option (List ℕ) → Option (List ℕ) → Option (List ℕ) → Option (List ℕ) → Type 0
+ReplayedAll folders files before left old new =
+    InFolders folders (λ names. FromUnits files names (λ units. AnsweredAll (first_world units) before left old new))
 
--- `replay FOLDER` stopped after so many bytes of the source; what was written answers the lines that
+-- `replay FOLDER..` stopped after so many bytes of the source; what was written answers the lines that
 -- were ended in them.
-abbrev pub ReplayedTaken : (ℕ → Type 0) → Option (List ℕ) → Option Files → Option (List ℕ) → Option (List ℕ) → Option (List ℕ) → Option (List ℕ) → Type 0
-ReplayedTaken Many folder files before left old new = InFolder folder (λ name. FromUnit files name (λ unit. AnsweredTaken Many (first_world (unit ∷ [])) before left old new))
+abbrev pub ReplayedTaken : (ℕ → Type 0) → Option (List (List ℕ)) → Option Files → Option (List ℕ) → Option (List ℕ) → Option (List ℕ) → Option (List ℕ) → Type 0
+ReplayedTaken Many folders files before left old new =
+    InFolders folders (λ names. FromUnits files names (λ units. AnsweredTaken Many (first_world units) before left old new))
 
--- The folder has a fault, and the one line that tells its first was written.
-abbrev pub Refused : Option (List ℕ) → Option Files → Option (List ℕ) → Option (List ℕ) → Type 0
-Refused folder files old new = InFolder folder (λ name. (fault : Told) × HasFirstFault files name fault × (new ≡ then_piece old (refused_line fault)))
+-- A folder is refused, and the one line that tells it was written.
+abbrev pub Refused : Option (List (List ℕ)) → Option Files → Option (List ℕ) → Option (List ℕ) → Type 0
+Refused folders files old new =
+    InFolders folders (λ names. FromRefusal files names (λ line. new ≡ then_piece old line))
 
--- `replay FOLDER` stopped in the reply to a line: those before it were answered, and a beginning of its own
+-- `replay FOLDER..` stopped in the reply to a line: those before it were answered, and a beginning of its own
 -- reply was written.
-abbrev pub ReplayedCut : Option (List ℕ) → Option Files → Option (List ℕ) → Option (List ℕ) → Option (List ℕ) → Option (List ℕ) → Type 0
-ReplayedCut folder files before left old new = InFolder folder (λ name. FromUnit files name (λ unit. AnsweredCut (first_world (unit ∷ [])) before left old new))
+abbrev pub ReplayedCut : Option (List (List ℕ)) → Option Files → Option (List ℕ) → Option (List ℕ) → Option (List ℕ) → Option (List ℕ) → Type 0
+ReplayedCut folders files before left old new =
+    InFolders folders (λ names. FromUnits files names (λ units. AnsweredCut (first_world units) before left old new))
 
--- The folder has a fault, a beginning of the one line that tells its first was written, and nothing was
--- taken from the source.
-abbrev pub RefusedCut : Option (List ℕ) → Option Files → Option (List ℕ) → Option (List ℕ) → Option (List ℕ) → Option (List ℕ) → Type 0
-RefusedCut folder files before left old new = InFolder folder (λ name. (fault : Told) × HasFirstFault files name fault × AddsPrefix old (refused_line fault) new × (left ≡ before))
+-- A folder is refused, a beginning of the one line that tells it was written, and nothing was taken from the
+-- source.
+abbrev pub RefusedCut : Option (List (List ℕ)) → Option Files → Option (List ℕ) → Option (List ℕ) → Option (List ℕ) → Option (List ℕ) → Type 0
+RefusedCut folders files before left old new =
+    InFolders folders (λ names. FromRefusal files names (λ line. AddsPrefix old line new × (left ≡ before)))
 
 -- What was written grew by a beginning of what was to be written: the line of a refusal, or the replies.
-abbrev pub CutShort : Option (List ℕ) → Option Files → Option (List ℕ) → Option (List ℕ) → Option (List ℕ) → Option (List ℕ) → Type 0
-CutShort folder files before left old new = RefusedCut folder files before left old new ⊎ ReplayedCut folder files before left old new
+abbrev pub CutShort : Option (List (List ℕ)) → Option Files → Option (List ℕ) → Option (List ℕ) → Option (List ℕ) → Option (List ℕ) → Type 0
+CutShort folders files before left old new = RefusedCut folders files before left old new ⊎ ReplayedCut folders files before left old new

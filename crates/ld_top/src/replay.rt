@@ -5,38 +5,43 @@ ghost use Rattle.ld_base.specs.Roomy.{room_of};
 ghost use Rattle.ld_lines.specs.Answer.{Answer, HandsOut};
 ghost use Rattle.ld_top.specs.Answering.{AnswersWhat, AnsweredAll, AnsweredTaken, AnsweredCut, IsEndOfLines};
 ghost use Rattle.ld_top.specs.Endings.{IsReplayEnding};
-ghost use Rattle.ld_top.specs.World.{first_world};
-ghost use Rattle.ld_top.specs.WorldView.{world_of};
+ghost use Rattle.ld_world.specs.World.{first_world};
+ghost use Rattle.ld_world.specs.WorldView.{world_of};
 
 use crate::ending::Ending;
-use crate::world::World;
 use ld_base::sink::Sink;
 use ld_base::source::Source;
+use ld_base::steps::Steps;
 use ld_base::text::Text;
 use ld_base::write::write_all;
 use ld_lines::lines::Lines;
 use ld_lines::next::Next;
 use ld_lines::stop::LineStop;
-use ld_refs::check::Checked;
+use ld_world::world::World;
 use std::alloc::Global;
+use std::sync::ledger::Ledger;
 
 /// Asks for the next line and answers it into `out`. True where there was one, false at the end.
-fn answer_next<S: Source>(
+fn answer_next<S: Source, L: Ledger>(
     alloc: Global,
     lines: &mut Lines,
     source: &mut S,
     world: &mut World,
     out: &mut Text,
+    steps: &mut Steps<L>,
 ) -> Result<bool, LineStop>
     requires { 128 ≤ room_of out.old }
-    ensures turn { (answer : Answer) × HandsOut lines.old (S.left source.old) answer lines.new (S.left source.new) × AnswersWhat (world_of world.old) answer result out.new.bytes (world_of world.new) }
+    ensures turn { (answer : Answer)
+        × HandsOut lines.old (S.left source.old) answer lines.new (S.left source.new)
+        × AnswersWhat (world_of world.old) answer result out.new.bytes (world_of world.new) }
     ensures room { 128 ≤ room_of out.new }
-    ensures read_fault { result ≡ Err LineStop.ReadFault → Rose (S.faults source.old) (S.faults source.new) }
+    ensures read_fault { result ≡ Err LineStop.ReadFault
+        → Rose (S.faults source.old) (S.faults source.new) }
     ensures counts { S.faults source.old ≤ S.faults source.new }
 {
     match lines.next(source)? {
         Next::Whole(line) => {
-            world.answer(alloc, line, out);
+            world.answer(alloc, line, out, steps);
             Ok(true)
         }
         Next::Over => {
@@ -49,30 +54,37 @@ fn answer_next<S: Source>(
 
 /// Answers the lines of the source, from its first byte on, until it ends or something fails. Where the
 /// sink failed a beginning of the last reply was written.
-fn answer_lines<S: Source, K: Sink>(
+fn answer_lines<S: Source, K: Sink, L: Ledger>(
     alloc: Global,
     lines: &mut Lines,
     source: &mut S,
     sink: &mut K,
     world: &mut World,
     out: &mut Text,
+    steps: &mut Steps<L>,
 ) -> Ending
     requires room { 128 ≤ room_of out.old }
     requires held { lines.old.held ≡ [] }
     requires taken { lines.old.taken ≡ 0 }
     requires going { lines.old.ended ≡ false }
-    ensures done { result ≡ Ending.Done → AnsweredAll (world_of world.old) (S.left source.old) (S.left source.new) (K.written sink.old) (K.written sink.new) }
-    ensures read { result ≡ Ending.ReadFault → AnsweredTaken (λ n. n < 2 ^ 40) (world_of world.old) (S.left source.old) (S.left source.new) (K.written sink.old) (K.written sink.new) }
-    ensures long { result ≡ Ending.InputTooLong → AnsweredTaken (λ n. n ≡ 2 ^ 40) (world_of world.old) (S.left source.old) (S.left source.new) (K.written sink.old) (K.written sink.new) }
-    ensures cut { result ≡ Ending.WriteFault → AnsweredCut (world_of world.old) (S.left source.old) (S.left source.new) (K.written sink.old) (K.written sink.new) }
-    ensures read_cause { result ≡ Ending.ReadFault → Rose (S.faults source.old) (S.faults source.new) }
-    ensures write_cause { result ≡ Ending.WriteFault → Rose (K.faults sink.old) (K.faults sink.new) }
+    ensures done { result ≡ Ending.Done → AnsweredAll (world_of world.old)
+        (S.left source.old) (S.left source.new) (K.written sink.old) (K.written sink.new) }
+    ensures read { result ≡ Ending.ReadFault → AnsweredTaken (λ n. n < 2 ^ 40) (world_of world.old)
+        (S.left source.old) (S.left source.new) (K.written sink.old) (K.written sink.new) }
+    ensures long { result ≡ Ending.InputTooLong → AnsweredTaken (λ n. n ≡ 2 ^ 40) (world_of world.old)
+        (S.left source.old) (S.left source.new) (K.written sink.old) (K.written sink.new) }
+    ensures cut { result ≡ Ending.WriteFault → AnsweredCut (world_of world.old)
+        (S.left source.old) (S.left source.new) (K.written sink.old) (K.written sink.new) }
+    ensures read_cause { result ≡ Ending.ReadFault
+        → Rose (S.faults source.old) (S.faults source.new) }
+    ensures write_cause { result ≡ Ending.WriteFault
+        → Rose (K.faults sink.old) (K.faults sink.new) }
     ensures source_counts { S.faults source.old ≤ S.faults source.new }
     ensures sink_counts { K.faults sink.old ≤ K.faults sink.new }
     ensures endings { IsEndOfLines result }
 {
     loop {
-        match answer_next(alloc, lines, source, world, out) {
+        match answer_next(alloc, lines, source, world, out, steps) {
             Err(LineStop::ReadFault) => return Ending::ReadFault,
             Err(LineStop::InputTooLong) => return Ending::InputTooLong,
             Ok(false) => return Ending::Done,
@@ -84,35 +96,46 @@ fn answer_lines<S: Source, K: Sink>(
     }
 }
 
-/// Answers the lines of the source from the world of the checked unit on. Where memory is wanting nothing
-/// was taken and nothing was written.
-pub fn replay<S: Source, K: Sink>(
+/// Answers the lines of the source, before any of which the world has units alone. Where memory is wanting
+/// nothing was taken and nothing was written.
+pub fn replay<S: Source, K: Sink, L: Ledger>(
     alloc: Global,
-    checked: Checked,
+    world: World,
     source: &mut S,
     sink: &mut K,
+    steps: &mut Steps<L>,
 ) -> Ending
-    ensures done { result ≡ Ending.Done → AnsweredAll (first_world (checked.unit ∷ [])) (S.left source.old) (S.left source.new) (K.written sink.old) (K.written sink.new) }
-    ensures read { result ≡ Ending.ReadFault → AnsweredTaken (λ n. n < 2 ^ 40) (first_world (checked.unit ∷ [])) (S.left source.old) (S.left source.new) (K.written sink.old) (K.written sink.new) }
-    ensures long { result ≡ Ending.InputTooLong → AnsweredTaken (λ n. n ≡ 2 ^ 40) (first_world (checked.unit ∷ [])) (S.left source.old) (S.left source.new) (K.written sink.old) (K.written sink.new) }
-    ensures cut { result ≡ Ending.WriteFault → AnsweredCut (first_world (checked.unit ∷ [])) (S.left source.old) (S.left source.new) (K.written sink.old) (K.written sink.new) }
-    ensures no_memory { result ≡ Ending.NoMemory → (source.new ≡ source.old) × (sink.new ≡ sink.old) }
-    ensures read_cause { result ≡ Ending.ReadFault → Rose (S.faults source.old) (S.faults source.new) }
-    ensures write_cause { result ≡ Ending.WriteFault → Rose (K.faults sink.old) (K.faults sink.new) }
+    requires { world_of world ≡ first_world world.units }
+    ensures done { result ≡ Ending.Done
+        → AnsweredAll (first_world world.units)
+        (S.left source.old) (S.left source.new) (K.written sink.old) (K.written sink.new) }
+    ensures read { result ≡ Ending.ReadFault
+        → AnsweredTaken (λ n. n < 2 ^ 40) (first_world world.units)
+        (S.left source.old) (S.left source.new) (K.written sink.old) (K.written sink.new) }
+    ensures long { result ≡ Ending.InputTooLong
+        → AnsweredTaken (λ n. n ≡ 2 ^ 40) (first_world world.units)
+        (S.left source.old) (S.left source.new) (K.written sink.old) (K.written sink.new) }
+    ensures cut { result ≡ Ending.WriteFault
+        → AnsweredCut (first_world world.units)
+        (S.left source.old) (S.left source.new) (K.written sink.old) (K.written sink.new) }
+    ensures no_memory { result ≡ Ending.NoMemory
+        → (source.new ≡ source.old) × (sink.new ≡ sink.old) }
+    ensures read_cause { result ≡ Ending.ReadFault
+        → Rose (S.faults source.old) (S.faults source.new) }
+    ensures write_cause { result ≡ Ending.WriteFault
+        → Rose (K.faults sink.old) (K.faults sink.new) }
     ensures source_counts { S.faults source.old ≤ S.faults source.new }
     ensures sink_counts { K.faults sink.old ≤ K.faults sink.new }
     ensures endings { IsReplayEnding result }
 {
-    let Ok(mut world) = World::new(checked) else {
-        return Ending::NoMemory;
-    };
+    let mut world = world;
     let Ok(mut lines) = Lines::new(alloc) else {
         return Ending::NoMemory;
     };
     let Ok(mut out) = Text::with_room(alloc, REPLY_ROOM) else {
         return Ending::NoMemory;
     };
-    answer_lines(alloc, &mut lines, source, sink, &mut world, &mut out)
+    answer_lines(alloc, &mut lines, source, sink, &mut world, &mut out, steps)
 }
 
 /// The room that is taken for replies before the first line is asked for, in bytes. Every refusal

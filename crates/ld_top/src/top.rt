@@ -4,16 +4,16 @@ ghost use Rattle.ld_base.specs.Outside.{Rose, then_piece, AddsPrefix};
 ghost use Rattle.ld_json.specs.Fault.{told_by};
 ghost use Rattle.ld_top.specs.Answering.{AnsweredAll, AnsweredTaken, IsEndOfLines};
 ghost use Rattle.ld_top.specs.Endings.{IsStatus, IsRefusalEnding, IsReplayEnding, number_of, NothingWritten, NothingTaken};
-ghost use Rattle.ld_top.specs.InFolder.{HasFirstFault, HasUnit};
-ghost use Rattle.ld_top.specs.Replay.{ReplayedAll, ReplayedTaken, Refused, CutShort, refused_line};
-ghost use Rattle.ld_top.specs.Words.{words_of, folder_in};
-ghost use Rattle.ld_top.specs.World.{first_world};
+ghost use Rattle.ld_top.specs.Replay.{ReplayedAll, ReplayedTaken, Refused, CutShort};
+ghost use Rattle.ld_top.specs.Words.{words_of, folders_in};
+ghost use Rattle.ld_world.specs.Published.{refused_line};
+ghost use Rattle.ld_world.specs.World.{first_world};
 
 use crate::ending::Ending;
-use crate::reader::folder::read_folder;
-use crate::reader::stop::FolderStop;
+use crate::publish::{PublishStop, publish_folders};
 use crate::replay::replay;
-use crate::words::folder_of;
+use crate::words::folders_of;
+use itoa::Buffer;
 use ld_base::memory::NoMemory;
 use ld_base::shelf::Shelf;
 use ld_base::sink::Sink;
@@ -36,21 +36,31 @@ pub fn ld_main<H: Shelf, S: Source, K: Sink, L: Ledger>(
     shelf: &mut H,
     input: &mut S,
     output: &mut K,
-    _steps: &mut Steps<L>,
+    steps: &mut Steps<L>,
 ) -> Status
     // Every status is one of the table, and has a cause.
     ensures status { IsStatus result.0 }
-    ensures bad_words { (result.0 ≡ 2) ↔ (folder_in (words_of words.now) ≡ None) }
+    ensures bad_words { (result.0 ≡ 2) ↔ (folders_in (words_of words.now) ≡ None) }
     ensures shelf_fault { result.0 ≡ 3 → Rose (H.faults shelf.old) (H.faults shelf.new) }
     ensures read_fault { result.0 ≡ 5 → Rose (S.faults input.old) (S.faults input.new) }
     ensures write_fault { result.0 ≡ 6 → Rose (K.faults output.old) (K.faults output.new) }
 
     // What was done.
-    ensures done { result.0 ≡ 0 → ReplayedAll (folder_in (words_of words.now)) (H.files shelf.old) (S.left input.old) (S.left input.new) (K.written output.old) (K.written output.new) }
-    ensures refused { result.0 ≡ 4 → Refused (folder_in (words_of words.now)) (H.files shelf.old) (K.written output.old) (K.written output.new) }
-    ensures read { result.0 ≡ 5 → ReplayedTaken (λ n. n < 2 ^ 40) (folder_in (words_of words.now)) (H.files shelf.old) (S.left input.old) (S.left input.new) (K.written output.old) (K.written output.new) }
-    ensures too_long { result.0 ≡ 8 → ReplayedTaken (λ n. n ≡ 2 ^ 40) (folder_in (words_of words.now)) (H.files shelf.old) (S.left input.old) (S.left input.new) (K.written output.old) (K.written output.new) }
-    ensures cut { result.0 ≡ 6 → CutShort (folder_in (words_of words.now)) (H.files shelf.old) (S.left input.old) (S.left input.new) (K.written output.old) (K.written output.new) }
+    ensures done { result.0 ≡ 0
+        → ReplayedAll (folders_in (words_of words.now)) (H.files shelf.old)
+        (S.left input.old) (S.left input.new) (K.written output.old) (K.written output.new) }
+    ensures refused { result.0 ≡ 4
+        → Refused (folders_in (words_of words.now)) (H.files shelf.old)
+        (K.written output.old) (K.written output.new) }
+    ensures read { result.0 ≡ 5
+        → ReplayedTaken (λ n. n < 2 ^ 40) (folders_in (words_of words.now)) (H.files shelf.old)
+        (S.left input.old) (S.left input.new) (K.written output.old) (K.written output.new) }
+    ensures too_long { result.0 ≡ 8
+        → ReplayedTaken (λ n. n ≡ 2 ^ 40) (folders_in (words_of words.now)) (H.files shelf.old)
+        (S.left input.old) (S.left input.new) (K.written output.old) (K.written output.new) }
+    ensures cut { result.0 ≡ 6
+        → CutShort (folders_in (words_of words.now)) (H.files shelf.old)
+        (S.left input.old) (S.left input.new) (K.written output.old) (K.written output.new) }
 
     // What was left alone.
     ensures not_written { NothingWritten result.0 → output.new ≡ output.old }
@@ -61,29 +71,36 @@ pub fn ld_main<H: Shelf, S: Source, K: Sink, L: Ledger>(
     ensures source_counts { S.faults input.old ≤ S.faults input.new }
     ensures sink_counts { K.faults output.old ≤ K.faults output.new }
 {
-    let Some(folder) = folder_of(words) else {
+    let Some(folders) = folders_of(words) else {
         return Status(Ending::BadWords.number());
     };
-    let checked = match read_folder(alloc, shelf, folder) {
-        Err(FolderStop::ShelfFault) => return Status(Ending::ShelfFault.number()),
-        Err(FolderStop::NoMemory) => return Status(Ending::NoMemory.number()),
-        Err(FolderStop::Refused(fault)) => return Status(refuse(alloc, &fault, output).number()),
-        Ok(checked) => checked,
+    let world = match publish_folders(alloc, shelf, folders) {
+        Err(PublishStop::ShelfFault) => return Status(Ending::ShelfFault.number()),
+        Err(PublishStop::NoMemory) => return Status(Ending::NoMemory.number()),
+        Err(PublishStop::Refused(number, fault)) => {
+            return Status(refuse(alloc, number, &fault, output).number());
+        }
+        Ok(world) => world,
     };
-    Status(replay(alloc, checked, input, output).number())
+    Status(replay(alloc, world, input, output, steps).number())
 }
 
-/// Writes the line that tells the fault of a folder. Where memory is wanting for it nothing is written,
-/// and where the sink fails a beginning of it.
-fn refuse<K: Sink>(alloc: Global, fault: &Fault, output: &mut K) -> Ending
+/// Writes the line that tells which folder is refused, by its number, and for what. Where memory is wanting
+/// for it nothing is written, and where the sink fails a beginning of it.
+fn refuse<K: Sink>(alloc: Global, number: usize, fault: &Fault, output: &mut K) -> Ending
     ensures endings { IsRefusalEnding result }
-    ensures written { result ≡ Ending.UnitRefused → K.written output.new ≡ then_piece (K.written output.old) (refused_line (told_by fault.now)) }
-    ensures cut { result ≡ Ending.WriteFault → AddsPrefix (K.written output.old) (refused_line (told_by fault.now)) (K.written output.new) }
+    ensures written { result ≡ Ending.UnitRefused → K.written output.new
+        ≡ then_piece (K.written output.old)
+        (refused_line (record { folder = number; fault = told_by fault.now })) }
+    ensures cut { result ≡ Ending.WriteFault
+        → AddsPrefix (K.written output.old)
+        (refused_line (record { folder = number; fault = told_by fault.now }))
+        (K.written output.new) }
     ensures no_memory { result ≡ Ending.NoMemory → output.new ≡ output.old }
     ensures cause { result ≡ Ending.WriteFault → Rose (K.faults output.old) (K.faults output.new) }
     ensures counts { K.faults output.old ≤ K.faults output.new }
 {
-    let Ok(line) = line_of_fault(alloc, fault) else {
+    let Ok(line) = line_of_refusal(alloc, number, fault) else {
         return Ending::NoMemory;
     };
     match write_all(output, line.as_str().as_bytes()) {
@@ -92,11 +109,15 @@ fn refuse<K: Sink>(alloc: Global, fault: &Fault, output: &mut K) -> Ending
     }
 }
 
-/// The line that tells the fault: its file, its place and its code.
-fn line_of_fault(alloc: Global, fault: &Fault) -> Result<Text, NoMemory>
-    ensures { IfOk result (λ line. line.bytes ≡ refused_line (told_by fault.now)) }
+/// The line that tells which folder is refused: its number, and the file, the place and the code of the
+/// fault.
+fn line_of_refusal(alloc: Global, number: usize, fault: &Fault) -> Result<Text, NoMemory>
+    ensures { IfOk result (λ line. line.bytes
+        ≡ refused_line (record { folder = number; fault = told_by fault.now })) }
 {
-    let mut line = Text::of(alloc, "refused 1 ")?;
+    let mut line = Text::of(alloc, "refused ")?;
+    line.push(Buffer::new().format(number))?;
+    line.push(" ")?;
     line.push(fault.file.name())?;
     line.push(" ")?;
     line.push(fault.place_text())?;

@@ -1,26 +1,52 @@
 //! The words of a call.
 ghost use Rattle.std.specs.Prelude.{◌≡◌, option_map, codes};
-ghost use Rattle.ld_top.specs.Words.{words_of, folder_in, is_plain_word as plain_word};
+ghost use Rattle.std.specs.List.{list_all};
+ghost use Rattle.ld_top.specs.Words.{words_of, are_folders, folders_in, is_plain_word as plain_word};
 
 use crate::ending::Ending;
 use std::io::ErrorKind;
 use std::{env, io};
 
-/// The folder of `replay FOLDER`, or `None` where the words have no form of the program. No word of
-/// a form is empty or begins with `-`.
-#[tactic(auto, unfolding(crate::specs::Words::folder_in))]
-pub fn folder_of(words: &[String]) -> Option<&str>
-    ensures { option_map (λ folder. folder.now) result ≡ folder_in (words_of words.now) }
+/// The most folders that a call names.
+pub const FOLDERS_MOST: usize = 64;
+
+/// The folders of `replay FOLDER..`, or `None` where the words have no form of the program. No word of
+/// a form is empty or begins with `-`. (docs/COMMANDS.md, "Words")
+#[tactic(auto, unfolding(crate::specs::Words::folders_in))]
+pub fn folders_of(words: &[String]) -> Option<&[String]>
+    ensures { option_map (λ folders.
+        words_of folders.now) result ≡ folders_in (words_of words.now) }
 {
-    let [verb, folder] = words else {
+    let [verb, folders @ ..] = words else {
         return None;
     };
-    let folder = folder.as_str();
-    if verb.as_str() == "replay" && is_plain(folder) {
-        Some(folder)
+    if verb.as_str() == "replay" && are_folders(folders) {
+        Some(folders)
     } else {
         None
     }
+}
+
+/// Whether the words are folders of a call: one or more, but not too many, and each plain.
+fn are_folders(words: &[String]) -> bool
+    ensures { result ≡ are_folders (words_of words.now) }
+{
+    if words.is_empty() || words.len() > FOLDERS_MOST {
+        return false;
+    }
+    are_plain(words)
+}
+
+/// Whether each word is plain.
+fn are_plain(words: &[String]) -> bool
+    ensures { result ≡ list_all plain_word (words_of words.now) }
+{
+    for word in words {
+        if !is_plain(word.as_str()) {
+            return false;
+        }
+    }
+    true
 }
 
 /// Whether the word is not empty and does not begin with `-`.

@@ -37,10 +37,17 @@ pub const FIRST_FILES: [Named; 3] = [
     ),
 ];
 
-/// What a call for the first unit finds: its lines, in pieces of so many bytes; how much fits into the sink;
-/// and the numbers of the calls that fail, 0 for none.
+/// The document of a second unit, which has the same roles and activities.
+pub const SECOND_UNIT: Named = (
+    "unit.json",
+    br#"{"format":1,"identifier":"u2","level":"A","method":{"plays":[{"identifier":"p","acts":[{"identifier":"a","role-parts":[{"identifier":"rp","role":"learner","ref":"read"}]}]}]}}"#,
+);
+
+/// What a call finds: its words; its lines, in pieces of so many bytes; how much fits into the sink; and the
+/// numbers of the calls that fail, 0 for none.
 #[derive(Drop)]
 pub struct Case<'a> {
+    pub words: &'a [&'static str],
     pub lines: &'a [u8],
     pub piece: usize,
     pub room: usize,
@@ -49,9 +56,10 @@ pub struct Case<'a> {
     pub sink_fails: u64,
 }
 
-/// These lines, and nothing that fails.
-pub fn first<'a>(lines: &'a [u8]) -> Case<'a> {
+/// These words and lines, and nothing that fails.
+pub fn case_of<'a>(words: &'a [&'static str], lines: &'a [u8]) -> Case<'a> {
     Case {
+        words,
         lines,
         piece: 4096,
         room: 100_000,
@@ -59,6 +67,11 @@ pub fn first<'a>(lines: &'a [u8]) -> Case<'a> {
         source_fails: 0,
         sink_fails: 0,
     }
+}
+
+/// These lines, for the folder of the first unit, and nothing that fails.
+pub fn first<'a>(lines: &'a [u8]) -> Case<'a> {
+    case_of(&["replay", "u1"], lines)
 }
 
 /// The bytes as a list.
@@ -75,13 +88,18 @@ fn call(alloc: Global, number: u64) -> Result<CallList, NoMemory> {
     Ok(calls)
 }
 
-/// A file of the folder `u1`.
-pub fn file(alloc: Global, name: &str, content: &[u8]) -> Result<File, NoMemory> {
+/// A file of the folder.
+pub fn file_in(alloc: Global, folder: &str, name: &str, content: &[u8]) -> Result<File, NoMemory> {
     Ok(File {
-        folder: Text::of(alloc, "u1")?,
+        folder: Text::of(alloc, folder)?,
         file: Text::of(alloc, name)?,
         bytes: bytes(alloc, content)?,
     })
+}
+
+/// A file of the folder `u1`.
+pub fn file(alloc: Global, name: &str, content: &[u8]) -> Result<File, NoMemory> {
+    file_in(alloc, "u1", name, content)
 }
 
 /// The documents of the first course.
@@ -89,6 +107,19 @@ pub fn first_files(alloc: Global) -> Result<FileList, NoMemory> {
     let mut files = Items::new(alloc);
     for (name, content) in FIRST_FILES {
         files.push(file(alloc, name, content)?)?;
+    }
+    Ok(files)
+}
+
+/// The documents of both units, in the folders `u1` and `u2`.
+pub fn both_files(alloc: Global) -> Result<FileList, NoMemory> {
+    let mut files = first_files(alloc)?;
+    let (unit, content) = SECOND_UNIT;
+    files.push(file_in(alloc, "u2", unit, content)?)?;
+    for (name, content) in FIRST_FILES {
+        if name != unit {
+            files.push(file_in(alloc, "u2", name, content)?)?;
+        }
     }
     Ok(files)
 }
@@ -133,7 +164,7 @@ fn written(
     source: &mut MemorySource,
     case: &Case<'_>,
 ) -> Result<(u8, Vec<u8>), NoMemory> {
-    let words = strings(alloc, &["replay", "u1"])?;
+    let words = strings(alloc, case.words)?;
     let mut sink = MemorySink::new(alloc, case.room, call(alloc, case.sink_fails)?)?;
     let status = status_of::<Brand>(alloc, &words, shelf, source, &mut sink, Blank::new(1));
     let written = Vec::from_slice(alloc, sink.bytes())?;

@@ -5,10 +5,12 @@
 #[cfg(test)]
 mod calls;
 #[cfg(test)]
-mod engine;
-#[cfg(test)]
 mod folders;
 #[cfg(test)]
 mod refs;
 #[cfg(test)]
+mod several;
+#[cfg(test)]
 mod streams;
+#[cfg(test)]
+mod words;

@@ -67,9 +67,12 @@ fn read_last_documents(
     files: &[Option<Bytes>; 6],
 ) -> Result<(Option<Doc>, Option<Doc>), ReadFault>
     ensures unit { IfOk result (λ last. last.0 ≡ (held_by files.now file_no.Unit then json_of)) }
-    ensures conditions { IfOk result (λ last. last.1 ≡ (held_by files.now file_no.Conditions then json_of)) }
-    ensures faultless { OnOk result (json_faults_of (file_no.Unit ∷ file_no.Conditions ∷ []) (held_by files.now) ≡ []) }
-    ensures first { IfErr result (SaysFirst (json_faults_of (file_no.Unit ∷ file_no.Conditions ∷ []) (held_by files.now))) }
+    ensures conditions { IfOk result (λ last.
+        last.1 ≡ (held_by files.now file_no.Conditions then json_of)) }
+    ensures faultless { OnOk result (
+        json_faults_of (file_no.Unit ∷ file_no.Conditions ∷ []) (held_by files.now) ≡ []) }
+    ensures first { IfErr result (SaysFirst (
+        json_faults_of (file_no.Unit ∷ file_no.Conditions ∷ []) (held_by files.now))) }
 {
     let [_, _, _, _, unit, conditions] = files;
     let unit = read_document(alloc, unit, FileNo::Unit)?;

@@ -24,10 +24,14 @@ pub(super) fn read_files<H: Shelf>(
     shelf: &mut H,
     folder: &str,
 ) -> Result<[Option<Bytes>; 6], FolderStop>
-    ensures read { IfOk result (λ read. WhereTold (H.files shelf.old) (λ files. read ≡ map (held_in files folder.now) all_files)) }
-    ensures faultless { OnOk result (WhereTold (H.files shelf.old) (λ files. presence_faults (held_in files folder.now) ≡ [])) }
-    ensures first { IfErr result (λ stop. WhereTold (H.files shelf.old) (λ files. StopsAtFirst (presence_faults (held_in files folder.now)) stop)) }
-    ensures fault { result ≡ Err FolderStop.ShelfFault → Rose (H.faults shelf.old) (H.faults shelf.new) }
+    ensures read { IfOk result (λ read. WhereTold (H.files shelf.old) (λ files.
+        read ≡ map (held_in files folder.now) all_files)) }
+    ensures faultless { OnOk result (WhereTold (H.files shelf.old) (λ files.
+        presence_faults (held_in files folder.now) ≡ [])) }
+    ensures first { IfErr result (λ stop. WhereTold (H.files shelf.old) (λ files.
+        StopsAtFirst (presence_faults (held_in files folder.now)) stop)) }
+    ensures fault { result ≡ Err FolderStop.ShelfFault
+        → Rose (H.faults shelf.old) (H.faults shelf.new) }
     ensures counts { H.faults shelf.old ≤ H.faults shelf.new }
     ensures same { H.files shelf.new ≡ H.files shelf.old }
 {
@@ -54,10 +58,14 @@ fn file_in<H: Shelf>(
     folder: &str,
     file: FileNo,
 ) -> Result<Option<Bytes>, FolderStop>
-    ensures read { IfOk result (λ read. WhereTold (H.files shelf.old) (λ files. read ≡ held_in files folder.now file)) }
-    ensures faultless { OnOk result (WhereTold (H.files shelf.old) (λ files. presence_fault file (held_in files folder.now file) ≡ [])) }
-    ensures first { IfErr result (λ stop. WhereTold (H.files shelf.old) (λ files. StopsAtFirst (presence_fault file (held_in files folder.now file)) stop)) }
-    ensures fault { result ≡ Err FolderStop.ShelfFault → Rose (H.faults shelf.old) (H.faults shelf.new) }
+    ensures read { IfOk result (λ read. WhereTold (H.files shelf.old) (λ files.
+        read ≡ held_in files folder.now file)) }
+    ensures faultless { OnOk result (WhereTold (H.files shelf.old) (λ files.
+        presence_fault file (held_in files folder.now file) ≡ [])) }
+    ensures first { IfErr result (λ stop. WhereTold (H.files shelf.old) (λ files.
+        StopsAtFirst (presence_fault file (held_in files folder.now file)) stop)) }
+    ensures fault { result ≡ Err FolderStop.ShelfFault
+        → Rose (H.faults shelf.old) (H.faults shelf.new) }
     ensures counts { H.faults shelf.old ≤ H.faults shelf.new }
     ensures same { H.files shelf.new ≡ H.files shelf.old }
 {

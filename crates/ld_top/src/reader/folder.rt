@@ -25,10 +25,14 @@ pub fn read_folder<H: Shelf>(
     shelf: &mut H,
     folder: &str,
 ) -> Result<Checked, FolderStop>
-    ensures unit { IfOk result (λ checked. WhereTold (H.files shelf.old) (λ files. unit_of_folder files folder.now ≡ Some checked.unit)) }
-    ensures faultless { OnOk result (WhereTold (H.files shelf.old) (λ files. folder_faults files folder.now ≡ [])) }
-    ensures first { IfErr result (λ stop. WhereTold (H.files shelf.old) (λ files. StopsAtFirst (folder_faults files folder.now) stop)) }
-    ensures fault { result ≡ Err FolderStop.ShelfFault → Rose (H.faults shelf.old) (H.faults shelf.new) }
+    ensures unit { IfOk result (λ checked. WhereTold (H.files shelf.old) (λ files.
+        unit_of_folder files folder.now ≡ Some checked.unit)) }
+    ensures faultless { OnOk result (WhereTold (H.files shelf.old) (λ files.
+        folder_faults files folder.now ≡ [])) }
+    ensures first { IfErr result (λ stop. WhereTold (H.files shelf.old) (λ files.
+        StopsAtFirst (folder_faults files folder.now) stop)) }
+    ensures fault { result ≡ Err FolderStop.ShelfFault
+        → Rose (H.faults shelf.old) (H.faults shelf.new) }
     ensures counts { H.faults shelf.old ≤ H.faults shelf.new }
     ensures same { H.files shelf.new ≡ H.files shelf.old }
 {

@@ -1,6 +1,6 @@
 use Rattle.std.proofs.Common.{◌≤◌, ◌+◌, ◌-◌, ◌^◌, length}
 use Rattle.ld_base.specs.Roomy.{room_of}
-use Rattle.ld_top.specs.WorldView.{world_of}
+use Rattle.ld_world.specs.WorldView.{world_of}
 use Rattle.ld_top.proofs.Replaying.{IsUnderWay}
 use Rattle.ld_top.proofs.replay.answer_lines.Given as goal
 

@@ -1,0 +1,43 @@
+//! The words of a call.
+use crate::calls::{both_files, case_of, ran_over};
+use ld_base::memory::NoMemory;
+use std::alloc::Global;
+use std::test::Fail;
+
+/// The status of a call of these words without lines.
+fn status<'a>(alloc: Global, words: &'a [&'static str]) -> Result<u8, NoMemory> {
+    let (status, _) = ran_over(alloc, both_files(alloc)?, &case_of(words, b""))?;
+    Ok(status)
+}
+
+#[test]
+fn words_of_no_form_are_refused(rt: HostRuntime) -> Result<(), Fail> {
+    let table: [(&[&str], u8); 9] = [
+        (&[], 2),
+        (&["replay"], 2),
+        (&["play", "u1"], 2),
+        (&["Replay", "u1"], 2),
+        (&["replay", ""], 2),
+        (&["replay", "-u1"], 2),
+        (&["replay", "u1", "-"], 2),
+        (&["replay", "u1", "u2"], 0),
+        (&["replay", "replay"], 4),
+    ];
+    for (words, expected) in table {
+        assert_eq!(rt; status(rt.alloc(), words)?, expected, "{words:?}");
+    }
+    Ok(())
+}
+
+#[test]
+fn at_most_64_folders_are_named(rt: HostRuntime) -> Result<(), Fail> {
+    let mut words = Vec::new(rt.alloc());
+    words.push("replay")?;
+    for _ in 0..64 {
+        words.push("none")?;
+    }
+    assert_eq!(rt; status(rt.alloc(), &words)?, 4);
+    words.push("none")?;
+    assert_eq!(rt; status(rt.alloc(), &words)?, 2);
+    Ok(())
+}
