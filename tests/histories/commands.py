@@ -5,17 +5,28 @@ import re
 
 LONGEST_LINE = 65_536
 
-# The words of each verb, by what they name.
+# The words of each verb, by what they name. An owner is the person of a global verb.
 WORDS = {
     "create": ["run", "unit"],
     "enrol": ["run", "person"],
     "assign": ["run", "person", "role"],
+    "drop": ["run", "person", "role"],
     "start": ["run"],
+    "open": ["run", "person", "activity"],
     "complete": ["run", "person", "activity"],
+    "set": ["run", "person", "property", "value"],
+    "clear": ["run", "person", "property"],
+    "get": ["run", "person", "property"],
     "tree": ["run", "person"],
+    "outbox": ["run", "person"],
+    "report": ["run"],
+    "tick": ["run"],
+    "global-set": ["uri", "owner", "value"],
+    "global-get": ["uri", "owner"],
 }
 
 IDENTIFIER = re.compile("[A-Za-z_][A-Za-z0-9_.-]{0,63}")
+URI = re.compile("[!-~]{1,4096}")
 MOMENT = re.compile("([0-9]{4})-([0-9]{2})-([0-9]{2})T([0-9]{2}):([0-9]{2}):([0-9]{2})Z")
 
 
@@ -40,6 +51,15 @@ def is_identifier(text):
     return IDENTIFIER.fullmatch(text) is not None
 
 
+def has_form(name, text):
+    """A URI has 1 to 4,096 printed bytes, a value is any text, an owner may be empty, and all else is an identifier."""
+    if name == "uri":
+        return URI.fullmatch(text) is not None
+    if name == "value" or name == "owner" and text == "":
+        return True
+    return is_identifier(text)
+
+
 def moment_of(text):
     """A moment is 86,400 times the number of its day plus the second of the day; None where it is none."""
     match = MOMENT.fullmatch(text)
@@ -61,6 +81,11 @@ def text_of_moment(number):
     return f"{moment.year:04}-{moment:%m-%dT%H:%M:%S}Z"
 
 
+def is_unicode(text):
+    """Whether a text has no half of a pair of escapes, which Python's reader leaves and `serde_json` does not read."""
+    return not any("\ud800" <= each <= "\udfff" for each in text)
+
+
 def texts_of(line):
     """The texts of a line that is one JSON array of texts; None for any other line."""
     try:
@@ -69,17 +94,17 @@ def texts_of(line):
         return None
     if not isinstance(value, list) or not all(isinstance(element, str) for element in value):
         return None
-    return value
+    return value if all(is_unicode(text) for text in value) else None
 
 
 def command_of(line):
-    """A command line has a moment, a verb and as many identifiers as the verb's words; None for a bad line."""
+    """A command line has a moment, a verb and as many words of the right forms as the verb has; None for a bad line."""
     texts = None if is_over_long(line) else texts_of(line)
     if texts is None or len(texts) < 2:
         return None
     moment, verb, words = moment_of(texts[0]), texts[1], texts[2:]
     if moment is None or verb not in WORDS or len(words) != len(WORDS[verb]):
         return None
-    if not all(is_identifier(word) for word in words):
+    if not all(has_form(name, word) for name, word in zip(WORDS[verb], words)):
         return None
     return {"moment": moment, "verb": verb, **dict(zip(WORDS[verb], words))}

@@ -1,10 +1,10 @@
 #!/usr/bin/env python3
-"""Runs the program on random histories of random units and compares all that it writes with the model.
+"""Runs the program on random histories of random units, one or several, and compares all that it writes with the model.
 
     run.py PROGRAM [SEED [COUNT]]
 
 The model (model.py) was written from the documents by somebody who had not read the program or its
-definitions. Each unit and its history follow from a seed: the first from SEED, the next from the number
+definitions. The units of a call and its history follow from a seed: the first from SEED, the next from the number
 after it. So `run.py PROGRAM SEED 1` runs one of them again. At the first difference it ends.
 """
 import collections
@@ -22,12 +22,14 @@ import time
 import courses
 from commands import lines_of
 from lines import History
-from model import replies
+from model import answer
 
 SEED = 1
-COUNT = 320
+COUNT = 500
 LONGEST = 60
 SHOWN = 300
+# How often folders have a fault, so that none is published.
+FAULTY = 0.05
 
 
 def write_folder(draw, path, documents):
@@ -66,14 +68,21 @@ def feed(pipe, given):
     pipe.close()
 
 
-def run_program(program, draw, documents, data):
-    """The status, what is written and what is said, for this folder and this input."""
-    with tempfile.TemporaryDirectory() as path:
-        folder = pathlib.Path(path, "folder")
+def write_folders(draw, path, folders):
+    """Writes the folders, and gives their paths in order."""
+    paths = [path / f"folder {number}" for number in range(len(folders))]
+    for folder, documents in zip(paths, folders):
         folder.mkdir()
         write_folder(draw, folder, documents)
+    return [str(folder) for folder in paths]
+
+
+def run_program(program, draw, folders, data):
+    """The status, what is written and what is said, for these folders and this input."""
+    with tempfile.TemporaryDirectory() as path:
+        words = write_folders(draw, pathlib.Path(path), folders)
         with open(pathlib.Path(path, "out"), "w+b") as out, open(pathlib.Path(path, "err"), "w+b") as err:
-            running = subprocess.Popen([program, "replay", str(folder)], bufsize=0, stdin=subprocess.PIPE, stdout=out,
+            running = subprocess.Popen([program, "replay", *words], bufsize=0, stdin=subprocess.PIPE, stdout=out,
                                        stderr=err)
             watch = threading.Timer(LONGEST, running.kill)
             watch.start()
@@ -90,18 +99,19 @@ def shortened(line):
     return repr(line) if len(line) <= SHOWN else f"{line[:SHOWN]!r}.. ({len(line)} bytes)"
 
 
-def tell(seed, documents, lines, blocks, answer):
+def tell(seed, folders, lines, blocks, got):
     """Shows the first line whose reply differs, what came before it, and both replies."""
-    status, written, said = answer
+    status, written, said = got
     place = 0
-    while place < len(lines) and written.startswith(blocks[place]):
+    while place < len(blocks) and written.startswith(blocks[place]):
         written = written[len(blocks[place]):]
         place += 1
     print(f"a difference, to be had again by `run.py PROGRAM {seed} 1`: status {status}, {said!r} is said")
-    print(json.dumps(documents, indent=1))
+    for documents in folders:
+        print(json.dumps(documents, indent=1))
     for line in lines[:place + 1]:
         print(shortened(line))
-    print(f"the model: {blocks[place] if place < len(lines) else b''!r}")
+    print(f"the model: {blocks[place] if place < len(blocks) else b''!r}")
     print(f"the program: {shortened(written[:4 * SHOWN])}")
 
 
@@ -110,7 +120,19 @@ def kinds_of(block):
     words = block.decode().split("\n")[0].split(" ")
     if words[0] == "no":
         return " ".join(words[:3])
+    if words[0] == "refused":
+        return f"{words[0]} {words[-1]}"
     return " ".join(word for word in words if not word.startswith(("rejected", "sent", "lines")))
+
+
+def case_of(seed):
+    """What is drawn for a seed: the rest of the draw, the documents of the folders, and the input."""
+    draw = random.Random(seed)
+    folders = courses.folders_of(draw)
+    data = History(draw, folders).data()
+    if courses.happens(draw, FAULTY):
+        folders = courses.spoiled(draw, folders)
+    return draw, folders, data
 
 
 def main():
@@ -120,17 +142,16 @@ def main():
     agreed = compared = 0
     kinds = collections.Counter()
     for seed in range(first, first + count):
-        draw = random.Random(seed)
-        documents = courses.documents(draw)
-        data = History(draw, documents).data()
+        draw, folders, data = case_of(seed)
         lines = lines_of(data)
-        blocks = [block.encode() for block in replies(documents, lines)]
-        answer = run_program(program, draw, documents, data)
-        if answer != (0, b"".join(blocks), b""):
-            tell(seed, documents, lines, blocks, answer)
+        status, blocks, said = answer(folders, lines)
+        blocks = [block.encode() for block in blocks]
+        got = run_program(program, draw, folders, data)
+        if got != (status, b"".join(blocks), said.encode()):
+            tell(seed, folders, lines, blocks, got)
             break
         agreed += 1
-        compared += len(lines)
+        compared += len(lines) if status == 0 else 0
         kinds.update(kinds_of(block) for block in blocks)
     for kind, number in sorted(kinds.items()):
         print(f"{number} {kind or 'passed over'}")

@@ -19,9 +19,19 @@ def acts_of(documents):
     return [act for play in plays_of(documents) for act in play["acts"]]
 
 
+def roles_of(documents):
+    """The roles, in document order."""
+    return documents["roles.json"]["roles"]
+
+
 def activities_of(documents):
     """The activities, in document order."""
     return documents["activities.json"].get("activities", [])
+
+
+def properties_of(documents):
+    """The properties, in document order; the file may be absent."""
+    return documents.get("properties.json", {}).get("properties", [])
 
 
 def has(things, identifier):
@@ -37,8 +47,12 @@ def with_identifier(things, identifier):
 # The state of a run.
 
 def new_run(moment):
-    """A run begins with nobody in it, nothing said, opened or marked, and its moment is the line's."""
-    return {"now": moment, "start": None, "persons": [], "held": [], "said": [], "opened": {}, "marked": []}
+    """A run begins with nobody in it, nothing said, opened or marked, and its moment is the line's.
+
+    `opened` has the moment at which each act was opened, and `looked` that of a person's first opening of an activity.
+    """
+    return {"now": moment, "start": None, "persons": [], "held": frozenset(), "said": frozenset(), "looked": {},
+            "opened": {}, "marked": frozenset()}
 
 
 def is_started(run):
@@ -46,9 +60,14 @@ def is_started(run):
     return run["start"] is not None
 
 
-def is_member(run, person, role):
-    """A person is a member of a role that the person holds."""
+def is_holder(run, person, role):
+    """Whether the person holds this very role."""
     return (person, role) in run["held"]
+
+
+def is_member(run, person, role):
+    """A person is a member of a role that the person holds; no unit that is run today has roles within roles."""
+    return is_holder(run, person, role)
 
 
 def members_of(run, role):
@@ -123,7 +142,7 @@ def test_of(documents, run, site):
 def fired(run, site):
     """The mark takes the answer of the test, and an act that opens keeps the present moment."""
     kind, identifier, _ = site
-    run = dict(run, marked=run["marked"] + [site])
+    run = dict(run, marked=run["marked"] | {site})
     if kind == "opening":
         run = dict(run, opened={**run["opened"], identifier: run["now"]})
     return run

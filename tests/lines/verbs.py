@@ -1,8 +1,5 @@
 """Each verb: what its words are, words that are right, and the reply to them. Written by hand from docs/COMMANDS.md."""
 
-# The verbs that are read, and answered as a bad line until runs know them. Take a verb out once it is run.
-NOT_RUN = ["drop", "open", "set", "clear", "get", "outbox", "report", "tick", "global-set", "global-get"]
-
 # The reply to a moment before the run's last one.
 MOMENT_BACK = "no 5 moment-back {moment}"
 

@@ -3,9 +3,9 @@
 
     run.py PROGRAM [WORD]
 
-A transcript is a folder with two files, `lines` and `replies`, taken byte for byte; the unit of all of them is
-the folder `unit`. The replies were written by hand, from docs/COMMANDS.md and docs/MEANING.md. With a WORD,
-only the transcripts whose names have it are run.
+A transcript is a folder with two files, `lines` and `replies`, taken byte for byte. Its units are the folders whose
+names a third file, `folders`, has line by line; where there is none, the folder `unit`. The replies were written by
+hand, from docs/COMMANDS.md and docs/MEANING.md. With a WORD, only the transcripts whose names have it are run.
 """
 import pathlib
 import subprocess
@@ -15,9 +15,15 @@ LONGEST = 60
 HERE = pathlib.Path(__file__).parent
 
 
+def units_of(folder):
+    """The folders of the units of a transcript, in order."""
+    names = folder / "folders"
+    return [str(HERE / name) for name in (names.read_text().split("\n")[:-1] if names.exists() else ["unit"])]
+
+
 def judge(program, folder):
     """What is wrong with the program's answer, or None."""
-    done = subprocess.run([program, "replay", str(HERE / "unit")], input=(folder / "lines").read_bytes(),
+    done = subprocess.run([program, "replay", *units_of(folder)], input=(folder / "lines").read_bytes(),
                           capture_output=True, timeout=LONGEST, check=False)
     promised = 0, (folder / "replies").read_bytes(), b""
     answer = done.returncode, done.stdout, done.stderr
