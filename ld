@@ -17,7 +17,7 @@ build() {
     echo "ld: the Rattle toolchain is not here: its command 'rt' is not on the PATH" >&2
     return 1
   fi
-  echo "ld: proving and building the program; the first time takes up to half an hour on four processors" >&2
+  echo "ld: proving and building the program; the first time takes some three quarters of an hour on four processors" >&2
   python3 -B "$root/build.py"
 }
 
