@@ -10,10 +10,10 @@ use Rattle.ld_cascade.specs.Settling.{visited, fired_below, after_sweeps, all_fi
 use Rattle.ld_names.specs.Names.{named_by}
 use Rattle.ld_parts.specs.Listing.{value_set_parts, condition_true_parts, completed_parts, completion_parts, follows_parts, on_completion_parts, role_part, property_parts_at, object_parts_at, service_parts, environment_parts_at, parts_before_items, ending_parts, activity_parts_at, structure_parts_at, role_part_parts_at, act_parts_at, play_parts_at, method_parts, unit_parts, action_parts, condition_parts_at, middle_parts, parts_of}
 use Rattle.ld_walk.specs.CommonParts.{change_parts, notice_parts}
-use Rattle.ld_rules.specs.Actions.{site_firing}
+use Rattle.ld_firing.specs.Actions.{site_firing}
 use Rattle.ld_state.specs.RunState.{cell_of}
 use Rattle.ld_rules.specs.SiteTests.{site_test}
-use Rattle.ld_rules.specs.RunSettling.{run_settling}
+use Rattle.ld_firing.specs.RunSettling.{run_settling}
 use Rattle.ld_run.specs.Checks.{admitted}
 use Rattle.ld_lines.specs.declared.command.RunCommand.TheVariants.{Tree}
 use Rattle.ld_run.specs.RunStep.{run_step}

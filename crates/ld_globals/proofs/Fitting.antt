@@ -1,5 +1,5 @@
 -- Each value of the store fits the declaration of its uri.
-use Rattle.std.proofs.Common.{◌≡◌, ℕ, zero, suc, List, [], ◌∷◌, map, slice_get, Bool, true, false, cond, IsTrue, Some, option_map, refl, sym, ap, subst, ◌∙◌}
+use Rattle.std.proofs.Common.{◌≡◌, ℕ, zero, suc, List, [], ◌∷◌, map, slice_get, Bool, true, false, cond, IsTrue, Option, None, Some, option_map, refl, sym, ap, subst, ◌∙◌}
 use Rattle.std.proofs.lemmas.Bool.{true≢false}
 use Rattle.std.specs.Cmp.Lexicographic.{bytes_decides}
 use Rattle.std.specs.List.{AllByRecursion, IsDistinct}
@@ -8,12 +8,12 @@ use Rattle.std.specs.Str.{bytes_eq}
 use Rattle.ld_base.specs.Roomy.{Roomy}
 use Rattle.ld_value.specs.Datum.{datum_of}
 use Rattle.ld_globals.specs.Declarations.{declaration_of, fits_declared}
-use Rattle.ld_globals.specs.Kept.{DeclareOnce, IsCell, IsWhole, key_of, uri_in, written_of}
-use Rattle.ld_globals.specs.Store.{Key, Write, same_key}
+use Rattle.ld_globals.specs.Kept.{DeclareOnce, IsCell, IsWhole, key_of, pair_of, uri_in, written_of}
+use Rattle.ld_globals.specs.Store.{Key, Write, declared_in, same_key}
 use Rattle.ld_globals.specs.declared.cell.Cell.{Cell}
 use Rattle.ld_globals.specs.declared.declared.Declared.{Declared}
 use Rattle.ld_globals.specs.declared.key_number.KeyNumber.{KeyNumber}
-use Rattle.ld_globals.proofs.Looked.{all-there}
+use Rattle.ld_globals.proofs.Looked.{all-there, declared-found}
 use Rattle.ld_globals.proofs.Since.{found-cell, keys-equal}
 
 -- An initial value fits.
@@ -55,3 +55,18 @@ written-fits declared persons cells key d w distinct all found written =
     let both : Some cell.entry.1 ≡ Some d = sym own ∙ found in
     let same : cell.entry.1 ≡ d = cc in
     subst (λ v. IsTrue (fits_declared (declaration_of d) v)) (ap (λ x. x.value) f.4) (subst (λ t. IsTrue (fits_declared (declaration_of t) (option_map datum_of f.1.1.value))) same cell.fitting)
+
+-- A key of a uri that is not declared was never written.
+pub never-written : (declared : List (Roomy × Declared)) (persons : List (List ℕ)) (cells : List (KeyNumber × Cell)) (key : Key) → DeclareOnce declared → AllByRecursion (IsCell declared persons) cells
+    → declared_in (map pair_of declared) key.uri ≡ None → lookup (same_key key) (map (written_of declared persons) cells) ≡ None
+never-written declared persons cells key distinct all none = by (lookup (same_key key) (map (written_of declared persons) cells)) refl
+  where
+    by : (o : Option Write) → lookup (same_key key) (map (written_of declared persons) cells) ≡ o → o ≡ None
+    by None found = refl
+    by (Some w) found =
+        let f = found-cell (key_of declared persons) key cells w found in
+        let cell = all-there (IsCell declared persons) cells f.0 f.1 all f.2 in
+        let uri : key.uri ≡ cell.entry.0.bytes = ap (λ k. k.uri) (keys-equal key (key_of declared persons f.1.0) f.3) ∙ ap uri_in cell.there in
+        let own = own-entry declared f.1.0.uri cell.entry key.uri distinct cell.there ((bytes_decides key.uri cell.entry.0.bytes).1 uri) in
+        let both : None ≡ Some (declaration_of cell.entry.1) = sym none ∙ declared-found declared key.uri ∙ ap (option_map declaration_of) own in
+        cc

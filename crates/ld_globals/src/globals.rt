@@ -7,7 +7,7 @@ ghost use Rattle.ld_value.specs.Datum.{datum_of};
 ghost use Rattle.ld_globals.specs.Answers.{got, key_given, meaning};
 ghost use Rattle.ld_globals.specs.Given.{IsLent, given_text};
 ghost use Rattle.ld_globals.specs.Kept.{IsWhole, pairs_of};
-ghost use Rattle.ld_globals.specs.Store.{Key, Agrees, KeepsWrites, IsRefused, IsTold, IsSet, IsWritable, bound_of as bound_after, declare_in, get_answer, key_at, put_in, reserve_in, same_key, set_answer, spend, written_since};
+ghost use Rattle.ld_globals.specs.Store.{Key, Agrees, KeepsWrites, IsRefused, IsTold, IsSet, IsWritable, bound_of as bound_after, declare_in, declared_at, get_answer, key_at, last_write, put_in, reserve_in, same_key, set_answer, spend, written_since};
 
 use crate::cell::Cell;
 use crate::changes::Changes;
@@ -238,13 +238,15 @@ impl Globals {
 
     /// Declares all uris of the list, or none. A uri that is declared already stays as it is;
     /// where one of them is declared with other contents the list is refused. The values of the
-    /// store stay.
+    /// store stay, and of a uri that was not declared no key was ever written.
     pub fn declare(&mut self, list: DeclaredList) -> Result<(), DeclareFault>
         requires differ { IsDistinct bytes_eq (keys_of (pairs_of list)) }
         requires whole { AllByRecursion IsWhole list }
         ensures ok { OnOk result (self.new ≡ declare_in self.old (pairs_of list)) }
         ensures kept { OnOk result (KeepsWrites self.old self.new) }
         ensures agree { OnOk result (AllByRecursion (Agrees self.old) (pairs_of list)) }
+        ensures unwritten { OnOk result ((key : Key) → declared_at self.old key.uri ≡ None
+            → last_write self.old key ≡ None) }
         ensures differs { IfErr result (IsTold self.old (pairs_of list)) }
         ensures err { OnErr result (self.new ≡ self.old) }
     {

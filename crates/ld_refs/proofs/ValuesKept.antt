@@ -29,7 +29,7 @@ use Rattle.ld_walk.specs.declared.kind.Wanted.TheVariants as wanted
 use Rattle.ld_walk.specs.Parts.{Declared, Types, Part}
 use Rattle.ld_walk.specs.Places.{At, member, nth, root}
 use Rattle.ld_refs.specs.Bounds.{level_faults, profile_faults}
-use Rattle.ld_refs.specs.Checks.{IsValid, text_faults, valid_faults, meaning_faults}
+use Rattle.ld_refs.specs.Checks.{IsValid, text_faults, check_faults, meaning_faults}
 use Rattle.ld_refs.specs.Reaching.{cycle_faults}
 use Rattle.ld_refs.specs.Targets.{target_faults}
 use Rattle.ld_refs.specs.ValuesKept.{KeepsLimits, KeepsValues}
@@ -135,8 +135,8 @@ stand_among f unit none =
     front_gives_none f (each_numbered (property_parts (root file.Properties)) unit.properties) _ (front_gives_none f (middle_parts unit) _ behind_roles)
 
 -- The check of types is one of those that find no fault in a valid unit.
-types_hold : (unit : Course) → valid_faults unit ≡ [] → type_faults unit (names_of unit) (parts_of unit) ≡ []
-unfolding valid_faults meaning_faults
+types_hold : (unit : Course) → check_faults unit ≡ [] → type_faults unit (names_of unit) (parts_of unit) ≡ []
+unfolding check_faults meaning_faults
 types_hold unit none =
     let names = names_of unit in
     let parts = parts_of unit in

@@ -15,7 +15,6 @@ use Rattle.ld_refs.specs.declared.checks.repeats.Texts.TheVariants.{Identifiers,
 use Rattle.ld_refs.specs.Repeats.{repeated_faults}
 use Rattle.ld_refs.specs.Targets.{target_faults}
 use Rattle.ld_types.specs.Typing.{type_faults}
-use Rattle.ld_refs.specs.Unbuilt.{unbuilt_faults}
 
 -- References name what they should, nothing reaches itself, levels, what is left out, types.
 unfoldable pub meaning_faults : Course → NameTable → List Part → List Told
@@ -31,24 +30,16 @@ amount_faults unit names parts = object_limit_faults parts ++ (count_faults part
 unfoldable pub text_faults : List Part → List Told
 text_faults parts = repeated_faults Identifiers parts ++ repeated_faults Uris parts
 
--- The faults by which a unit is refused as it stands.
-unfoldable pub valid_faults : Course → List Told
-valid_faults unit =
+-- The faults of a unit, in the order of the checks.
+unfoldable pub check_faults : Course → List Told
+check_faults unit =
     text_faults (parts_of unit)
     ++ (meaning_faults unit (names_of unit) (parts_of unit) ++ amount_faults unit (names_of unit) (parts_of unit))
-
--- The same, and behind them that no run of it is built yet.
-unfoldable pub check_faults : Course → List Told
-check_faults unit = valid_faults unit ++ unbuilt_faults unit
 
 -- Each member of the unit has its form, and no check finds a fault in it.
 pub record IsValid (unit : Course) : Type 0 where
   pub formed : is_well_formed unit ≡ true
-  pub faultless : valid_faults unit ≡ []
-
--- Runs of all its objects are built.
-abbrev pub IsBuilt : Course → Type 0
-IsBuilt unit = unbuilt_faults unit ≡ []
+  pub faultless : check_faults unit ≡ []
 
 -- How many leaves the unit's expressions have.
 abbrev pub leaves_of : Course → ℕ

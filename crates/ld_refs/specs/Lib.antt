@@ -5,7 +5,6 @@ pub mod Extents
 pub mod Reaching
 pub mod Repeats
 pub mod Targets
-pub mod Unbuilt
 pub mod Seen
 pub mod SeenTexts
 pub mod SizeView

@@ -7,7 +7,7 @@ ghost use Rattle.ld_parts.specs.Listing.{parts_of};
 ghost use Rattle.ld_names.specs.Names.{names_of};
 ghost use Rattle.ld_names.specs.Rules.{rules_in, rules_of};
 ghost use Rattle.ld_refs.specs.Bounds.{leaves_in};
-ghost use Rattle.ld_refs.specs.Checks.{IsBuilt, IsValid, amount_faults, check_faults, leaves_of, meaning_faults, text_faults, valid_faults};
+ghost use Rattle.ld_refs.specs.Checks.{IsValid, amount_faults, check_faults, leaves_of, meaning_faults, text_faults};
 ghost use Rattle.ld_refs.specs.Edges.{edges_of};
 ghost use Rattle.ld_refs.specs.Reaching.{environment_graph, structure_graph};
 
@@ -18,7 +18,6 @@ use crate::checks::limits::{Counts, check_counts, check_objects};
 use crate::checks::profile::{Levels, Profile};
 use crate::checks::repeats::{Texts, check_repeats};
 use crate::checks::targets::Targets;
-use crate::unbuilt::check_built;
 use ld_json::fault::ReadFault;
 use ld_model::unit::Unit;
 use ld_names::names::Names;
@@ -28,7 +27,7 @@ use ld_types::typing::Typing;
 use std::alloc::Global;
 use std::marker::Model;
 
-/// A valid unit of which runs are built: each member has its form, and no check finds a fault in it.
+/// A valid unit: each member has its form, and no check finds a fault in it.
 /// Beside it stand its names, its rules and the number of the leaves of its expressions.
 pub struct Checked {
     unit: Unit,
@@ -54,7 +53,7 @@ impl Model for Checked {
     ghost use Rattle.ld_names.specs.Identifiers.{HasDistinctIdentifiers};
     ghost use Rattle.ld_names.specs.Names.{names_of};
     ghost use Rattle.ld_names.specs.Rules.{rules_of};
-    ghost use Rattle.ld_refs.specs.Checks.{CheckedUnit, IsBuilt, IsValid, leaves_of};
+    ghost use Rattle.ld_refs.specs.Checks.{CheckedUnit, IsValid, leaves_of};
 
     ghost Value = { CheckedUnit };
 
@@ -62,7 +61,7 @@ impl Model for Checked {
 
     ghost view = { λ s. record { unit = s.unit; names = s.names; rules = s.counts.rules.items; leaves = s.counts.leaves } };
 
-    ghost invariant = { λ s. IsValid s.unit × IsBuilt s.unit × HasDistinctIdentifiers s.unit
+    ghost invariant = { λ s. IsValid s.unit × HasDistinctIdentifiers s.unit
         × (s.names ≡ names_of s.unit) × (s.counts.rules.items ≡ rules_of s.unit) × (length s.counts.rules.items ≤ 600)
         × (s.counts.leaves ≡ leaves_of s.unit) };
 }
@@ -72,7 +71,6 @@ impl Checked {
     pub fn unit(&self) -> &Unit
         ensures unit { result.now ≡ self.now.unit }
         ensures valid { IsValid result.now }
-        ensures built { IsBuilt result.now }
         ensures distinct { HasDistinctIdentifiers result.now }
     {
         &self.unit
@@ -106,7 +104,6 @@ impl Checked {
         ensures rules { result.2.items ≡ rules_of self.unit }
         ensures few_rules { length result.2.items ≤ 600 }
         ensures valid { IsValid result.0 }
-        ensures built { IsBuilt result.0 }
         ensures distinct { HasDistinctIdentifiers result.0 }
     {
         let Checked {
@@ -124,7 +121,6 @@ pub fn check(alloc: Global, unit: Unit) -> Result<Checked, ReadFault>
     requires { is_well_formed unit ≡ true }
     ensures unit { IfOk result (λ checked. checked.unit ≡ unit) }
     ensures valid { OnOk result (IsValid unit) }
-    ensures built { OnOk result (IsBuilt unit) }
     ensures first { IfErr result (SaysFirst (check_faults unit)) }
 {
     match check_all(alloc, &unit) {
@@ -138,44 +134,21 @@ pub fn check(alloc: Global, unit: Unit) -> Result<Checked, ReadFault>
 }
 
 /// The names of the unit and its counts, or its first fault.
-#[tactic(auto, unfolding(crate::specs::Checks::check_faults), using(ld_json::proofs::First::first_of_both))]
+#[tactic(auto, unfolding(crate::specs::Checks::check_faults), using(ld_json::proofs::First::first_of_both, crate::proofs::Distinct::distinct))]
 fn check_all(alloc: Global, unit: &Unit) -> Result<(Names, Counts), ReadFault>
     ensures names { IfOk result (λ both. both.0 ≡ names_of unit.now) }
     ensures rules { IfOk result (λ both. both.1.rules.items ≡ rules_of unit.now) }
     ensures few_rules { IfOk result (λ both. length both.1.rules.items ≤ 600) }
     ensures leaves { IfOk result (λ both. both.1.leaves ≡ leaves_of unit.now) }
     ensures distinct { OnOk result (HasDistinctIdentifiers unit.now) }
-    ensures valid { OnOk result (valid_faults unit.now ≡ []) }
-    ensures built { OnOk result (IsBuilt unit.now) }
+    ensures faultless { OnOk result (check_faults unit.now ≡ []) }
     ensures first { IfErr result (SaysFirst (check_faults unit.now)) }
 {
     let listing = Listing::of(alloc, unit)?;
-    let (names, counts) = check_valid(alloc, unit, &listing)?;
-    check_built(alloc, unit, &listing)?;
-    Ok((names, counts))
-}
-
-/// The names of the unit and its counts, or the first fault by which it is refused as it stands, where
-/// these are its parts.
-#[tactic(auto, unfolding(crate::specs::Checks::valid_faults), using(ld_json::proofs::First::first_of_both, crate::proofs::Distinct::distinct))]
-fn check_valid(
-    alloc: Global,
-    unit: &Unit,
-    listing: &Listing<'_>,
-) -> Result<(Names, Counts), ReadFault>
-    requires { listing.now ≡ parts_of unit.now }
-    ensures names { IfOk result (λ both. both.0 ≡ names_of unit.now) }
-    ensures rules { IfOk result (λ both. both.1.rules.items ≡ rules_of unit.now) }
-    ensures few_rules { IfOk result (λ both. length both.1.rules.items ≤ 600) }
-    ensures leaves { IfOk result (λ both. both.1.leaves ≡ leaves_of unit.now) }
-    ensures distinct { OnOk result (HasDistinctIdentifiers unit.now) }
-    ensures faultless { OnOk result (valid_faults unit.now ≡ []) }
-    ensures first { IfErr result (SaysFirst (valid_faults unit.now)) }
-{
-    check_texts(alloc, listing)?;
-    let names = Names::of(alloc, unit, listing)?;
-    let graphs = check_meaning(alloc, unit, &names, listing)?;
-    let counts = check_amounts(alloc, unit, &names, &graphs, listing)?;
+    check_texts(alloc, &listing)?;
+    let names = Names::of(alloc, unit, &listing)?;
+    let graphs = check_meaning(alloc, unit, &names, &listing)?;
+    let counts = check_amounts(alloc, unit, &names, &graphs, &listing)?;
     Ok((names, counts))
 }
 

@@ -9,4 +9,3 @@ pub mod check;
 pub(crate) mod checks;
 pub mod laws;
 pub(crate) mod method;
-pub(crate) mod unbuilt;

@@ -1,5 +1,5 @@
 -- What is asked of the elements of a list, one after another.
-use Rattle.std.proofs.Common.{◌≡◌, ℕ, ◌+◌, ◌<◌, List, [], ◌∷◌, ◌++◌, ◌≤◌, drop, filter, get_or, length, map, flat_map, Bool, true, false, arith}
+use Rattle.std.proofs.Common.{◌≡◌, ℕ, ◌+◌, ◌<◌, List, ◌∷◌, ◌≤◌, drop, filter, get_or, length, map, flat_map, Bool, true, false, arith}
 use Rattle.std.proofs.lemmas.Bool.{and_parts}
 use Rattle.std.specs.List.{list_all}
 use Rattle.ld_model.specs.declared.cell.CellName.{CellName}

@@ -250,7 +250,7 @@ fn opening_cell(unit: &Unit, names: &Names, act: &Act) -> Option<CellName>
 }
 
 /// The act of the play.
-pub(crate) fn act_at(unit: &Unit, play: usize, act: usize) -> Option<&Act>
+pub fn act_at(unit: &Unit, play: usize, act: usize) -> Option<&Act>
     ensures { option_copied result ≡ act_at unit.now play act }
 {
     unit.method.plays.get(play)?.acts.get(act)

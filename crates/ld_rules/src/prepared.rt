@@ -30,7 +30,7 @@ use std::alloc::Global;
 use std::marker::Model;
 use std::rc::Rc;
 
-/// A valid unit, of which runs are built, with its names, its rules, the slots of its runs' cells, and
+/// A valid unit with its names, its rules, the slots of its runs' cells, and
 /// the roles that reach each activity. It is made once, and contracts see it as the unit.
 pub struct PreparedUnit {
     unit: Unit,

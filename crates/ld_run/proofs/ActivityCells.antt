@@ -1,5 +1,5 @@
 -- What a run has of a person and an activity.
-use Rattle.std.proofs.Common.{◌≡◌, refl, sym, ap, subst, ◌∙◌, ℕ, zero, suc, ◌<◌, List, [], ◌∷◌, map, length, slice_get, Option, Some, None, Bool, true, false}
+use Rattle.std.proofs.Common.{◌≡◌, refl, sym, ap, subst, ◌∙◌, ℕ, zero, suc, ◌<◌, List, [], ◌∷◌, map, length, slice_get, Option, Some, None, true, false}
 use Rattle.ld_model.specs.declared.cell.CellName.{CellName}
 use Rattle.ld_model.specs.declared.cell.CellName.TheVariants.{Prop, Vis, Member, Chosen, Opened, ActOpened, Started, Mark, Now, Roster}
 use Rattle.ld_model.specs.declared.unit.Unit.{Unit as Course}
@@ -11,7 +11,7 @@ use Rattle.ld_state.specs.RunCells.{all_cells, is_activity, is_activity_place}
 use Rattle.ld_state.specs.RunState.{RunState, seen_in}
 use Rattle.ld_state.specs.StateView.{IsStateOf, StateView, has_cell, is_following, run_of}
 use Rattle.ld_state.proofs.Elements.{IsIn, different, in_from_contains, none_is_some, some_same}
-use Rattle.ld_rules.proofs.CellsThere.{chosen_there, opened_there}
+use Rattle.ld_firing.proofs.CellsThere.{chosen_there, opened_there}
 use Rattle.ld_tree.specs.Tree.{is_open}
 use Rattle.ld_rules.specs.LawWords.{is_property}
 use Rattle.ld_run.specs.AdmittedView.{HasPersonAndActivity, HasPropertyCell}

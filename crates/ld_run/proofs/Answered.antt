@@ -5,14 +5,14 @@ use Rattle.ld_model.specs.declared.unit.Unit.{Unit as Course}
 use Rattle.ld_lines.specs.declared.command.RunCommand.{RunCommand}
 use Rattle.ld_state.specs.GlobalValues.{GlobalValues}
 use Rattle.ld_state.specs.RunState.{RunState}
-use Rattle.ld_rules.specs.RunSystem.{IsSoundRun}
+use Rattle.ld_firing.specs.RunSystem.{IsSoundRun}
 use Rattle.ld_run.specs.Checks.{admitted}
 use Rattle.ld_run.specs.Printing.{IsPrintable}
 use Rattle.ld_run.specs.Refusals.{Refusal, NoMemory}
 use Rattle.ld_run.specs.RefusalView.{RefusesWith, refusal_of}
 use Rattle.ld_run.specs.Replies.{done_text, refusal_text}
 use Rattle.ld_run.specs.RunStep.{DoneCommand, run_step}
-use Rattle.ld_run.specs.RunView.{AnswersCommand, block_of, state_after}
+use Rattle.ld_run.specs.RunView.{AnswersCommand, block_of, state_after, store_after}
 use Rattle.ld_run.proofs.Printable.{refused_printable}
 use Rattle.ld_run.specs.declared.refusal.Refusal.{Refusal as RefusalOf}
 use Rattle.ld_run.specs.declared.refusal.Refusal.TheVariants as given
@@ -46,22 +46,30 @@ refusal_or_memory answer given.TurnBudget refuses = inl (refuses (λ same. absur
 refusal_or_memory answer given.NotOpen refuses = inl (refuses (λ same. absurd (cc)))
 refusal_or_memory answer given.NoMemory refuses = inr refl
 
-module _ (unit : Course) (s : RunState) (store : GlobalValues) (moment : ℤ) (asked : RunCommand) (text : List ℕ) (new : RunState) where
-  pub answered_done : (d : DoneCommand) → run_step unit s store moment asked ≡ Ok d → new ≡ d.state
-      → text ≡ done_text unit d ++ 10 ∷ [] → AnswersCommand unit s store moment asked text new
-  answered_done d is left told = inl (told ∙ sym (ap (block_of unit) is), left ∙ sym (ap (state_after s) is))
-
-  pub answered_wanting : new ≡ s → text ≡ refusal_text NoMemory ++ 10 ∷ [] → AnswersCommand unit s store moment asked text new
-  answered_wanting back told = inr (told, back)
+module _ (unit : Course) (s : RunState) (store : GlobalValues) (moment : ℤ) (asked : RunCommand) (text : List ℕ)
+    (new : RunState) (left : GlobalValues) where
+  pub answered_done : (d : DoneCommand) → run_step unit s store moment asked ≡ Ok d → new ≡ d.state → left ≡ d.store
+      → text ≡ done_text unit d ++ 10 ∷ [] → AnswersCommand unit s store moment asked text new left
+  answered_done d is state_is store_is told = inl (
+    told ∙ sym (ap (block_of unit) is),
+    state_is ∙ sym (ap (state_after s) is),
+    store_is ∙ sym (ap (store_after store) is),
+  )
 
   pub answered_refused : (refusal : RefusalOf) → RefusesWith (run_step unit s store moment asked) refusal → new ≡ s
-      → text ≡ refusal_text (refusal_of refusal) ++ 10 ∷ [] → AnswersCommand unit s store moment asked text new
-  answered_refused refusal refuses back told = by (refusal_or_memory (run_step unit s store moment asked) refusal refuses)
+      → left ≡ store → (text ≡ refusal_text (refusal_of refusal) ++ 10 ∷ []) ⊎ (text ≡ refusal_text NoMemory ++ 10 ∷ [])
+      → AnswersCommand unit s store moment asked text new left
+  answered_refused refusal refuses back untouched (inr wanting) = inr (wanting, back, untouched)
+  answered_refused refusal refuses back untouched (inl told) = by (refusal_or_memory (run_step unit s store moment asked) refusal refuses)
     where
       by : (run_step unit s store moment asked ≡ Err (refusal_of refusal)) ⊎ (refusal_of refusal ≡ NoMemory)
-          → AnswersCommand unit s store moment asked text new
-      by (inl is) = inl (told ∙ sym (ap (block_of unit) is), back ∙ sym (ap (state_after s) is))
-      by (inr wanting) = inr (told ∙ ap (λ one. refusal_text one ++ 10 ∷ []) wanting, back)
+          → AnswersCommand unit s store moment asked text new left
+      by (inl is) = inl (
+        told ∙ sym (ap (block_of unit) is),
+        back ∙ sym (ap (state_after s) is),
+        untouched ∙ sym (ap (store_after store) is),
+      )
+      by (inr wanting) = inr (told ∙ ap (λ one. refusal_text one ++ 10 ∷ []) wanting, back, untouched)
 
 -- What a check refuses can be told.
 pub check_printable : (unit : Course) (s : RunState) (moment : ℤ) (asked : RunCommand) (refusal : RefusalOf)

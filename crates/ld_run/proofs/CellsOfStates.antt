@@ -11,7 +11,7 @@ use Rattle.ld_state.specs.StateView.{StateView, IsStateOf, has_cell}
 use Rattle.ld_state.proofs.Cells.{slot_stands}
 use Rattle.ld_state.proofs.Elements.{IsIn, stands_in}
 use Rattle.ld_state.proofs.Laid.{slot_laid}
-use Rattle.ld_rules.proofs.CellsThere.{AreCells}
+use Rattle.ld_firing.proofs.CellsThere.{AreCells}
 
 module _ (unit : Course) (s : StateView) (is_of : IsStateOf unit s) where
   -- The state has each cell of the run.

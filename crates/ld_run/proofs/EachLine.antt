@@ -20,7 +20,7 @@ use Rattle.ld_expr.specs.Owners.{of_person}
 use Rattle.ld_expr.specs.Seen.{Seen}
 use Rattle.ld_rules.specs.Reach.{itself, child_of}
 use Rattle.ld_state.proofs.Elements.{IsIn, contains_from_in}
-use Rattle.ld_rules.proofs.Found.{chosen_by}
+use Rattle.ld_firing.proofs.Found.{chosen_by}
 use Rattle.ld_tree.specs.Lines.{TreeLine}
 use Rattle.ld_tree.specs.Tree.{Status, done, opened, closed, status_by, unless_closed, once_done, status_line, is_visible, item_lines, all_item_lines, object_lines, service_lines, environment_lines, all_environment_lines, activity_word, activity_lines, is_passed, in_turn, flagged, FlaggedLines, structure_lines, target_lines, done_status, part_lines, is_act_done, done_act_lines, is_opened, open_act_lines, current_act_lines, play_lines, tree_lines, feedback_of}
 use Rattle.ld_run.specs.LineWords.{is_activity_word, IsTheirs}

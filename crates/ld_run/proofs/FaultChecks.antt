@@ -21,7 +21,7 @@ use Rattle.ld_roles.specs.declared.fault.DropFault.TheVariants as taken
 use Rattle.ld_roles.specs.declared.fault.Short.{Short}
 use Rattle.ld_state.specs.RunState.{RunState}
 use Rattle.ld_state.proofs.Elements.{in_stands, none_is_some, some_same}
-use Rattle.ld_rules.proofs.Found.{given_by}
+use Rattle.ld_firing.proofs.Found.{given_by}
 use Rattle.ld_run.specs.CheckStages.{Rest, assigning, dropping, enrolling}
 use Rattle.ld_run.specs.Checks.{is_started, none_short, role_identifier, shortage_if_running}
 use Rattle.ld_run.specs.Refusals.{PersonExists, RunFull, HoldsAlready, NotHeld, RoleFull, RoleExclusive, RoleShort, NoMemory, ◌>>◌, refuse_if}

@@ -14,15 +14,15 @@ use Rattle.ld_expr.specs.Terms.{cell_of_property}
 use Rattle.ld_roles.specs.Roster.{short_at_start}
 use Rattle.ld_state.specs.GlobalValues.{GlobalValues}
 use Rattle.ld_rules.specs.LawWords.{is_property}
-use Rattle.ld_rules.specs.RunSettling.{Settlement, run_settling}
+use Rattle.ld_firing.specs.RunSettling.{Settlement, run_settling}
 use Rattle.ld_state.specs.RunState.{RunState, with_cell, is_cell_of}
 use Rattle.ld_state.specs.RunCells.{begins_as, is_kept_for_persons}
-use Rattle.ld_rules.proofs.LawsCells.{property_cells}
-use Rattle.ld_rules.proofs.LawsOpenings.{settling_leaves_start}
+use Rattle.ld_firing.proofs.LawsCells.{property_cells}
+use Rattle.ld_firing.proofs.LawsOpenings.{settling_leaves_start}
 use Rattle.ld_run.specs.Changes.{directly_changed}
 use Rattle.ld_run.specs.Checks.{admitted, in_time, running, the_person, not_enrolled, has_seat, the_role, does_not_hold, holds_it, has_room, keeps_apart, none_short, shortage_if_running, the_activity, only_by_choice, the_property, the_cell, fitting_value, may_write, is_started}
 use Rattle.ld_run.specs.Commands.{Admitted, enrols, assigns, drops, starts, opens, completes, sets, clears, gets, shows_tree, shows_outbox, reports, ticks, has_change}
-use Rattle.ld_run.specs.Globals.{taking_in}
+use Rattle.ld_sharing.specs.Globals.{taking_in}
 use Rattle.ld_run.specs.Refusals.{Refusal, NotStarted, StartedAlready, UnknownProperty, TurnBudget, ◌>>=◌, ◌>>◌, refuse_if}
 use Rattle.ld_run.specs.RunStep.{DoneCommand, run_step, settled, open_for_it, at_moment}
 use Rattle.ld_run.proofs.SeatsOfChecks.{Each, each_then, each_bound}

@@ -12,15 +12,15 @@ use Rattle.ld_lines.specs.declared.command.RunCommand.{RunCommand}
 use Rattle.ld_expr.specs.Owners.{of_person}
 use Rattle.ld_expr.specs.Seen.{says_yes, mark_cell, chosen_cell, opened_cell}
 use Rattle.ld_roles.specs.Roster.{newcomer, with_role}
-use Rattle.ld_rules.specs.Actions.{site_firing}
+use Rattle.ld_firing.specs.Actions.{site_firing}
 use Rattle.ld_state.specs.GlobalValues.{GlobalValues}
 use Rattle.ld_rules.specs.LawWords.{is_marked, is_for_good, is_property, HasOwner}
 use Rattle.ld_state.specs.RunState.{RunState, with_cell, is_owned_by, is_cell_of}
-use Rattle.ld_rules.proofs.LawsCells.{owner_stays}
-use Rattle.ld_rules.proofs.LawsKept.{settling_keeps}
-use Rattle.ld_rules.proofs.LawsLatching.{firing_latches}
-use Rattle.ld_rules.proofs.LawsOpenings.{told_apart}
-use Rattle.ld_rules.proofs.SeatsKept.{persons_kept}
+use Rattle.ld_firing.proofs.LawsCells.{owner_stays}
+use Rattle.ld_firing.proofs.LawsKept.{settling_keeps}
+use Rattle.ld_firing.proofs.LawsLatching.{firing_latches}
+use Rattle.ld_firing.proofs.LawsOpenings.{told_apart}
+use Rattle.ld_firing.proofs.SeatsKept.{persons_kept}
 use Rattle.ld_run.specs.Changes.{directly_changed, with_first}
 use Rattle.ld_run.specs.Commands.{Admitted, enrols, assigns, drops, starts, opens, completes, sets, clears, gets, shows_tree, shows_outbox, reports, ticks}
 use Rattle.ld_run.specs.RunStep.{DoneCommand, run_step}

@@ -6,9 +6,9 @@ use Rattle.ld_lines.specs.declared.command.RunCommand.{RunCommand}
 use Rattle.ld_expr.specs.Owners.{of_person}
 use Rattle.ld_expr.specs.Seen.{opened_cell}
 use Rattle.ld_state.specs.GlobalValues.{GlobalValues}
-use Rattle.ld_rules.specs.RunSettling.{Settlement, run_settling}
+use Rattle.ld_firing.specs.RunSettling.{Settlement, run_settling}
 use Rattle.ld_state.specs.RunState.{RunState, with_cell}
-use Rattle.ld_rules.proofs.LawsNotices.{settling_sent}
+use Rattle.ld_firing.proofs.LawsNotices.{settling_sent}
 use Rattle.ld_run.specs.Changes.{directly_changed}
 use Rattle.ld_run.specs.Checks.{admitted, is_started}
 use Rattle.ld_run.specs.Commands.{Admitted, enrols, assigns, drops, starts, opens, completes, sets, clears, gets, shows_tree, shows_outbox, reports, ticks, has_change}

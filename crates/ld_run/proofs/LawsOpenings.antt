@@ -1,5 +1,5 @@
 -- When a run was started and when an activity was first opened stay as they are through each command that is
--- done. (Through firings and settlings: proofs/LawsOpenings of ld_rules.)
+-- done. (Through firings and settlings: proofs/LawsOpenings of ld_firing.)
 use Rattle.std.proofs.Common.{◌≡◌, refl, sym, ap, ◌∙◌, ℕ, ℤ, length, Option, Some, Ok, Bool, true, false, is_some, if◌then◌else◌}
 use Rattle.ld_value.specs.Datum.{Datum, moment_datum}
 use Rattle.ld_model.specs.Cells.{same_cell}
@@ -10,16 +10,16 @@ use Rattle.ld_model.specs.declared.unit.Unit.{Unit as Course}
 use Rattle.ld_lines.specs.declared.command.RunCommand.{RunCommand}
 use Rattle.ld_expr.specs.Owners.{of_person}
 use Rattle.ld_expr.specs.Seen.{opened_cell}
-use Rattle.ld_rules.specs.Actions.{site_firing}
+use Rattle.ld_firing.specs.Actions.{site_firing}
 use Rattle.ld_state.specs.GlobalValues.{GlobalValues}
 use Rattle.ld_rules.specs.LawWords.{HasOwner, is_property}
 use Rattle.ld_state.specs.RunState.{RunState, with_cell}
 use Rattle.ld_state.proofs.Elements.{different}
-use Rattle.ld_rules.proofs.LawsCells.{owner_stays}
-use Rattle.ld_rules.proofs.LawsKept.{settling_keeps}
-use Rattle.ld_rules.proofs.LawsOpenings.{told_apart, firing_leaves, settling_leaves_start}
+use Rattle.ld_firing.proofs.LawsCells.{owner_stays}
+use Rattle.ld_firing.proofs.LawsKept.{settling_keeps}
+use Rattle.ld_firing.proofs.LawsOpenings.{told_apart, firing_leaves, settling_leaves_start}
 use Rattle.ld_state.proofs.SameCells.{one_cell}
-use Rattle.ld_rules.proofs.SeatsKept.{persons_kept}
+use Rattle.ld_firing.proofs.SeatsKept.{persons_kept}
 use Rattle.ld_run.specs.Changes.{directly_changed, with_first}
 use Rattle.ld_run.specs.Commands.{Admitted, enrols, assigns, drops, starts, opens, completes, sets, clears, gets, shows_tree, shows_outbox, reports, ticks}
 use Rattle.ld_run.specs.RunStep.{DoneCommand, run_step}

@@ -18,8 +18,8 @@ use Rattle.ld_state.specs.RunCells.{begins_as, mark_begins, is_kept_by_run}
 use Rattle.ld_state.specs.RunState.{RunState, made_at, seen_in, cell_of}
 use Rattle.ld_rules.specs.SiteTests.{is_opened}
 use Rattle.ld_state.proofs.Elements.{different}
-use Rattle.ld_rules.proofs.LawsDone.{done_stays}
-use Rattle.ld_rules.proofs.LawsOrder.{settling_in_order}
+use Rattle.ld_firing.proofs.LawsDone.{done_stays}
+use Rattle.ld_firing.proofs.LawsOrder.{settling_in_order}
 use Rattle.ld_run.specs.Changes.{directly_changed}
 use Rattle.ld_run.specs.Reached.{IsReached, made, left_by}
 use Rattle.ld_run.proofs.LawsKept.{change_leaves, begun, IsLasting, step_keeps}

@@ -14,7 +14,7 @@ use Rattle.ld_rules.specs.LawWords.{is_property}
 use Rattle.ld_state.specs.RunCells.{begins_as, mark_begins, is_kept_by_run}
 use Rattle.ld_state.specs.RunState.{RunState, made_at, joined, is_kept_for}
 use Rattle.ld_state.proofs.Elements.{different}
-use Rattle.ld_rules.proofs.LawsOpenings.{told_apart, settling_leaves_start}
+use Rattle.ld_firing.proofs.LawsOpenings.{told_apart, settling_leaves_start}
 use Rattle.ld_run.specs.Changes.{directly_changed}
 use Rattle.ld_run.specs.Checks.{is_started}
 use Rattle.ld_run.specs.Commands.{Admitted, enrols, assigns, drops, starts, opens, completes, sets, clears, gets, shows_tree, shows_outbox, reports, ticks}

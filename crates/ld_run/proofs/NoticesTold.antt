@@ -17,15 +17,15 @@ use Rattle.ld_names.specs.Rules.{Site}
 use Rattle.ld_names.specs.Things.{Entry, things_of}
 use Rattle.ld_state.specs.RunState.{RunState, seen_in}
 use Rattle.ld_state.proofs.Elements.{different, none_is_some}
-use Rattle.ld_rules.specs.Actions.{Doing, actions_of, notice_now, site_firing}
+use Rattle.ld_firing.specs.Actions.{Doing, actions_of, notice_now, site_firing}
 use Rattle.ld_rules.specs.LawWords.{notices_among}
-use Rattle.ld_rules.specs.RunSettling.{Settlement, settlement_after, turns_within, run_settling}
-use Rattle.ld_rules.specs.RunSystem.{IsSoundRun, firing_at, run_system}
+use Rattle.ld_firing.specs.RunSettling.{Settlement, settlement_after, turns_within, run_settling}
+use Rattle.ld_firing.specs.RunSystem.{IsSoundRun, firing_at, run_system}
 use Rattle.ld_rules.specs.SiteTests.{rule_of, site_test}
-use Rattle.ld_rules.proofs.Lawful.{run_is_lawful}
-use Rattle.ld_rules.proofs.LawsKept.{unruled_firing}
-use Rattle.ld_rules.proofs.LawsNotices.{firing_sends}
-use Rattle.ld_rules.proofs.Sites.{at_firing}
+use Rattle.ld_firing.proofs.Lawful.{run_is_lawful}
+use Rattle.ld_firing.proofs.LawsKept.{unruled_firing}
+use Rattle.ld_firing.proofs.LawsNotices.{firing_sends}
+use Rattle.ld_firing.proofs.Sites.{at_firing}
 use Rattle.ld_run.specs.Printing.{AreNoticesOf, IsNoticeOf}
 use Rattle.ld_run.proofs.Printable.{last_is_moment}
 

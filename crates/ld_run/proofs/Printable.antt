@@ -12,8 +12,8 @@ use Rattle.ld_roles.specs.Roster.{Shortage}
 use Rattle.ld_state.specs.RunCells.{all_cells, suits_cell}
 use Rattle.ld_state.specs.RunState.{RunState, cell_of}
 use Rattle.ld_state.proofs.Elements.{contains_from_in}
-use Rattle.ld_rules.specs.RunSystem.{IsSoundRun}
-use Rattle.ld_rules.proofs.CellsThere.{now_there}
+use Rattle.ld_firing.specs.RunSystem.{IsSoundRun}
+use Rattle.ld_firing.proofs.CellsThere.{now_there}
 use Rattle.ld_run.specs.Checks.{admitted, fitting_value, in_time, last_moment, none_short, the_activity, the_cell, the_person, the_property, the_role}
 use Rattle.ld_run.specs.Printing.{IsPrintable}
 use Rattle.ld_run.specs.Refusals.{Refusal, MomentBack, NotStarted, StartedAlready, UnknownPerson, PersonExists, RunFull, UnknownRole, HoldsAlready, NotHeld, RoleFull, RoleExclusive, UnknownActivity, NotByChoice, UnknownProperty, BadValue, NotAllowed, ◌>>=◌, ◌>>◌, refuse_if}

@@ -1,5 +1,5 @@
 -- Commands that change nothing directly.
-use Rattle.std.proofs.Common.{◌≡◌, refl, ap, sym, ◌⊎◌, inl, inr, ℤ}
+use Rattle.std.proofs.Common.{◌≡◌, ap, sym, ◌⊎◌, inl, inr, ℤ}
 use Rattle.ld_base.specs.declared.numbers.PersonNo.{PersonNo}
 use Rattle.ld_model.specs.declared.cell.CellName.{CellName}
 use Rattle.ld_model.specs.declared.unit.Unit.{Unit as Course}

@@ -28,15 +28,15 @@ use Rattle.ld_state.specs.RunCells.{all_cells, is_act_place}
 use Rattle.ld_state.proofs.Elements.{IsIn, in_left, in_each, stands_in, from_flat_map, different}
 use Rattle.ld_rules.specs.SiteLooks.{cell_list}
 use Rattle.ld_rules.specs.SiteTests.{opening_cell}
-use Rattle.ld_rules.proofs.CellsThere.{AreCells, both_are_cells, one_is_cell, mark_there, opening_there}
-use Rattle.ld_rules.proofs.ChecksMet.{checks_met}
-use Rattle.ld_rules.proofs.Found.{found_by}
-use Rattle.ld_rules.proofs.LooksThere.{cell_of_thing}
-use Rattle.ld_rules.proofs.MetChecks.{MeetsChecks, declared_thing, play_listed, act_listed}
-use Rattle.ld_rules.proofs.Named.{IsThing, cells_of_number, run_done_there}
+use Rattle.ld_firing.proofs.CellsThere.{AreCells, both_are_cells, one_is_cell, mark_there, opening_there}
+use Rattle.ld_firing.proofs.ChecksMet.{checks_met}
+use Rattle.ld_firing.proofs.Found.{found_by}
+use Rattle.ld_firing.proofs.LooksThere.{cell_of_thing}
+use Rattle.ld_firing.proofs.MetChecks.{MeetsChecks, declared_thing, play_listed, act_listed}
+use Rattle.ld_firing.proofs.Named.{IsThing, cells_of_number, run_done_there}
 use Rattle.ld_rules.proofs.Reaching.{text_itself}
-use Rattle.ld_rules.proofs.RulesThere.{act_of, act_is}
-use Rattle.ld_rules.proofs.Sites.{the_run}
+use Rattle.ld_firing.proofs.RulesThere.{act_of, act_is}
+use Rattle.ld_firing.proofs.Sites.{the_run}
 use Rattle.ld_run.specs.ReportLooks.{part_looks, act_looks, play_looks}
 
 -- ---- the unit

@@ -8,8 +8,8 @@ use Rattle.ld_model.specs.declared.cell.Owner.TheVariants.{Run}
 use Rattle.ld_model.specs.declared.unit.Unit.{Unit as Course}
 use Rattle.ld_expr.specs.Done.{is_done}
 use Rattle.ld_state.specs.RunState.{RunState}
-use Rattle.ld_rules.specs.Seating.{reseated}
-use Rattle.ld_rules.proofs.SeatsKept.{seen_same}
+use Rattle.ld_firing.specs.Seating.{reseated}
+use Rattle.ld_firing.proofs.SeatsKept.{seen_same}
 use Rattle.ld_tree.specs.Lines.{line_text}
 use Rattle.ld_tree.specs.Tree.{tree_lines}
 use Rattle.ld_run.specs.Commands.{Admitted, enrols, assigns, drops, starts, opens, completes, sets, clears, gets, shows_tree, shows_outbox, reports, ticks}

@@ -6,12 +6,12 @@ use Rattle.ld_model.specs.declared.unit.Unit.{Unit as Course}
 use Rattle.ld_expr.specs.Lookup.{is_some_and}
 use Rattle.ld_roles.specs.Roster.{changed_at, with_role, newcomer}
 use Rattle.ld_state.specs.GlobalValues.{GlobalValues}
-use Rattle.ld_rules.specs.RunSettling.{Settlement, run_settling}
+use Rattle.ld_firing.specs.RunSettling.{Settlement, run_settling}
 use Rattle.ld_state.specs.RunState.{RunState, with_cell, holding}
-use Rattle.ld_rules.specs.Seating.{reseated, settlement_reseated}
-use Rattle.ld_rules.specs.SiteWalk.{HasSeats}
-use Rattle.ld_rules.proofs.Seats.{settling_reseated, settling_keeps}
-use Rattle.ld_rules.proofs.SeatsKept.{seen_same}
+use Rattle.ld_firing.specs.Seating.{reseated, settlement_reseated}
+use Rattle.ld_firing.specs.SiteWalk.{HasSeats}
+use Rattle.ld_firing.proofs.Seats.{settling_reseated, settling_keeps}
+use Rattle.ld_firing.proofs.SeatsKept.{seen_same}
 use Rattle.ld_run.specs.Changes.{directly_changed, with_first}
 use Rattle.ld_run.specs.Checks.{Passed}
 use Rattle.ld_run.specs.Commands.{Admitted, enrols, assigns, drops, starts, opens, completes, sets, clears, gets, shows_tree, shows_outbox, reports, ticks}

@@ -5,15 +5,15 @@ use Rattle.ld_model.specs.declared.unit.Unit.{Unit as Course}
 use Rattle.ld_lines.specs.declared.command.RunCommand.{RunCommand}
 use Rattle.ld_lines.specs.declared.command.RunCommand.TheVariants.{Enrol}
 use Rattle.ld_state.specs.GlobalValues.{GlobalValues}
-use Rattle.ld_rules.specs.RunSettling.{Settlement}
+use Rattle.ld_firing.specs.RunSettling.{Settlement}
 use Rattle.ld_state.specs.RunState.{RunState}
-use Rattle.ld_rules.specs.Seating.{IsSameButSeats, reseated, settlement_reseated}
-use Rattle.ld_rules.specs.SiteWalk.{HasSeats}
-use Rattle.ld_rules.proofs.Seats.{same_reseated}
+use Rattle.ld_firing.specs.Seating.{IsSameButSeats, reseated, settlement_reseated}
+use Rattle.ld_firing.specs.SiteWalk.{HasSeats}
+use Rattle.ld_firing.proofs.Seats.{same_reseated}
 use Rattle.ld_run.specs.Changes.{directly_changed}
 use Rattle.ld_run.specs.Checks.{Passed, admitted, in_time, not_enrolled, is_started}
 use Rattle.ld_run.specs.Commands.{Admitted, enrols, assigns, drops, starts, opens, completes, sets, clears, gets, shows_tree, shows_outbox, reports, ticks, has_change}
-use Rattle.ld_run.specs.Globals.{taking_in, giving_back}
+use Rattle.ld_sharing.specs.Globals.{taking_in, giving_back}
 use Rattle.ld_run.specs.Refusals.{Refusal, RunFull, ◌>>=◌, ◌>>◌, refuse_if}
 use Rattle.ld_run.specs.RunStep.{DoneCommand, run_step, settled, open_for_it, at_moment}
 use Rattle.ld_run.specs.SameSteps.{step_reseated, is_enrolment}

@@ -24,7 +24,7 @@ use Rattle.ld_state.proofs.Elements.{IsIn, contains_from_in, in_stands, none_is_
 use Rattle.ld_state.proofs.Laid.{cells_laid}
 use Rattle.ld_state.proofs.Standing.{stands_at}
 use Rattle.ld_rules.specs.LawWords.{is_property}
-use Rattle.ld_rules.specs.RunSystem.{IsSoundRun}
+use Rattle.ld_firing.specs.RunSystem.{IsSoundRun}
 use Rattle.ld_run.specs.Printing.{HasMoments}
 
 -- ---- values that can be printed

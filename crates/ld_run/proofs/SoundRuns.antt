@@ -1,13 +1,10 @@
--- That runs are sound: as they are made, once their moment has changed, and after what a command changes directly;
--- that a run without global properties takes nothing from the store and gives it nothing; and that what a command
--- names stays there.
-use Rattle.std.proofs.Common.{◌≡◌, refl, sym, ap, subst, ◌∙◌, ℕ, zero, suc, ℤ, ◌+◌, ◌<◌, ◌≤◌, ◌⊎◌, inl, inr, List, [], ◌∷◌, ◌++◌, map, flat_map, length, slice_get, Option, Some, None, Bool, true, false, cond, not, ◌||◌, ◌&&◌, nat_le, is_some, is_none, Contains, if◌then◌else◌, arith, length-append, pos, unwrap_or}
-use Rattle.std.proofs.lemmas.Bool.{and_from, and_parts, leb-true, leb-false}
+-- That runs are sound: as they are made, once their moment has changed, with the store's values, and after what a
+-- command changes directly; and that what a command names stays there.
+use Rattle.std.proofs.Common.{◌≡◌, refl, sym, ap, subst, ◌∙◌, ℕ, zero, suc, ℤ, ◌+◌, ◌<◌, ◌≤◌, ◌⊎◌, inl, inr, List, [], ◌∷◌, ◌++◌, map, flat_map, length, slice_get, Option, Some, None, Bool, true, false, cond, ◌||◌, nat_le, is_some, Contains, if◌then◌else◌, arith, length-append, pos, unwrap_or}
+use Rattle.std.proofs.lemmas.Bool.{and_from, leb-true, leb-false}
 use Rattle.std.proofs.lemmas.List.{map-append}
-use Rattle.std.specs.List.{list_all, list_any, position_from}
-use Rattle.std.specs.Option.{option_map}
+use Rattle.std.specs.List.{list_any, position_from}
 use Rattle.std.specs.Str.{bytes_eq}
-use Rattle.ld_base.specs.Maybe.{◌>>=◌, provided}
 use Rattle.ld_value.specs.Calendar.{IsMoment}
 use Rattle.ld_value.specs.Datum.{Datum, truth_datum, moment_datum}
 use Rattle.ld_value.specs.Values.{is_whole}
@@ -15,9 +12,7 @@ use Rattle.ld_model.specs.Counting.{each_numbered, numbers_below}
 use Rattle.ld_model.specs.Properties.{is_personal}
 use Rattle.ld_model.specs.Roles.{roles_of}
 use Rattle.ld_model.specs.declared.cell.CellName.{CellName}
-use Rattle.ld_model.specs.declared.cell.CellName.TheVariants.{Prop, Vis, Member, Chosen, Opened, ActOpened, Started, Mark, Now, Roster}
-use Rattle.ld_model.specs.declared.cell.Owner.TheVariants.{Run}
-use Rattle.ld_model.specs.declared.property.Property.{Property}
+use Rattle.ld_model.specs.declared.cell.CellName.TheVariants.{Member, Started, Now, Roster}
 use Rattle.ld_model.specs.declared.unit.Unit.{Unit as Course}
 use Rattle.ld_names.specs.Identifiers.{all_differ}
 use Rattle.ld_names.specs.Rules.{rules_of, kind_of}
@@ -25,7 +20,7 @@ use Rattle.ld_names.specs.Things.{Entry, things_of}
 use Rattle.ld_names.proofs.Seen.{differ_further}
 use Rattle.ld_refs.specs.Checks.{IsValid}
 use Rattle.ld_expr.specs.Lookup.{is_some_and}
-use Rattle.ld_expr.specs.Owners.{of_person, is_for_persons, is_global}
+use Rattle.ld_expr.specs.Owners.{of_person, is_for_persons}
 use Rattle.ld_expr.specs.Seen.{property_cell, visibility_cell, member_cell, chosen_cell, opened_cell, mark_cell}
 use Rattle.ld_roles.specs.Persons.{Persons, person_number, newcomer, with_role, changed_at, holds_role}
 use Rattle.ld_roles.specs.Refusals.{assign_fault, enrol_fault}
@@ -40,35 +35,34 @@ use Rattle.ld_state.proofs.Elements.{IsIn, in_either, in_left, in_right, in_flat
 use Rattle.ld_state.proofs.Kept.{listed, which_listed}
 use Rattle.ld_state.proofs.SameCells.{same_number}
 use Rattle.ld_rules.specs.LawWords.{is_property}
-use Rattle.ld_rules.specs.RunSystem.{HaveNamesOfTheirOwn, IsSoundRun}
-use Rattle.ld_rules.proofs.LawsOpenings.{told_apart}
-use Rattle.ld_run.specs.AdmittedView.{HasPropertyCell, HasPersonAndRole, HasPersonAndActivity, IsPossible, IsTellable}
+use Rattle.ld_firing.specs.RunSystem.{HaveNamesOfTheirOwn, IsSoundRun}
+use Rattle.ld_firing.proofs.LawsOpenings.{told_apart}
+use Rattle.ld_run.specs.AdmittedView.{HasPropertyCell, HasPersonAndRole, HasPersonAndActivity, IsPossible, IsTellable, JoinsFitting}
 use Rattle.ld_run.specs.Changes.{directly_changed, with_first}
 use Rattle.ld_run.specs.Commands.{Admitted, enrols, assigns, drops, starts, opens, completes, sets, clears, gets, shows_tree, shows_outbox, reports, ticks}
-use Rattle.ld_run.specs.Globals.{store_person, store_says, taking_in, has_uri, cell_of_key, giving_back}
+use Rattle.ld_sharing.specs.Fitting.{BeginsFitting, TakesFitting}
+use Rattle.ld_sharing.specs.Globals.{store_says, taking_in}
 use Rattle.ld_run.specs.RunStep.{at_moment}
-use Rattle.ld_run.specs.RunView.{HasNoGlobals}
-use Rattle.ld_run.proofs.LocalUris.{HaveNoUris, no_uris}
-use Rattle.ld_run.proofs.Suiting.{moment_is_value, count_is_value, not_global, begins_suits, begins_alike, put_suits, put_some, put_other, seen_suits, still_suits, now_is_told, Stays, still_sound}
+use Rattle.ld_run.proofs.Suiting.{moment_is_value, count_is_value, begins_suits, said_suits, put_suits, put_some, put_other, seen_suits, still_suits, now_is_told, Stays, still_sound}
 
 -- ---- a run that is made
 
-kept_suits : (unit : Course) (store : GlobalValues) (moment : ℤ) → HasNoGlobals unit → IsMoment moment → (c : CellName) (kept : Bool)
+kept_suits : (unit : Course) (store : GlobalValues) (moment : ℤ) → BeginsFitting unit store None → IsMoment moment → (c : CellName) (kept : Bool)
     → suits_cell unit c (if kept then begins_as unit store None moment c else None) ≡ true
-kept_suits unit store moment local is c true = begins_suits unit store None moment local is c
-kept_suits unit store moment local is c false = refl
+kept_suits unit store moment fitting is c true = begins_suits unit store None moment fitting is c
+kept_suits unit store moment fitting is c false = refl
 
 pub made_is_sound : (unit : Course) (seats : ℕ) (store : GlobalValues) (moment : ℤ) → IsValid unit → 0 < seats
-    → IsMoment moment → HasNoGlobals unit → IsSoundRun unit (made_at seats unit store moment)
+    → IsMoment moment → BeginsFitting unit store None → IsSoundRun unit (made_at seats unit store moment)
 unfolding cell_of begins_as
-made_is_sound unit seats store moment valid seat is local = record {
+made_is_sound unit seats store moment valid seat is fitting = record {
   valid = valid;
   names = refl;
   seat = seat;
   seated = omega arith;
   seen = record {
     values = λ name there. seen_suits unit (made_at seats unit store moment) refl name
-        (kept_suits unit store moment local is name (is_kept_by_run unit name));
+        (kept_suits unit store moment fitting is name (is_kept_by_run unit name));
     moment = refl;
     roster = refl;
   };
@@ -90,6 +84,27 @@ pub dated_is_sound : (unit : Course) (s : RunState) (moment : ℤ) → IsSoundRu
     → IsSoundRun unit (at_moment s moment)
 dated_is_sound unit s moment sound is =
     still_sound unit s (at_moment s moment) (written unit s Now (moment_datum moment) (moment_is_value moment is)) sound
+
+-- ---- the store's values
+
+taken_stays : (unit : Course) (store : GlobalValues) (s : RunState) → TakesFitting unit store s.persons
+    → Stays unit s (taking_in unit store s)
+taken_stays unit store s takes = record {
+  seats = refl;
+  names = refl;
+  cells = λ c suits. by c suits (store_says unit store s.persons c) refl;
+  now = λ is. is;
+}
+  where
+    by : (c : CellName) → suits_cell unit c (s.cells c) ≡ true → (said : Option (Option Datum))
+        → store_says unit store s.persons c ≡ said → suits_cell unit c (unwrap_or said (s.cells c)) ≡ true
+    by c suits None says = suits
+    by c suits (Some value) says = said_suits unit store s.persons c value says (takes c value says)
+
+pub taken_is_sound : (unit : Course) (store : GlobalValues) (s : RunState) → IsSoundRun unit s
+    → TakesFitting unit store s.persons → IsSoundRun unit (taking_in unit store s)
+taken_is_sound unit store s sound takes =
+    still_sound unit s (taking_in unit store s) (taken_stays unit store s takes) sound
 
 -- ---- one more person
 
@@ -240,25 +255,25 @@ module _ (unit : Course) (store : GlobalValues) (s : RunState) (moment : ℤ) (n
   one_more = length-append s.persons (newcomer name ∷ [])
 
   -- A cell that is kept for the newcomer begins, and all others stay.
-  begun_or_stays : (c : CellName) → HasNoGlobals unit → IsMoment moment
+  begun_or_stays : (c : CellName) → BeginsFitting unit store (Some name) → IsMoment moment
       → suits_cell unit c (s.cells c) ≡ true → suits_cell unit c (after.cells c) ≡ true
-  begun_or_stays c local is stays = by (is_kept_for unit last c)
+  begun_or_stays c fitting is stays = by (is_kept_for unit last c)
     where
       by : (kept : Bool)
           → suits_cell unit c (if kept then begins_as unit store (Some name) moment c else s.cells c) ≡ true
-      by true = begins_suits unit store (Some name) moment local is c
+      by true = begins_suits unit store (Some name) moment fitting is c
       by false = stays
 
-  begun_suits : (c : CellName) → HasNoGlobals unit → IsMoment moment → is_kept_for unit last c ≡ true
+  begun_suits : (c : CellName) → BeginsFitting unit store (Some name) → IsMoment moment → is_kept_for unit last c ≡ true
       → suits_cell unit c (after.cells c) ≡ true
-  begun_suits c local is kept =
+  begun_suits c fitting is kept =
       subst (λ b. suits_cell unit c (if b then begins_as unit store (Some name) moment c else s.cells c) ≡ true) (sym kept)
-      (begins_suits unit store (Some name) moment local is c)
+      (begins_suits unit store (Some name) moment fitting is c)
 
-  joined_is_sound : IsSoundRun unit s → s.seats ≡ SEATS → IsMoment moment → HasNoGlobals unit
+  joined_is_sound : IsSoundRun unit s → s.seats ≡ SEATS → IsMoment moment → BeginsFitting unit store (Some name)
       → enrol_fault SEATS s.persons name ≡ None → IsSoundRun unit after
   unfolding cell_of
-  joined_is_sound sound seats is local free =
+  joined_is_sound sound seats is fitting free =
       let may = may_join s.persons name free in
       let few : length after.persons ≤ 1000 = omega (arith, one_more, may.seat) in
       let count = count_is_value (length after.persons) few in
@@ -271,10 +286,10 @@ module _ (unit : Course) (store : GlobalValues) (s : RunState) (moment : ℤ) (n
           values = λ c there.
               let inside = in_from_contains (all_cells unit (last + 1)) c (subst (λ n. Contains (all_cells unit n) c) one_more there) in
               elim (cells_with_one_more unit last c inside) [
-                | inl before ↦ still_suits unit s after count c (begun_or_stays c local is)
+                | inl before ↦ still_suits unit s after count c (begun_or_stays c fitting is)
                     (sound.seen.values c (contains_from_in (all_cells unit last) c before))
                 | inr own ↦ elim (own_cells unit last c own) [
-                  | inl kept ↦ seen_suits unit after count c (begun_suits c local is kept)
+                  | inl kept ↦ seen_suits unit after count c (begun_suits c fitting is kept)
                   | inr follows ↦ follows_suits unit after count c follows
                 ]
               ];
@@ -317,140 +332,32 @@ cleared unit s name property = record {
 }
 
 pub changed_is_sound : (unit : Course) (store : GlobalValues) (s : RunState) (moment : ℤ) (command : Admitted)
-    → IsSoundRun unit s → s.seats ≡ SEATS → IsMoment moment → HasNoGlobals unit → IsPossible unit s command
+    → IsSoundRun unit s → s.seats ≡ SEATS → IsMoment moment → JoinsFitting unit store command → IsPossible unit s command
     → IsSoundRun unit (directly_changed unit store s moment command)
-changed_is_sound unit store s moment (enrols name) sound seats is local possible =
-    joined_is_sound unit store s moment name sound seats is local possible
-changed_is_sound unit store s moment (assigns p role) sound seats is local possible =
+changed_is_sound unit store s moment (enrols name) sound seats is joins possible =
+    joined_is_sound unit store s moment name sound seats is joins possible
+changed_is_sound unit store s moment (assigns p role) sound seats is joins possible =
     still_sound unit s (holding s p role true) (held_stays unit s p role true) sound
-changed_is_sound unit store s moment (drops p role) sound seats is local possible =
+changed_is_sound unit store s moment (drops p role) sound seats is joins possible =
     still_sound unit s (holding s p role false) (held_stays unit s p role false) sound
-changed_is_sound unit store s moment starts sound seats is local possible =
+changed_is_sound unit store s moment starts sound seats is joins possible =
     still_sound unit s (with_cell s Started (Some (moment_datum moment)))
     (written unit s Started (moment_datum moment) (moment_is_value moment is)) sound
-changed_is_sound unit store s moment (opens p thing) sound seats is local possible =
+changed_is_sound unit store s moment (opens p thing) sound seats is joins possible =
     still_sound unit s (with_first s (opened_cell thing (of_person p)) (moment_datum moment))
     (first_stays unit s (opened_cell thing (of_person p)) (moment_datum moment) (moment_is_value moment is)) sound
-changed_is_sound unit store s moment (completes p thing) sound seats is local possible =
+changed_is_sound unit store s moment (completes p thing) sound seats is joins possible =
     still_sound unit s (with_cell s (chosen_cell thing p) (Some (truth_datum true)))
     (written unit s (chosen_cell thing p) (truth_datum true) refl) sound
-changed_is_sound unit store s moment (sets cell value) sound seats is local possible =
+changed_is_sound unit store s moment (sets cell value) sound seats is joins possible =
     still_sound unit s (with_cell s cell (Some value)) (written unit s cell value possible.1) sound
-changed_is_sound unit store s moment (clears cell) sound seats is local possible =
+changed_is_sound unit store s moment (clears cell) sound seats is joins possible =
     still_sound unit s (with_cell s cell None) (cleared unit s cell possible.property) sound
-changed_is_sound unit store s moment (gets cell) sound seats is local possible = sound
-changed_is_sound unit store s moment (shows_tree p) sound seats is local possible = sound
-changed_is_sound unit store s moment (shows_outbox p) sound seats is local possible = sound
-changed_is_sound unit store s moment reports sound seats is local possible = sound
-changed_is_sound unit store s moment ticks sound seats is local possible = sound
-
--- ---- no global properties
-
-says_nothing : (unit : Course) (store : GlobalValues) (persons : Persons) (cell : CellName) → HasNoGlobals unit
-    → store_says unit store persons cell ≡ None
-says_nothing unit store persons (Prop n owner) local = by (slice_get unit.properties n.0) refl
-  where
-    by : (found : Option Property) → slice_get unit.properties n.0 ≡ found
-        → (found >>= λ property. (provided (is_global property.kind) property >>= λ global. global.uri) >>= λ uri. store_person persons (is_personal property.kind) owner >>= λ person. Some (store uri person)) ≡ None
-    by None at = refl
-    by (Some property) at =
-        ap (λ b. (provided b property >>= λ global. global.uri) >>= λ uri. store_person persons (is_personal property.kind) owner >>= λ person. Some (store uri person))
-        (not_global unit.properties n.0 property local at)
-says_nothing unit store persons (Vis t p) local = refl
-says_nothing unit store persons (Member r p) local = refl
-says_nothing unit store persons (Chosen t owner) local = refl
-says_nothing unit store persons (Opened t owner) local = refl
-says_nothing unit store persons (ActOpened t) local = refl
-says_nothing unit store persons Started local = refl
-says_nothing unit store persons (Mark r owner) local = refl
-says_nothing unit store persons Now local = refl
-says_nothing unit store persons Roster local = refl
-
--- A run takes nothing from the store.
-pub taking_nothing : (unit : Course) (store : GlobalValues) (s : RunState) → HasNoGlobals unit
-    → taking_in unit store s ≡ s
-taking_nothing unit store s local =
-    (λ i. record {
-      seats = s.seats;
-      persons = s.persons;
-      outbox = s.outbox;
-      cells = λ cell. ap (λ (said : Option (Option Datum)). unwrap_or said (s.cells cell)) (says_nothing unit store s.persons cell local) i;
-    })
-
-none_is : {A : Type 0} → (o : Option A) → is_none o ≡ true → o ≡ None
-none_is None is = refl
-none_is (Some x) is = different (sym is)
-
-and_false : (b : Bool) → (b && false) ≡ false
-and_false true = refl
-and_false false = refl
-
-no_uri : (uri : List ℕ) (personal : Bool) (property : Property) → is_none property.uri ≡ true
-    → has_uri uri personal property ≡ false
-no_uri uri true property none =
-    ap (λ (o : Option (List ℕ)). is_personal property.kind && is_some_and (bytes_eq uri) o) (none_is property.uri none)
-    ∙ and_false (is_personal property.kind)
-no_uri uri false property none =
-    ap (λ (o : Option (List ℕ)). not (is_personal property.kind) && is_some_and (bytes_eq uri) o) (none_is property.uri none)
-    ∙ and_false (not (is_personal property.kind))
-
-nowhere_named : (uri : List ℕ) (personal : Bool) (properties : List Property) (n : ℕ) → HaveNoUris properties
-    → position_from (has_uri uri personal) n properties ≡ None
-nowhere_named uri personal [] n none = refl
-nowhere_named uri personal (property ∷ properties) n none =
-    let parts = and_parts (is_none property.uri) (list_all (λ one. is_none one.uri) properties) none in
-    ap (λ b. cond b (Some n) (position_from (has_uri uri personal) (n + 1) properties)) (no_uri uri personal property parts.0)
-    ∙ nowhere_named uri personal properties (n + 1) parts.1
-
-no_key : (unit : Course) (persons : Persons) (uri : List ℕ) (person : Option (List ℕ)) → HaveNoUris unit.properties
-    → cell_of_key unit persons uri person ≡ None
-no_key unit persons uri None none = ap (option_map (λ n. property_cell n Run)) (nowhere_named uri false unit.properties 0 none)
-no_key unit persons uri (Some name) none =
-    ap (λ (found : Option ℕ). found >>= λ n. person_number persons name >>= λ p. Some (property_cell n (of_person p)))
-    (nowhere_named uri true unit.properties 0 none)
-
--- A run gives the store nothing.
-pub giving_nothing : (unit : Course) (store : GlobalValues) (s : RunState) → IsValid unit → HasNoGlobals unit
-    → giving_back unit s store ≡ store
-giving_nothing unit store s valid local =
-    (λ i. λ uri person. ap (λ (key : Option CellName). unwrap_or (option_map s.cells key) (store uri person)) (no_key unit s.persons uri person (no_uris unit valid local)) i)
-
--- The store says nothing of how a run is made and what a command changes.
-pub made_alike : (unit : Course) (seats : ℕ) (store other : GlobalValues) (moment : ℤ) → HasNoGlobals unit
-    → made_at seats unit store moment ≡ made_at seats unit other moment
-made_alike unit seats store other moment local =
-    (λ i. record {
-      seats = seats;
-      persons = [];
-      outbox = [];
-      cells = λ cell. if is_kept_by_run unit cell then begins_alike unit store other None moment local cell i else None;
-    })
-
-pub joined_alike : (unit : Course) (store other : GlobalValues) (s : RunState) (moment : ℤ) (name : List ℕ) → HasNoGlobals unit
-    → joined unit store s moment name ≡ joined unit other s moment name
-joined_alike unit store other s moment name local =
-    (λ i. record {
-      seats = s.seats;
-      persons = s.persons ++ newcomer name ∷ [];
-      outbox = s.outbox;
-      cells = λ cell. if is_kept_for unit (length s.persons) cell then begins_alike unit store other (Some name) moment local cell i else s.cells cell;
-    })
-
-pub changed_alike : (unit : Course) (store other : GlobalValues) (s : RunState) (moment : ℤ) (command : Admitted) → HasNoGlobals unit
-    → directly_changed unit store s moment command ≡ directly_changed unit other s moment command
-changed_alike unit store other s moment (enrols name) local = joined_alike unit store other s moment name local
-changed_alike unit store other s moment (assigns p role) local = refl
-changed_alike unit store other s moment (drops p role) local = refl
-changed_alike unit store other s moment starts local = refl
-changed_alike unit store other s moment (opens p thing) local = refl
-changed_alike unit store other s moment (completes p thing) local = refl
-changed_alike unit store other s moment (sets cell value) local = refl
-changed_alike unit store other s moment (clears cell) local = refl
-changed_alike unit store other s moment (gets cell) local = refl
-changed_alike unit store other s moment (shows_tree p) local = refl
-changed_alike unit store other s moment (shows_outbox p) local = refl
-changed_alike unit store other s moment reports local = refl
-changed_alike unit store other s moment ticks local = refl
+changed_is_sound unit store s moment (gets cell) sound seats is joins possible = sound
+changed_is_sound unit store s moment (shows_tree p) sound seats is joins possible = sound
+changed_is_sound unit store s moment (shows_outbox p) sound seats is joins possible = sound
+changed_is_sound unit store s moment reports sound seats is joins possible = sound
+changed_is_sound unit store s moment ticks sound seats is joins possible = sound
 
 -- ---- what a command names
 

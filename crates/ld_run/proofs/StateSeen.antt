@@ -20,8 +20,8 @@ use Rattle.ld_state.specs.StateView.{StateView, IsStateOf, cells_seen, has_cell,
 use Rattle.ld_state.proofs.Elements.{IsIn}
 use Rattle.ld_state.proofs.Laid.{slot_laid}
 use Rattle.ld_state.proofs.SameCells.{same_cell_itself}
-use Rattle.ld_rules.proofs.CellsThere.{AreCells}
-use Rattle.ld_rules.proofs.Named.{member_looks_there}
+use Rattle.ld_firing.proofs.CellsThere.{AreCells}
+use Rattle.ld_firing.proofs.Named.{member_looks_there}
 
 -- ---- which cells there are
 

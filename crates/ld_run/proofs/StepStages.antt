@@ -1,5 +1,5 @@
--- What a command does, stage by stage, in a run without global properties.
-use Rattle.std.proofs.Common.{◌≡◌, refl, sym, ap, ◌∙◌, ℕ, ℤ, ◌+◌, Bool, ◌&&◌, IfOk, OnOk, Result, Ok, Err, Some}
+-- What a command does, stage by stage.
+use Rattle.std.proofs.Common.{◌≡◌, sym, ap, ◌∙◌, ℤ, ◌+◌, ◌&&◌, IfOk, OnOk, Result, Ok, Err, Some}
 use Rattle.std.specs.Option.{option_map}
 use Rattle.ld_cascade.specs.Settling.{plus}
 use Rattle.ld_model.specs.declared.unit.Unit.{Unit as Course}
@@ -9,18 +9,19 @@ use Rattle.ld_state.specs.Layout.{Layout}
 use Rattle.ld_state.specs.RunState.{RunState}
 use Rattle.ld_state.specs.StateView.{Earlier, IsStateOf, StateView, marked, run_before, run_of, run_with}
 use Rattle.ld_state.proofs.Elements.{some_same}
-use Rattle.ld_rules.specs.RunSettling.{Settlement}
+use Rattle.ld_firing.specs.RunSettling.{Settlement}
 use Rattle.ld_run.specs.Changes.{directly_changed}
 use Rattle.ld_run.specs.Checks.{admitted, is_started}
 use Rattle.ld_run.specs.Commands.{Admitted, has_change}
-use Rattle.ld_run.specs.Globals.{giving_back, taking_in}
+use Rattle.ld_sharing.specs.Globals.{giving_back, taking_in}
 use Rattle.ld_run.specs.Refusals.{Refusal, ◌>>=◌, ◌>>◌}
 use Rattle.ld_run.specs.RunStep.{DoneCommand, at_moment, done_by, open_for_it, run_step, settled}
-use Rattle.ld_run.specs.RunView.{HasNoGlobals}
-use Rattle.ld_run.proofs.SoundRuns.{taking_nothing}
 
-module _ (unit : Course) (store : GlobalValues) (s : RunState) (moment : ℤ) (command : Admitted)
-    (local : HasNoGlobals unit) where
+module _ (unit : Course) (store : GlobalValues) (s : RunState) (moment : ℤ) (command : Admitted) where
+  -- The state as the command finds it.
+  abbrev found : RunState
+  found = taking_in unit store (at_moment s moment)
+
   abbrev then_second : Settlement → RunState → Result DoneCommand Refusal
   then_second first changed =
       settled (has_change command && is_started changed) unit changed >>= λ second. Ok (record {
@@ -35,26 +36,22 @@ module _ (unit : Course) (store : GlobalValues) (s : RunState) (moment : ℤ) (c
   then_open first =
       open_for_it unit first.state command >> then_second first (directly_changed unit store first.state moment command)
 
-  by_stages : done_by unit s store moment command ≡ (settled (is_started s) unit (at_moment s moment) >>= then_open)
-  by_stages =
-      ap (λ (t : RunState). settled (is_started s) unit t >>= then_open) (taking_nothing unit store (at_moment s moment) local)
-
-  pub first_refused : (refusal : Refusal) → settled (is_started s) unit (at_moment s moment) ≡ Err refusal
+  pub first_refused : (refusal : Refusal) → settled (is_started s) unit found ≡ Err refusal
       → done_by unit s store moment command ≡ Err refusal
-  first_refused refusal is = by_stages ∙ ap (λ r. r >>= then_open) is
+  first_refused refusal is = ap (λ r. r >>= then_open) is
 
-  module _ (first : Settlement) (settled_first : settled (is_started s) unit (at_moment s moment) ≡ Ok first) where
+  module _ (first : Settlement) (settled_first : settled (is_started s) unit found ≡ Ok first) where
     pub not_open : (refusal : Refusal) → open_for_it unit first.state command ≡ Err refusal
         → done_by unit s store moment command ≡ Err refusal
     not_open refusal is =
-        by_stages ∙ ap (λ r. r >>= then_open) settled_first
+        ap (λ r. r >>= then_open) settled_first
         ∙ ap (λ r. r >> then_second first (directly_changed unit store first.state moment command)) is
 
     module _ (is_open : open_for_it unit first.state command ≡ Ok tt) (changed : RunState)
         (is_changed : changed ≡ directly_changed unit store first.state moment command) where
       to_second : done_by unit s store moment command ≡ then_second first changed
       to_second =
-          by_stages ∙ ap (λ r. r >>= then_open) settled_first
+          ap (λ r. r >>= then_open) settled_first
           ∙ ap (λ r. r >> then_second first (directly_changed unit store first.state moment command)) is_open
           ∙ ap (then_second first) (sym is_changed)
 

@@ -40,12 +40,12 @@ use Rattle.ld_expr.specs.Owners.{of_person}
 use Rattle.ld_expr.specs.Seen.{visibility_cell, act_opened_cell}
 use Rattle.ld_state.specs.RunCells.{cell_if, is_act_place, run_cells, own_property_cells, own_thing_cells, person_cells, all_cells}
 use Rattle.ld_state.proofs.Elements.{IsIn, in_left, in_right, in_flat_map, in_below, in_each, in_stands, stands_in, from_flat_map, nothing_of_each, none_is_some, different}
-use Rattle.ld_rules.proofs.CellsThere.{AreCells, both_are_cells, one_is_cell, opening_there}
-use Rattle.ld_rules.proofs.ChecksMet.{checks_met}
-use Rattle.ld_rules.proofs.LooksThere.{no_cells}
-use Rattle.ld_rules.proofs.MetChecks.{MeetsChecks, IsAllowed, allowed_by, thing_of_kind, declared_thing, activity_listed, method_listed, play_listed, act_listed}
-use Rattle.ld_rules.proofs.Named.{IsThing, thing_number_is, done_there, member_looks_there}
-use Rattle.ld_rules.proofs.RulesThere.{act_of, act_is}
+use Rattle.ld_firing.proofs.CellsThere.{AreCells, both_are_cells, one_is_cell, opening_there}
+use Rattle.ld_firing.proofs.ChecksMet.{checks_met}
+use Rattle.ld_firing.proofs.LooksThere.{no_cells}
+use Rattle.ld_firing.proofs.MetChecks.{MeetsChecks, IsAllowed, allowed_by, thing_of_kind, declared_thing, activity_listed, method_listed, play_listed, act_listed}
+use Rattle.ld_firing.proofs.Named.{IsThing, thing_number_is, done_there, member_looks_there}
+use Rattle.ld_firing.proofs.RulesThere.{act_of, act_is}
 use Rattle.ld_tree.specs.TreeLooks.{visible_looks, own_done_looks, item_looks, items_looks, object_looks, service_looks, within_looks, environment_looks, environments_looks, feedback_looks, activity_looks, passed_looks, child_looks, structure_looks, target_looks, part_looks, done_act_looks, opened_looks, open_act_looks, act_looks, current_act_looks, play_looks, tree_looks}
 use Rattle.ld_run.proofs.PartsShown.{says_visible, parts_say}
 

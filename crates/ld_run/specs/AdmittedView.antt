@@ -9,6 +9,8 @@ use Rattle.ld_roles.specs.Refusals.{assign_fault, enrol_fault}
 use Rattle.ld_roles.specs.RoleBounds.{role_bounds}
 use Rattle.ld_roles.specs.declared.limit.TheConstants.{SEATS}
 use Rattle.ld_rules.specs.LawWords.{is_property}
+use Rattle.ld_sharing.specs.Fitting.{BeginsFitting, fits_cell}
+use Rattle.ld_state.specs.GlobalValues.{GlobalValues}
 use Rattle.ld_state.specs.RunCells.{all_cells, suits_cell, is_activity}
 use Rattle.ld_state.specs.RunState.{RunState}
 use Rattle.ld_run.specs.Commands.{Admitted, enrols, assigns, drops, starts, opens, completes, sets, clears, gets, shows_tree, shows_outbox, reports, ticks}
@@ -68,3 +70,13 @@ IsTellable unit s (gets cell) = HasPropertyCell unit s cell
 IsTellable unit s (shows_tree p) = p < length s.persons
 IsTellable unit s (shows_outbox p) = p < length s.persons
 IsTellable unit s _ = Unit {0}
+
+-- A value that the command sets fits, where it is one of a global property.
+abbrev pub WritesFitting : Course → Admitted → Type 0
+WritesFitting unit (sets cell value) = fits_cell unit cell (Some value) ≡ true
+WritesFitting unit _ = Unit {0}
+
+-- Where a person joins, what the store holds for the newcomer fits.
+abbrev pub JoinsFitting : Course → GlobalValues → Admitted → Type 0
+JoinsFitting unit store (enrols name) = BeginsFitting unit store (Some name)
+JoinsFitting unit store _ = Unit {0}

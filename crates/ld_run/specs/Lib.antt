@@ -4,7 +4,6 @@ pub mod Changes
 pub mod CheckStages
 pub mod Checks
 pub mod Commands
-pub mod Globals
 pub mod LineWords
 pub mod Printed
 pub mod Printing

@@ -8,13 +8,13 @@ use Rattle.ld_cascade.specs.Settling.{Sums, plus}
 use Rattle.ld_model.specs.declared.cell.CellName.TheVariants.{Now}
 use Rattle.ld_model.specs.declared.unit.Unit.{Unit as Course}
 use Rattle.ld_lines.specs.declared.command.RunCommand.{RunCommand}
-use Rattle.ld_rules.specs.RunSettling.{Settlement, run_settling, no_settling}
+use Rattle.ld_firing.specs.RunSettling.{Settlement, run_settling, no_settling}
 use Rattle.ld_state.specs.RunState.{RunState, seen_in, with_cell}
 use Rattle.ld_tree.specs.Tree.{is_open}
 use Rattle.ld_run.specs.Changes.{directly_changed}
 use Rattle.ld_run.specs.Checks.{Passed, admitted, is_started}
 use Rattle.ld_run.specs.Commands.{Admitted, opens, completes, has_change}
-use Rattle.ld_run.specs.Globals.{taking_in, giving_back}
+use Rattle.ld_sharing.specs.Globals.{taking_in, giving_back}
 use Rattle.ld_run.specs.Refusals.{Refusal, TurnBudget, NotOpen, ◌>>=◌, ◌>>◌, refuse_if}
 
 -- A command that was done: what it was, the turns and the sums of both settlings, and the state and the

@@ -1,9 +1,7 @@
 -- What contracts see of a run, and what becomes of it by a command.
-use Rattle.std.specs.Prelude.{◌≡◌, ◌⊎◌, ℕ, ℤ, List, [], ◌∷◌, ◌++◌, false, Result, Ok, Err}
-use Rattle.std.specs.List.{list_any}
+use Rattle.std.specs.Prelude.{◌≡◌, ◌⊎◌, ℕ, ℤ, List, [], ◌∷◌, ◌++◌, Result, Ok, Err}
 use Rattle.ld_model.specs.declared.unit.Unit.{Unit as Course}
 use Rattle.ld_lines.specs.declared.command.RunCommand.{RunCommand}
-use Rattle.ld_expr.specs.Owners.{is_global}
 use Rattle.ld_state.specs.GlobalValues.{GlobalValues}
 use Rattle.ld_state.specs.RunState.{RunState}
 use Rattle.ld_state.specs.StateView.{StateView}
@@ -16,10 +14,6 @@ pub record RunView : Type 0 where
   pub unit : Course
   pub state : StateView
 
--- None of the unit's properties is global.
-abbrev pub HasNoGlobals : Course → Type 0
-HasNoGlobals unit = list_any (λ property. is_global property.kind) unit.properties ≡ false
-
 -- The reply block to a command of a run.
 abbrev pub block_of : Course → Result DoneCommand Refusal → List ℕ
 block_of unit (Ok done) = done_text unit done ++ 10 ∷ []
@@ -30,10 +24,16 @@ abbrev pub state_after : RunState → Result DoneCommand Refusal → RunState
 state_after s (Ok done) = done.state
 state_after s (Err refusal) = s
 
--- The text answers the command in the old state and leads to the new one; where memory is wanting, the
--- command counts as not given.
-abbrev pub AnswersCommand : Course → RunState → GlobalValues → ℤ → RunCommand → List ℕ → RunState → Type 0
-AnswersCommand unit old store moment asked text new =
+-- The store after it; a refusal leaves it as it was.
+abbrev pub store_after : GlobalValues → Result DoneCommand Refusal → GlobalValues
+store_after store (Ok done) = done.store
+store_after store (Err refusal) = store
+
+-- The text answers the command in the old state and over this store, and leads to the new state and to what
+-- is left in the store; where memory is wanting, the command counts as not given.
+abbrev pub AnswersCommand : Course → RunState → GlobalValues → ℤ → RunCommand → List ℕ → RunState → GlobalValues → Type 0
+AnswersCommand unit old store moment asked text new left =
     ((text ≡ block_of unit (run_step unit old store moment asked))
-    × (new ≡ state_after old (run_step unit old store moment asked)))
-    ⊎ ((text ≡ block_of unit (Err NoMemory)) × (new ≡ old))
+    × (new ≡ state_after old (run_step unit old store moment asked))
+    × (left ≡ store_after store (run_step unit old store moment asked)))
+    ⊎ ((text ≡ block_of unit (Err NoMemory)) × (new ≡ old) × (left ≡ store))

@@ -1,58 +1,64 @@
 //! What a command changes directly.
-ghost use Rattle.std.specs.Prelude.{◌≡◌, IfOk, None, OnOk, replicate};
-ghost use Rattle.ld_cells.specs.Stored.{cells_of};
+ghost use Rattle.std.specs.Prelude.{◌≡◌, None, OnOk, Some};
 ghost use Rattle.ld_value.specs.Datum.{moment_datum};
 ghost use Rattle.ld_expr.specs.Owners.{of_person};
 ghost use Rattle.ld_expr.specs.Seen.{opened_cell};
 ghost use Rattle.ld_roles.specs.Kept.{persons_of};
 ghost use Rattle.ld_roles.specs.Refusals.{enrol_fault};
 ghost use Rattle.ld_roles.specs.declared.limit.TheConstants.{SEATS};
-ghost use Rattle.ld_state.specs.GlobalValues.{GlobalValues};
 ghost use Rattle.ld_state.specs.RunState.{joined};
 ghost use Rattle.ld_state.specs.StateView.{HasMarkedPersons, IsStateOf, run_of};
-ghost use Rattle.ld_rules.specs.RunSystem.{IsSoundRun};
-ghost use Rattle.ld_run.specs.AdmittedView.{HasPersonAndActivity, IsPossible, admitted_of};
+ghost use Rattle.ld_firing.specs.RunSystem.{IsSoundRun};
+ghost use Rattle.ld_sharing.specs.Fitting.{BeginsFitting};
+ghost use Rattle.ld_sharing.specs.StoreView.{Serves, values_of};
+ghost use Rattle.ld_run.specs.AdmittedView.{HasPersonAndActivity, IsPossible, JoinsFitting, admitted_of};
 ghost use Rattle.ld_run.specs.Changes.{directly_changed, with_first};
-ghost use Rattle.ld_run.specs.RunView.{HasNoGlobals};
 
 use crate::admitted::Admitted;
 use ld_base::id::Id;
 use ld_base::memory::NoMemory;
 use ld_base::numbers::{PersonNo, ThingNo};
 use ld_base::steps::Steps;
+use ld_globals::globals::Globals;
 use ld_model::cell::{CellName, Owner};
 use ld_model::view::View;
 use ld_rules::prepared::PreparedUnit;
+use ld_sharing::stored::stored_values;
 use ld_state::state::State;
 use ld_value::moment::Moment;
 use ld_value::value::Value;
 use std::alloc::Global;
 use std::sync::ledger::Ledger;
 
-/// Makes the direct change of a command. After want of memory the state is another one with the same
-/// mark.
+/// Makes the direct change of a command. A newcomer's global properties have the store's values.
+/// After want of memory the state is another one with the same mark.
 pub(crate) fn change_directly<L: Ledger>(
     alloc: Global,
     unit: &PreparedUnit,
     state: &mut State,
+    globals: &Globals,
     moment: Moment,
     command: &Admitted<'_>,
     steps: &mut Steps<L>,
 ) -> Result<(), NoMemory>
     requires own { IsStateOf unit.now state.old }
     requires sound { IsSoundRun unit.now (run_of state.old) }
-    requires local { HasNoGlobals unit.now }
+    requires serves { Serves globals.now unit.now }
     requires possible { IsPossible unit.now (run_of state.old) (admitted_of command.now) }
     requires persons { HasMarkedPersons state.old }
-    ensures run { (store : GlobalValues) → OnOk result (run_of state.new
-        ≡ directly_changed unit.now store (run_of state.old) moment.0 (admitted_of command.now)) }
+    ensures run { OnOk result (run_of state.new ≡ directly_changed unit.now (values_of globals.now)
+        (run_of state.old) moment.0 (admitted_of command.now)) }
+    ensures joins { OnOk result
+        (JoinsFitting unit.now (values_of globals.now) (admitted_of command.now)) }
     ensures own { IsStateOf unit.now state.new }
     ensures kept { state.new.kept ≡ state.old.kept }
 {
     let mut changed = Vec::new(alloc);
     let changed = &mut changed;
     match command {
-        Admitted::Enrols(name) => enrol(alloc, unit, state, moment, *name, changed),
+        Admitted::Enrols(name) => {
+            enrol(alloc, unit, state, globals, moment, *name, changed, steps)
+        }
         Admitted::Assigns(person, role) => state.assign(*person, *role, changed),
         Admitted::Drops(person, role) => state.drop_role(*person, *role, changed),
         Admitted::Starts => state.set(CellName::Started, Some(Value::Moment(moment)), changed),
@@ -75,37 +81,30 @@ pub(crate) fn change_directly<L: Ledger>(
 }
 
 /// The person of this name joins.
-fn enrol(
+fn enrol<L: Ledger>(
     alloc: Global,
     unit: &PreparedUnit,
     state: &mut State,
+    globals: &Globals,
     moment: Moment,
     name: &Id,
     changed: &mut Vec<u32>,
+    steps: &mut Steps<L>,
 ) -> Result<(), NoMemory>
     requires own { IsStateOf unit.now state.old }
-    requires local { HasNoGlobals unit.now }
+    requires serves { Serves globals.now unit.now }
     requires seat { enrol_fault SEATS (persons_of state.old.rows) name.now ≡ None }
     requires persons { HasMarkedPersons state.old }
-    ensures run { (store : GlobalValues) → OnOk result (run_of state.new
-        ≡ joined unit.now store (run_of state.old) moment.0 name.now) }
+    ensures run { OnOk result (run_of state.new
+        ≡ joined unit.now (values_of globals.now) (run_of state.old) moment.0 name.now) }
+    ensures begins { OnOk result
+        (BeginsFitting unit.now (values_of globals.now) (Some name.now)) }
     ensures own { IsStateOf unit.now state.new }
     ensures kept { state.new.kept ≡ state.old.kept }
 {
-    let stored = nothing_stored(alloc, unit.unit().properties.len())?;
+    let stored = stored_values(alloc, unit, globals, Some(name), steps)?;
     state.enrol(alloc, &unit.beginnings(), name, &stored, moment, changed)?;
     Ok(())
-}
-
-/// What the store holds of properties of which none is global: nothing, for each.
-pub(crate) fn nothing_stored(alloc: Global, count: usize) -> Result<Vec<Option<Value>>, NoMemory>
-    ensures { IfOk result (λ stored. cells_of stored.items ≡ replicate count None) }
-{
-    let mut stored = Vec::with_capacity(alloc, count)?;
-    for _ in 0..count {
-        stored.push(None)?;
-    }
-    Ok(stored)
 }
 
 /// The person opens the activity, if it was not opened before.

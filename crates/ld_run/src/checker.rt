@@ -1,7 +1,7 @@
 //! The checks of moments and persons.
 ghost use Rattle.std.specs.Prelude.{◌≡◌, ◌<◌, ℕ, length, None, Err, IfOk, IfErr, OnOk};
 ghost use Rattle.ld_roles.specs.Refusals.{enrol_fault};
-ghost use Rattle.ld_rules.specs.RunSystem.{IsSoundRun};
+ghost use Rattle.ld_firing.specs.RunSystem.{IsSoundRun};
 ghost use Rattle.ld_run.specs.CheckStages.{Rest, acting, enrolling, in_running};
 ghost use Rattle.ld_run.specs.Checks.{in_time, is_started, last_moment, not_running, running, the_person};
 ghost use Rattle.ld_run.specs.RefusalView.{answer_of, refusal_of};

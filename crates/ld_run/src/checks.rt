@@ -1,7 +1,7 @@
 //! The checks of a command.
 ghost use Rattle.std.specs.Prelude.{◌≡◌, IfErr, IfOk, Ok};
 ghost use Rattle.ld_state.specs.StateView.{IsStateOf, run_of};
-ghost use Rattle.ld_rules.specs.RunSystem.{IsSoundRun};
+ghost use Rattle.ld_firing.specs.RunSystem.{IsSoundRun};
 ghost use Rattle.ld_run.specs.AdmittedView.{IsPossible, admitted_of};
 ghost use Rattle.ld_run.specs.Checks.{admitted};
 ghost use Rattle.ld_run.specs.RefusalView.{RefusesWith};

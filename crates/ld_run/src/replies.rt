@@ -3,8 +3,8 @@ ghost use Rattle.std.specs.Prelude.{◌≡◌, ◌<◌, ◌≤◌, ◌++◌, cod
 ghost use Rattle.ld_base.specs.Roomy.{KeepsRoom};
 ghost use Rattle.ld_state.specs.RunState.{seen_in};
 ghost use Rattle.ld_state.specs.StateView.{IsStateOf, run_of};
-ghost use Rattle.ld_rules.specs.RunSystem.{IsSoundRun};
-ghost use Rattle.ld_rules.specs.SettledView.{sums_in};
+ghost use Rattle.ld_firing.specs.RunSystem.{IsSoundRun};
+ghost use Rattle.ld_firing.specs.SettledView.{sums_in};
 ghost use Rattle.ld_tree.specs.Lines.{line_text, spaced};
 ghost use Rattle.ld_tree.specs.Tree.{tree_lines};
 ghost use Rattle.ld_run.specs.AdmittedView.{HasPropertyCell, IsTellable, admitted_of};

@@ -2,21 +2,24 @@
 ghost use Rattle.std.specs.Prelude.{◌≡◌, ◌≤◌, [], IfOk, None};
 ghost use Rattle.ld_base.specs.Roomy.{room_of};
 ghost use Rattle.ld_roles.specs.declared.limit.TheConstants.{SEATS};
-ghost use Rattle.ld_state.specs.GlobalValues.{GlobalValues};
 ghost use Rattle.ld_state.specs.RunState.{made_at};
 ghost use Rattle.ld_state.specs.StateView.{IsStateOf, run_of};
-ghost use Rattle.ld_rules.specs.RunSystem.{IsSoundRun};
+ghost use Rattle.ld_firing.specs.RunSystem.{IsSoundRun};
 ghost use Rattle.ld_value.specs.Calendar.{IsMoment};
-ghost use Rattle.ld_run.specs.RunView.{AnswersCommand, HasNoGlobals};
+ghost use Rattle.ld_sharing.specs.Fitting.{HasFittingGlobals};
+ghost use Rattle.ld_sharing.specs.StoreView.{Serves, values_of};
+ghost use Rattle.ld_run.specs.Reached.{IsReached as HasCome};
+ghost use Rattle.ld_run.specs.RunView.{AnswersCommand};
 
-use crate::changes::nothing_stored;
 use crate::stages::step;
 use crate::telling::tell_refusal;
 use ld_base::memory::NoMemory;
 use ld_base::steps::Steps;
 use ld_base::text::Text;
+use ld_globals::globals::Globals;
 use ld_lines::command::RunCommand;
 use ld_rules::prepared::PreparedUnit;
+use ld_sharing::stored::stored_values;
 use ld_state::state::State;
 use ld_value::moment::Moment;
 use std::alloc::Global;
@@ -48,53 +51,70 @@ impl Model for Run {
     ghost coded = { Prim.hlevel (codes, coded_term, coded_test) };
 
     ghost use Rattle.std.specs.Prelude.{◌≡◌, None};
-    ghost use Rattle.ld_rules.specs.RunSystem.{IsSoundRun};
+    ghost use Rattle.ld_firing.specs.RunSystem.{IsSoundRun};
     ghost use Rattle.ld_state.specs.StateView.{IsStateOf, run_of as state_of};
     ghost use Rattle.ld_run.specs.Printing.{AreNoticesOf};
-    ghost use Rattle.ld_run.specs.RunView.{HasNoGlobals as HasNoneGlobal};
+    ghost use Rattle.ld_run.specs.Reached.{IsReached};
+    ghost use Rattle.ld_sharing.specs.Fitting.{HasFittingGlobals as AreFitting};
 
     ghost view = { λ s. record { unit = s.unit.value; state = s.state } };
 
     ghost invariant = { λ s. IsStateOf s.unit.value s.state
         × IsSoundRun s.unit.value (state_of s.state)
-        × HasNoneGlobal s.unit.value × (s.state.kept ≡ None)
-        × AreNoticesOf s.unit.value s.state.outbox };
+        × AreFitting s.unit.value (state_of s.state) × (s.state.kept ≡ None)
+        × AreNoticesOf s.unit.value s.state.outbox
+        × IsReached s.unit.value (state_of s.state) };
 }
 
 impl Run {
-    /// A run of the unit that is made at this moment.
-    pub fn new(alloc: Global, unit: Rc<PreparedUnit>, moment: Moment) -> Result<Run, NoMemory>
-        requires local { HasNoGlobals unit.value }
+    /// A run of the unit that is made at this moment. Its global properties have the store's values.
+    /// The only error is want of memory.
+    pub fn new<L: Ledger>(
+        alloc: Global,
+        unit: Rc<PreparedUnit>,
+        globals: &Globals,
+        moment: Moment,
+        steps: &mut Steps<L>,
+    ) -> Result<Run, NoMemory>
+        requires serves { Serves globals.now unit.value }
         requires moment { IsMoment moment.0 }
         ensures unit { IfOk result (λ run. run.unit ≡ unit.value) }
-        ensures state { (store : GlobalValues)
-            → IfOk result (λ run. run_of run.state ≡ made_at SEATS unit.value store moment.0) }
+        ensures state { IfOk result (λ run. run_of run.state
+            ≡ made_at SEATS unit.value (values_of globals.now) moment.0) }
+        ensures reached { IfOk result (λ run. HasCome run.unit (run_of run.state)) }
     {
-        let state = begin(alloc, &unit, moment)?;
+        let state = begin(alloc, &unit, globals, moment, steps)?;
         Ok(Run { unit, state })
     }
 
     /// Does the command at the moment, or refuses it: `out` is emptied and then holds the reply block.
-    /// Where memory is wanting it says so, and the command counts as not given.
+    /// The run takes in the store's values of its global properties, and the store takes them back.
+    /// Where memory is wanting the block says so, and the command counts as not given.
     pub fn apply<L: Ledger>(
         &mut self,
         alloc: Global,
+        globals: &mut Globals,
         moment: Moment,
         command: &RunCommand,
         out: &mut Text,
         steps: &mut Steps<L>,
     )
+        requires serves { Serves globals.old self.old.unit }
         requires moment { IsMoment moment.0 }
         requires room { 128 ≤ room_of out.old }
         ensures unit { self.new.unit ≡ self.old.unit }
-        ensures answers { (store : GlobalValues) → AnswersCommand self.old.unit (run_of self.old.state)
-            store moment.0 command.now out.new.bytes (run_of self.new.state) }
+        ensures answers { AnswersCommand self.old.unit (run_of self.old.state)
+            (values_of globals.old) moment.0 command.now out.new.bytes (run_of self.new.state)
+            (values_of globals.new) }
+        ensures declared { globals.new.declared ≡ globals.old.declared }
+        ensures reached { HasCome self.new.unit (run_of self.new.state) }
         ensures room { 128 ≤ room_of out.new }
     {
         let Err(refusal) = step(
             alloc,
             &self.unit,
             &mut self.state,
+            globals,
             moment,
             command,
             out,
@@ -107,17 +127,26 @@ impl Run {
 }
 
 /// The state of a run of the unit that is made at this moment.
-fn begin(alloc: Global, unit: &PreparedUnit, moment: Moment) -> Result<State, NoMemory>
-    requires local { HasNoGlobals unit.now }
+fn begin<L: Ledger>(
+    alloc: Global,
+    unit: &PreparedUnit,
+    globals: &Globals,
+    moment: Moment,
+    steps: &mut Steps<L>,
+) -> Result<State, NoMemory>
+    requires serves { Serves globals.now unit.now }
     requires moment { IsMoment moment.0 }
     ensures own { IfOk result (IsStateOf unit.now) }
     ensures sound { IfOk result (λ state. IsSoundRun unit.now (run_of state)) }
+    ensures fitting { IfOk result (λ state. HasFittingGlobals unit.now (run_of state)) }
     ensures unmarked { IfOk result (λ state. state.kept ≡ None) }
     ensures silent { IfOk result (λ state. state.outbox ≡ []) }
-    ensures state { (store : GlobalValues)
-        → IfOk result (λ state. run_of state ≡ made_at SEATS unit.now store moment.0) }
+    ensures state { IfOk result (λ state. run_of state
+        ≡ made_at SEATS unit.now (values_of globals.now) moment.0) }
 {
-    let stored = nothing_stored(alloc, unit.unit().properties.len())?;
+    // The unit is valid, as the call of `unit` says.
+    let _unit = unit.unit();
+    let stored = stored_values(alloc, unit, globals, None, steps)?;
     State::new(
         alloc,
         unit.slots().clone()?,

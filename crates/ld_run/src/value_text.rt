@@ -14,11 +14,7 @@ use ld_value::value::Value;
 use std::alloc::Global;
 
 /// Appends the value as a JSON text, or `none` where there is no value. (docs/COMMANDS.md, "Replies")
-pub(crate) fn push_value(
-    alloc: Global,
-    value: Option<&Value>,
-    out: &mut Text,
-) -> Result<(), NoMemory>
+pub fn push_value(alloc: Global, value: Option<&Value>, out: &mut Text) -> Result<(), NoMemory>
     requires { IfSome (option_map datum_of (option_copied value)) IsPrintable }
     ensures text { OnOk result (out.new.bytes
         ≡ out.old.bytes ++ printed_value (option_map datum_of (option_copied value.entry))) }

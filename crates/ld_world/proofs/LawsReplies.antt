@@ -15,8 +15,8 @@ use Rattle.ld_roles.specs.Roster.{Shortage, short_at_start}
 use Rattle.ld_state.specs.GlobalValues.{GlobalValues}
 use Rattle.ld_state.specs.RunState.{RunState}
 use Rattle.ld_rules.specs.LawWords.{is_property}
-use Rattle.ld_rules.specs.RunSettling.{Settlement, run_settling}
-use Rattle.ld_rules.proofs.LawsOpenings.{settling_leaves, told_apart}
+use Rattle.ld_firing.specs.RunSettling.{Settlement, run_settling}
+use Rattle.ld_firing.proofs.LawsOpenings.{settling_leaves, told_apart}
 use Rattle.ld_run.specs.Changes.{directly_changed}
 use Rattle.ld_run.specs.Checks.{admitted, in_time, running, last_moment, is_started, none_short, shortage_if_running, the_cell, fitting_value, may_write, the_person, the_role, the_activity, the_property, does_not_hold, holds_it, has_room, keeps_apart, only_by_choice, not_enrolled, has_seat, not_running}
 use Rattle.ld_run.specs.Commands.{Admitted, enrols, assigns, drops, starts, opens, completes, sets, clears, gets, shows_tree, shows_outbox, reports, ticks, has_change}

@@ -1,7 +1,16 @@
+mod Alike
 mod Answering
+mod AnsweringGlobals
+mod Declared
+mod Differing
 mod Named
-mod NoGlobals
-mod Repeated
+mod NewUnit
+mod PropertyWalk
+mod Published
+mod Serving
+mod Setting
+pub mod Isolation
 pub mod LawsRefused
 pub mod LawsReplies
+pub mod OwnValues
 pub mod SeatsOfWorlds

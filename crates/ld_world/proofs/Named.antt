@@ -6,11 +6,13 @@ use Rattle.std.proofs.lemmas.List.{map-append}
 use Rattle.std.specs.List.{AllByRecursion, IsDistinct, list_any}
 use Rattle.std.specs.Map.{keys_of, lookup, set_value}
 use Rattle.std.specs.Str.{bytes_eq}
+use Rattle.ld_globals.specs.Store.{Store}
 use Rattle.ld_run.specs.RunView.{RunView}
+use Rattle.ld_sharing.specs.StoreView.{Serves}
 use Rattle.ld_state.specs.RunState.{RunState}
 use Rattle.ld_state.specs.StateView.{run_of}
 use Rattle.ld_world.specs.World.{in_state, run_named}
-use Rattle.ld_world.specs.WorldView.{RunsShareNothing, SharesNothing, run_named_so}
+use Rattle.ld_world.specs.WorldView.{ServesRuns, run_named_so}
 
 -- ---- lists
 
@@ -81,22 +83,22 @@ is_there name runs = ap is_some (found_run name runs) ∙ by (lookup (bytes_eq n
     by None = refl
     by (Some run) = refl
 
--- The run of this name shares nothing.
-pub found_shares : (name : List ℕ) (runs : List (List ℕ × RunView)) (run : RunView) → RunsShareNothing runs → lookup (bytes_eq name) runs ≡ Some run → SharesNothing run.unit
-found_shares name [] run all found = absurd (cc)
-found_shares name (entry ∷ runs) run all found = by (bytes_eq name entry.0) (found_shares name runs run all.1) found
+-- The store serves the unit of the run of this name.
+pub found_serves : (store : Store) (name : List ℕ) (runs : List (List ℕ × RunView)) (run : RunView) → ServesRuns store runs → lookup (bytes_eq name) runs ≡ Some run → Serves store run.unit
+found_serves store name [] run all found = absurd (cc)
+found_serves store name (entry ∷ runs) run all found = by (bytes_eq name entry.0) (found_serves store name runs run all.1) found
   where
-    by : (b : Bool) → (lookup (bytes_eq name) runs ≡ Some run → SharesNothing run.unit) → cond b (Some entry.1) (lookup (bytes_eq name) runs) ≡ Some run → SharesNothing run.unit
-    by true rest here = let same : entry.1 ≡ run = cc in subst (λ r. SharesNothing r.unit) same all.0
+    by : (b : Bool) → (lookup (bytes_eq name) runs ≡ Some run → Serves store run.unit) → cond b (Some entry.1) (lookup (bytes_eq name) runs) ≡ Some run → Serves store run.unit
+    by true rest here = let same : entry.1 ≡ run = cc in subst (λ r. Serves store r.unit) same all.0
     by false rest later = rest later
 
--- So do the runs after one of them is at another state.
-pub set_shares : (name : List ℕ) (runs : List (List ℕ × RunView)) (run : RunView) → RunsShareNothing runs → SharesNothing run.unit
-    → RunsShareNothing (set_value (bytes_eq name) runs run)
-set_shares name [] run all one = tt
-set_shares name (entry ∷ runs) run all one = by (bytes_eq name entry.0) (set_shares name runs run all.1 one)
+-- So it does after one of them is at another state.
+pub set_serves : (store : Store) (name : List ℕ) (runs : List (List ℕ × RunView)) (run : RunView) → ServesRuns store runs → Serves store run.unit
+    → ServesRuns store (set_value (bytes_eq name) runs run)
+set_serves store name [] run all one = tt
+set_serves store name (entry ∷ runs) run all one = by (bytes_eq name entry.0) (set_serves store name runs run all.1 one)
   where
-    by : (b : Bool) → RunsShareNothing (set_value (bytes_eq name) runs run) → RunsShareNothing (cond b ((entry.0, run) ∷ runs) (entry ∷ set_value (bytes_eq name) runs run))
+    by : (b : Bool) → ServesRuns store (set_value (bytes_eq name) runs run) → ServesRuns store (cond b ((entry.0, run) ∷ runs) (entry ∷ set_value (bytes_eq name) runs run))
     by true rest = (one, all.1)
     by false rest = (all.0, rest)
 

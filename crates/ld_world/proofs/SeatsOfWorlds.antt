@@ -8,8 +8,8 @@ use Rattle.ld_lines.specs.declared.command.RunCommand.{RunCommand}
 use Rattle.ld_lines.specs.declared.line.Line.{Line}
 use Rattle.ld_lines.specs.declared.line.Line.TheVariants.{Create, OfRun, GlobalSet, GlobalGet}
 use Rattle.ld_state.specs.RunState.{RunState, made_at}
-use Rattle.ld_rules.specs.Seating.{reseated}
-use Rattle.ld_rules.specs.SiteWalk.{HasSeats}
+use Rattle.ld_firing.specs.Seating.{reseated}
+use Rattle.ld_firing.specs.SiteWalk.{HasSeats}
 use Rattle.ld_run.specs.Checks.{Passed, fitting_value}
 use Rattle.ld_run.specs.Refusals.{Refusal, RunFull, RunExists, UnknownRun, UnknownUnit, ◌>>=◌, ◌>>◌, refuse_if}
 use Rattle.ld_run.specs.RunStep.{DoneCommand, run_step}

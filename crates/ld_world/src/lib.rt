@@ -1,6 +1,10 @@
-//! The world: published units, the runs that were made of them, and the lines that are answered.
+//! The world: published units, the store of global values and the runs that share it, and the lines
+//! that are answered.
 #![tactic(auto)]
 
+mod declarations;
+mod declaring;
+mod global_lines;
 mod publishing;
 mod runs;
 pub mod world;

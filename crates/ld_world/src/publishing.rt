@@ -1,10 +1,9 @@
-//! Publishing a unit beside others.
+//! Units by their identifiers.
 ghost use Rattle.std.specs.Prelude.{◌≡◌, [], map, find, option_map, option_copied, IfErr, OnOk};
 ghost use Rattle.std.specs.Str.{bytes_eq};
 ghost use Rattle.ld_json.specs.Fault.{Says, SaysFirst};
-ghost use Rattle.ld_world.specs.Published.{faults_beside, repeated_unit};
+ghost use Rattle.ld_world.specs.Published.{repeated_unit, repeats_unit};
 ghost use Rattle.ld_world.specs.World.{unit_named};
-ghost use Rattle.ld_world.specs.WorldView.{SharesNothing};
 
 use ld_base::id::Id;
 use ld_base::text::Text;
@@ -16,18 +15,16 @@ use ld_rules::prepared::PreparedUnit;
 use std::alloc::Global;
 use std::rc::Rc;
 
-/// That the unit can be published beside the others. No unit has a global property yet, so the one
-/// fault is that its identifier is repeated.
-pub(crate) fn check_beside(
+/// That no other unit has the identifier of the unit.
+pub(crate) fn check_identifier(
     alloc: Global,
     units: &[Rc<PreparedUnit>],
     unit: &Unit,
 ) -> Result<(), ReadFault>
-    requires { SharesNothing unit.now }
     ensures faultless { OnOk result
-        (faults_beside (map (λ other. other.value) units.now) unit.now ≡ []) }
+        (repeats_unit (map (λ other. other.value) units.now) unit.now ≡ []) }
     ensures first { IfErr result
-        (SaysFirst (faults_beside (map (λ other. other.value) units.now) unit.now)) }
+        (SaysFirst (repeats_unit (map (λ other. other.value) units.now) unit.now)) }
 {
     if let Some(_) = find_unit(units, &unit.identifier) {
         return Err(repeated_unit(alloc));

@@ -1,12 +1,11 @@
 //! Runs by their names: making one, and asking one.
 ghost use Rattle.std.specs.Prelude.{◌≡◌, ◌≤◌, Some, List, map, OnOk, OnErr};
-ghost use Rattle.std.specs.List.{AllByRecursion};
 ghost use Rattle.ld_base.specs.Roomy.{room_of, KeepsRoom};
 ghost use Rattle.ld_lines.specs.declared.line.Line.TheVariants as line;
 ghost use Rattle.ld_model.specs.declared.unit.Unit.{Unit as Course};
 ghost use Rattle.ld_value.specs.Calendar.{IsMoment};
 ghost use Rattle.ld_world.specs.Answers.{AnswersLine};
-ghost use Rattle.ld_world.specs.WorldView.{RunsShareNothing, SharesNothing, world_with};
+ghost use Rattle.ld_world.specs.WorldView.{ServesAll, ServesRuns, world_with};
 
 use crate::publishing::find_unit;
 use indexmap::IndexMap;
@@ -14,6 +13,7 @@ use ld_base::id::Id;
 use ld_base::memory::NoMemory;
 use ld_base::steps::Steps;
 use ld_base::text::Text;
+use ld_globals::globals::Globals;
 use ld_lines::command::RunCommand;
 use ld_rules::prepared::PreparedUnit;
 use ld_run::refusal::Refusal;
@@ -26,24 +26,26 @@ use std::sync::ledger::Ledger;
 
 /// Makes a run of the unit of this identifier under the name, or says why not. Where memory is
 /// wanting no run is made.
-pub(crate) fn make_run(
+pub(crate) fn make_run<L: Ledger>(
     alloc: Global,
     units: &[Rc<PreparedUnit>],
+    globals: &Globals,
     runs: &mut IndexMap<Id, Run>,
     moment: Moment,
     name: Id,
     unit: &Id,
     out: &mut Text,
+    steps: &mut Steps<L>,
 ) -> Result<(), NoMemory>
     requires moment { IsMoment moment.0 }
-    requires units { AllByRecursion SharesNothing (map (λ unit. unit.value) units.now) }
-    requires runs { RunsShareNothing runs.old.entries }
+    requires units { ServesAll globals.now (map (λ unit. unit.value) units.now) }
+    requires runs { ServesRuns globals.now runs.old.entries }
     ensures ok { OnOk result (AnswersLine
-        (world_with (map (λ unit. unit.value) units.now) runs.old.entries)
+        (world_with (map (λ unit. unit.value) units.now) globals.now runs.old.entries)
         (Some (line.Create moment name unit.now)) out.new.bytes
-        (world_with (map (λ unit. unit.value) units.now) runs.new.entries)) }
+        (world_with (map (λ unit. unit.value) units.now) globals.now runs.new.entries)) }
     ensures err { OnErr result (runs.new.entries ≡ runs.old.entries) }
-    ensures runs { RunsShareNothing runs.new.entries }
+    ensures runs { ServesRuns globals.now runs.new.entries }
     ensures room { KeepsRoom out.old out.new }
 {
     let Some(unit) = find_unit(units, unit) else {
@@ -52,7 +54,7 @@ pub(crate) fn make_run(
     if runs.contains_key(&name) {
         return refuse(Refusal::RunExists, out);
     }
-    let run = Run::new(alloc, unit.clone()?, moment)?;
+    let run = Run::new(alloc, unit.clone()?, globals, moment, steps)?;
     out.clear();
     out.push("ok create\n")?;
     runs.insert(name, run)?;
@@ -62,6 +64,7 @@ pub(crate) fn make_run(
 /// Does what is asked of the run of this name, or says that there is none.
 pub(crate) fn ask_run<L: Ledger>(
     alloc: Global,
+    globals: &mut Globals,
     runs: &mut IndexMap<Id, Run>,
     moment: Moment,
     name: &Id,
@@ -70,18 +73,21 @@ pub(crate) fn ask_run<L: Ledger>(
     steps: &mut Steps<L>,
 ) -> Result<(), NoMemory>
     requires moment { IsMoment moment.0 }
-    requires runs { RunsShareNothing runs.old.entries }
+    requires runs { ServesRuns globals.old runs.old.entries }
     requires room { 128 ≤ room_of out.old }
     ensures ok { (units : List Course) → OnOk result (AnswersLine
-        (world_with units runs.old.entries) (Some (line.OfRun moment name.now command.now))
-        out.new.bytes (world_with units runs.new.entries)) }
-    ensures err { OnErr result (runs.new.entries ≡ runs.old.entries) }
-    ensures runs { RunsShareNothing runs.new.entries }
+        (world_with units globals.old runs.old.entries)
+        (Some (line.OfRun moment name.now command.now))
+        out.new.bytes (world_with units globals.new runs.new.entries)) }
+    ensures declared { globals.new.declared ≡ globals.old.declared }
+    ensures err { OnErr result (globals.new ≡ globals.old) }
+    ensures same { OnErr result (runs.new.entries ≡ runs.old.entries) }
+    ensures runs { ServesRuns globals.new runs.new.entries }
     ensures room { 128 ≤ room_of out.new }
 {
     let Some(run) = runs.get_mut(name) else {
         return refuse(Refusal::UnknownRun, out);
     };
-    run.apply(alloc, moment, command, out, steps);
+    run.apply(alloc, globals, moment, command, out, steps);
     Ok(())
 }

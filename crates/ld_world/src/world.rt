@@ -1,25 +1,27 @@
-//! The world of published units and their runs.
-ghost use Rattle.std.specs.Prelude.{◌≡◌, ◌≤◌, ◌++◌, ℕ, List, [], ◌∷◌, None, Some, IfErr, OnErr, OnOk};
+//! The world of published units, the store of global values, and the runs.
+ghost use Rattle.std.specs.Prelude.{◌≡◌, ◌≤◌, ◌++◌, [], ◌∷◌, None, Some, IfErr, OnErr, OnOk};
 ghost use Rattle.ld_base.specs.Roomy.{room_of, KeepsRoom};
 ghost use Rattle.ld_json.specs.Fault.{SaysFirst};
 ghost use Rattle.ld_lines.specs.LineMoment.{moment_of_line};
-ghost use Rattle.ld_run.specs.Refusals as why;
-ghost use Rattle.ld_run.specs.Replies.{refusal_text};
-ghost use Rattle.ld_state.specs.GlobalValues.{declared_by};
+ghost use Rattle.ld_lines.specs.declared.line.Line.TheVariants as line;
 ghost use Rattle.ld_value.specs.Calendar.{IsMoment};
 ghost use Rattle.ld_world.specs.Answers.{AnswersLine, line_of};
 ghost use Rattle.ld_world.specs.Published.{faults_beside};
 ghost use Rattle.ld_world.specs.World.{first_world};
 ghost use Rattle.ld_world.specs.WorldView.{world_of};
 
-use crate::publishing::check_beside;
+use crate::declaring::declare_uris;
+use crate::global_lines::{get_global, set_global};
+use crate::publishing::check_identifier;
 use crate::runs::{ask_run, make_run};
 use indexmap::IndexMap;
 use ld_base::id::Id;
 use ld_base::memory::NoMemory;
 use ld_base::steps::Steps;
 use ld_base::text::Text;
+use ld_globals::globals::Globals;
 use ld_json::fault::ReadFault;
+use ld_lines::command::RunCommand;
 use ld_lines::fault::LineFault;
 use ld_lines::line::Line;
 use ld_lines::lines::LINE_LIMIT;
@@ -29,21 +31,28 @@ use ld_rules::prepared::PreparedUnit;
 use ld_run::refusal::Refusal;
 use ld_run::run::Run;
 use ld_run::telling::{refuse, say_no_memory};
+use ld_value::moment::Moment;
 use std::alloc::Global;
 use std::marker::Model;
 use std::rc::Rc;
 use std::sync::ledger::Ledger;
 
-/// Published units, and the runs that were made of them by their names. (docs/MEANING.md, "Histories")
+/// Published units, the store of the values of their global properties, and the runs that were made
+/// of them by their names. (docs/MEANING.md, "Histories")
 pub struct World {
     units: Vec<Rc<PreparedUnit>>,
+    globals: Globals,
     runs: IndexMap<Id, Run>,
 }
 
 // By hand, so that a function which lets one go calls this and is not proved over each field anew.
 impl Drop for World {
     fn drop(self) {
-        let Self { units: _, runs: _ } = self;
+        let Self {
+            units: _,
+            globals: _,
+            runs: _,
+        } = self;
     }
 }
 
@@ -59,14 +68,15 @@ impl Model for World {
 
     ghost view = { λ s. record {
       units = map (λ unit. unit.value) s.units.items;
+      store = s.globals;
       runs = s.runs.entries;
     } };
 
-    ghost use Rattle.std.specs.List.{AllByRecursion};
-    ghost use Rattle.ld_world.specs.WorldView.{RunsShareNothing, SharesNothing};
+    ghost use Rattle.ld_world.specs.WorldView.{IsStoreOf, ServesAll, ServesRuns};
 
-    ghost invariant = { λ s. AllByRecursion SharesNothing (map (λ unit. unit.value) s.units.items)
-        × RunsShareNothing s.runs.entries };
+    ghost invariant = { λ s. IsStoreOf (map (λ unit. unit.value) s.units.items) s.globals
+        × ServesAll s.globals (map (λ unit. unit.value) s.units.items)
+        × ServesRuns s.globals s.runs.entries };
 }
 
 impl World {
@@ -76,13 +86,14 @@ impl World {
     {
         World {
             units: Vec::new(alloc),
+            globals: Globals::new(alloc),
             runs: IndexMap::new(alloc),
         }
     }
 
     /// Publishes the unit beside those that are published. It is refused where one of them has its
-    /// identifier. A refusal drops the unit and leaves the world as it was. (docs/FORMATS.md, "Order of
-    /// faults")
+    /// identifier, or declares the uri of one of its properties with other contents. A refusal drops
+    /// the unit and leaves the world as it was. (docs/FORMATS.md, "Order of faults")
     pub fn publish(&mut self, alloc: Global, unit: Checked) -> Result<(), ReadFault>
         requires first { world_of self.old ≡ first_world self.old.units }
         ensures ok { OnOk result (world_of self.new
@@ -91,10 +102,14 @@ impl World {
         ensures refused { IfErr result (SaysFirst (faults_beside self.old.units unit.unit)) }
         ensures err { OnErr result (self.new ≡ self.old) }
     {
-        check_beside(alloc, &self.units, unit.unit())?;
+        check_identifier(alloc, &self.units, unit.unit())?;
         let prepared = PreparedUnit::new(alloc, unit)?;
         let shared = Rc::new(alloc, prepared)?;
-        self.units.push(shared)?;
+        self.units.reserve(1)?;
+        declare_uris(alloc, &shared, &mut self.globals)?;
+        let Ok(_) = self.units.push(shared) else {
+            unreachable!();
+        };
         Ok(())
     }
 
@@ -169,26 +184,65 @@ impl World {
     {
         match line {
             Line::Create { moment, run, unit } => {
-                make_run(alloc, &self.units, &mut self.runs, moment, run, &unit, out)
+                self.create(alloc, moment, run, &unit, out, steps)
             }
             Line::OfRun {
                 moment,
                 run,
                 command,
-            } => ask_run(alloc, &mut self.runs, moment, &run, &command, out, steps),
-            Line::GlobalSet { .. } => self.refuse_uri(out),
-            Line::GlobalGet { .. } => self.refuse_uri(out),
+            } => self.ask(alloc, moment, &run, &command, out, steps),
+            Line::GlobalSet {
+                moment: _,
+                uri,
+                person,
+                value,
+            } => set_global(alloc, &mut self.globals, &uri, person.as_ref(), &value, out),
+            Line::GlobalGet {
+                moment: _,
+                uri,
+                person,
+            } => get_global(alloc, &self.globals, &uri, person.as_ref(), out, steps),
         }
     }
 
-    /// Says that the uri is not known: no unit declares one yet.
-    fn refuse_uri(&self, out: &mut Text) -> Result<(), NoMemory>
-        ensures text { OnOk result (out.new.bytes ≡ refusal_text why.UnknownGlobal ++ 10 ∷ []) }
-        ensures unknown { (uri : List ℕ) → declared_by self.now.units uri ≡ None }
+    /// Makes a run of the unit of this identifier under the name, or says why not.
+    fn create<L: Ledger>(
+        &mut self,
+        alloc: Global,
+        moment: Moment,
+        name: Id,
+        unit: &Id,
+        out: &mut Text,
+        steps: &mut Steps<L>,
+    ) -> Result<(), NoMemory>
+        requires { IsMoment moment.0 }
+        ensures ok { OnOk result (AnswersLine (world_of self.old)
+            (Some (line.Create moment name unit.now)) out.new.bytes (world_of self.new)) }
+        ensures err { OnErr result (self.new ≡ self.old) }
         ensures room { KeepsRoom out.old out.new }
     {
-        // The world's invariant says so of its units.
-        let _ = &self.units;
-        refuse(Refusal::UnknownGlobal, out)
+        let (units, globals, runs) = (&self.units, &self.globals, &mut self.runs);
+        make_run(alloc, units, globals, runs, moment, name, unit, out, steps)
+    }
+
+    /// Does what is asked of the run of this name, or says that there is none.
+    fn ask<L: Ledger>(
+        &mut self,
+        alloc: Global,
+        moment: Moment,
+        name: &Id,
+        command: &RunCommand,
+        out: &mut Text,
+        steps: &mut Steps<L>,
+    ) -> Result<(), NoMemory>
+        requires moment { IsMoment moment.0 }
+        requires room { 128 ≤ room_of out.old }
+        ensures ok { OnOk result (AnswersLine (world_of self.old)
+            (Some (line.OfRun moment name.now command.now)) out.new.bytes (world_of self.new)) }
+        ensures err { OnErr result (self.new ≡ self.old) }
+        ensures room { 128 ≤ room_of out.new }
+    {
+        let (globals, runs) = (&mut self.globals, &mut self.runs);
+        ask_run(alloc, globals, runs, moment, name, command, out, steps)
     }
 }

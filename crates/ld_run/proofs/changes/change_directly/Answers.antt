@@ -1,4 +1,5 @@
 use Rattle.std.proofs.Common.{◌∙◌, Some, ap, subst, sym}
+use Rattle.ld_sharing.specs.StoreView.{values_of}
 use Rattle.ld_state.specs.RunState.{with_cell}
 use Rattle.ld_state.specs.StateView.{run_of}
 use Rattle.ld_state.proofs.Written.{on_ok}
@@ -12,27 +13,32 @@ use Rattle.ld_run.proofs.changes.change_directly.Goals.{in-Gets, in-Gets-2, in-G
 use Rattle.ld_run.proofs.changes.change_directly.Goals as goal
 
 pub returns-in-Enrols-clause-run : goal.returns-in-Enrols-clause-run
-returns-in-Enrols-clause-run g c store =
+returns-in-Enrols-clause-run g c =
+    let store = values_of c.args.globals.now in
     let at = λ (command : AdmittedOf). directly_changed c.args.unit.now store (run_of c.args.state.now) c.args.moment.0 (admitted_of command) in
-    on_ok c.enrol.result (c.enrol.ensures.run store) (λ is. is ∙ ap at (sym c.in-Enrols.is))
+    on_ok c.enrol.result c.enrol.ensures.run (λ is. is ∙ ap at (sym c.in-Enrols.is))
 
 pub returns-in-Assigns-clause-run : goal.returns-in-Assigns-clause-run
-returns-in-Assigns-clause-run g c store =
+returns-in-Assigns-clause-run g c =
+    let store = values_of c.args.globals.now in
     let at = λ (command : AdmittedOf). directly_changed c.args.unit.now store (run_of c.args.state.now) c.args.moment.0 (admitted_of command) in
     on_ok c.assign.result c.assign.ensures.run (λ is. is ∙ ap at (sym c.in-Assigns.is))
 
 pub returns-in-Drops-clause-run : goal.returns-in-Drops-clause-run
-returns-in-Drops-clause-run g c store =
+returns-in-Drops-clause-run g c =
+    let store = values_of c.args.globals.now in
     let at = λ (command : AdmittedOf). directly_changed c.args.unit.now store (run_of c.args.state.now) c.args.moment.0 (admitted_of command) in
     on_ok c.drop_role.result c.drop_role.ensures.run (λ is. is ∙ ap at (sym c.in-Drops.is))
 
 pub returns-in-Starts-clause-run : goal.returns-in-Starts-clause-run
-returns-in-Starts-clause-run g c store =
+returns-in-Starts-clause-run g c =
+    let store = values_of c.args.globals.now in
     let at = λ (command : AdmittedOf). directly_changed c.args.unit.now store (run_of c.args.state.now) c.args.moment.0 (admitted_of command) in
     on_ok c.set.result c.set.ensures.run (λ is. is ∙ ap at (sym c.in-Starts.is))
 
 pub returns-in-Opens-clause-run : goal.returns-in-Opens-clause-run
-returns-in-Opens-clause-run g c store =
+returns-in-Opens-clause-run g c =
+    let store = values_of c.args.globals.now in
     let at = λ (command : AdmittedOf). directly_changed c.args.unit.now store (run_of c.args.state.now) c.args.moment.0 (admitted_of command) in
     on_ok c.open_first.result c.open_first.ensures.run (λ is. is ∙ ap at (sym c.in-Opens.is))
 
@@ -43,7 +49,8 @@ set-requires-in-Completes-clause-cell g c =
     (subst possible c.in-Completes.is c.requires.possible)
 
 pub returns-in-Completes-clause-run : goal.returns-in-Completes-clause-run
-returns-in-Completes-clause-run g c store =
+returns-in-Completes-clause-run g c =
+    let store = values_of c.args.globals.now in
     let at = λ (command : AdmittedOf). directly_changed c.args.unit.now store (run_of c.args.state.now) c.args.moment.0 (admitted_of command) in
     on_ok c.set-in-Completes.result c.set-in-Completes.ensures.run (λ is. is ∙ ap at (sym c.in-Completes.is))
 
@@ -54,7 +61,8 @@ set-requires-in-Sets-clause-cell g c =
     (subst possible c.in-Sets.is c.requires.possible).0
 
 pub returns-in-Sets-clause-run : goal.returns-in-Sets-clause-run
-returns-in-Sets-clause-run g c store =
+returns-in-Sets-clause-run g c =
+    let store = values_of c.args.globals.now in
     let s = run_of c.args.state.now in
     let at = λ (command : AdmittedOf). directly_changed c.args.unit.now store s c.args.moment.0 (admitted_of command) in
     on_ok c.set-in-Sets.result c.set-in-Sets.ensures.run (λ is.
@@ -67,12 +75,14 @@ set-requires-in-Clears-clause-cell g c =
     (subst possible c.in-Clears.is c.requires.possible)
 
 pub returns-in-Clears-clause-run : goal.returns-in-Clears-clause-run
-returns-in-Clears-clause-run g c store =
+returns-in-Clears-clause-run g c =
+    let store = values_of c.args.globals.now in
     let at = λ (command : AdmittedOf). directly_changed c.args.unit.now store (run_of c.args.state.now) c.args.moment.0 (admitted_of command) in
     on_ok c.set-in-Clears.result c.set-in-Clears.ensures.run (λ is. is ∙ ap at (sym c.in-Clears.is))
 
 pub returns-clause-run : goal.returns-clause-run
-returns-clause-run g c store =
+returns-clause-run g c =
+    let store = values_of c.args.globals.now in
     let unchanged = quiet_changes_nothing c.args.unit.now store (run_of c.args.state.now) c.args.moment.0 c.args.command.now in
     on_any c.match-command.result (elim c.match-command.branch [
       | in-Gets w ↦ unchanged w.in-Gets.is

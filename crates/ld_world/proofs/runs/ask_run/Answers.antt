@@ -1,29 +1,34 @@
 use Rattle.std.proofs.Common.{Some, sym, subst}
 use Rattle.ld_lines.specs.declared.line.Line.TheVariants as line
 use Rattle.ld_run.specs.Refusals.{UnknownRun}
-use Rattle.ld_state.specs.GlobalValues.{first_values}
-use Rattle.ld_world.specs.WorldView.{SharesNothing, world_with}
+use Rattle.ld_sharing.specs.StoreView.{Serves}
+use Rattle.ld_world.specs.WorldView.{world_with}
 use Rattle.ld_world.proofs.Answering.{asked_run, on_ok, refused_line, unknown_run}
-use Rattle.ld_world.proofs.Named.{found_shares, no_run, set_shares}
+use Rattle.ld_world.proofs.Named.{found_serves, no_run, set_serves}
+use Rattle.ld_world.proofs.Serving.{runs_alike}
 use Rattle.ld_world.proofs.runs.ask_run.Goals as goal
 
 pub returns-in_default-clause-ok : goal.returns-in_default-clause-ok
 returns-in_default-clause-ok g c = λ units.
-    let w = world_with units c.args.runs.now.entries in
+    let w = world_with units c.args.globals.now c.args.runs.now.entries in
     let none = no_run c.args.name.now c.args.runs.now.entries c.in_default.ensures.value in
     let step = unknown_run w c.args.moment c.args.name.now c.args.command.now none in
     rw c.get_mut.follows.holds-at-none (on_ok c.refuse.result c.refuse.ensures.text (refused_line w (Some (line.OfRun c.args.moment c.args.name.now c.args.command.now)) UnknownRun c.refuse.new.out.bytes step))
+
+pub apply-requires-clause-serves : goal.apply-requires-clause-serves
+apply-requires-clause-serves g c =
+    found_serves c.args.globals.now c.args.name.now c.args.runs.now.entries c.in-Some.run'.now c.requires.runs (sym c.in-Some.ensures.value)
 
 pub returns-clause-ok : goal.returns-clause-ok
 returns-clause-ok g c = λ units.
     let runs = c.args.runs.now.entries in
     let old = c.in-Some.run'.now in
     let found = sym c.in-Some.ensures.value in
-    let none = found_shares c.args.name.now runs old c.requires.runs found in
-    rw (c.get_mut.follows.holds c.apply.new.self).0 (asked_run units runs c.args.name.now old c.apply.new.self c.get_mut.ensures.unique found c.apply.ensures.unit c.args.moment c.args.command.now c.apply.new.out.bytes none (c.apply.ensures.answers (first_values units)))
+    rw (c.get_mut.follows.holds c.apply.new.self).0 (asked_run units c.args.globals.now c.apply.new.globals runs c.args.name.now old c.apply.new.self c.get_mut.ensures.unique found c.apply.ensures.unit c.args.moment c.args.command.now c.apply.new.out.bytes c.apply.ensures.answers)
 
 pub returns-clause-runs : goal.returns-clause-runs
 returns-clause-runs g c =
     let runs = c.args.runs.now.entries in
-    let none = found_shares c.args.name.now runs c.in-Some.run'.now c.requires.runs (sym c.in-Some.ensures.value) in
-    rw (c.get_mut.follows.holds c.apply.new.self).0 (set_shares c.args.name.now runs c.apply.new.self c.requires.runs (subst SharesNothing (sym c.apply.ensures.unit) none))
+    let old = c.args.globals.now in
+    let serves = found_serves old c.args.name.now runs c.in-Some.run'.now c.requires.runs (sym c.in-Some.ensures.value) in
+    rw (c.get_mut.follows.holds c.apply.new.self).0 (runs_alike old c.apply.new.globals _ c.apply.ensures.declared (set_serves old c.args.name.now runs c.apply.new.self c.requires.runs (subst (Serves old) (sym c.apply.ensures.unit) serves)))

@@ -1,7 +1,8 @@
-use Rattle.std.proofs.Common.{◌≡◌, ◌∙◌, ◌++◌, sym, ap, subst, map}
+use Rattle.std.proofs.Common.{◌≡◌, None, ◌∙◌, ◌++◌, sym, ap, subst, map}
 use Rattle.std.specs.List.{AllByRecursion, fold}
 use Rattle.ld_globals.specs.Kept.{pair_of, store_of, written_of}
-use Rattle.ld_globals.specs.Store.{Agrees, KeepsWrites, Store, declare_in, with_declared}
+use Rattle.ld_globals.specs.Store.{Agrees, KeepsWrites, Key, Store, declare_in, declared_at, last_write, with_declared}
+use Rattle.ld_globals.proofs.Fitting.{never-written}
 use Rattle.ld_globals.proofs.Keeping.{keeps-declared}
 use Rattle.ld_globals.proofs.Pairs.{written-declared}
 use Rattle.ld_globals.proofs.globals.Globals.declare.Goals as goal
@@ -27,3 +28,8 @@ returns-clause-agree c =
 
 pub returns-clause-kept : goal.returns-clause-kept
 returns-clause-kept c = subst (KeepsWrites c.args.self.now) (sym (returns-clause-ok c)) (keeps-declared c.args.self.now (map pair_of c.args.list))
+
+pub returns-clause-unwritten : goal.returns-clause-unwritten
+returns-clause-unwritten c =
+    let s = c.self.inside in
+    subst (λ st. (key : Key) → declared_at st key.uri ≡ None → last_write st key ≡ None) c.self.view_is (λ key. never-written s.declared.entries s.persons.keys s.cells.entries key c.self.invariant.0.0 c.self.invariant.2)

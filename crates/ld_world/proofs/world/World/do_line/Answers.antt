@@ -1,21 +1,35 @@
-use Rattle.std.proofs.Common.{Some}
+use Rattle.std.proofs.Common.{OnOk, Some, map, subst}
 use Rattle.ld_lines.specs.declared.line.Line.TheVariants as line
-use Rattle.ld_run.specs.Refusals.{UnknownGlobal}
-use Rattle.ld_world.specs.WorldView.{world_of}
-use Rattle.ld_world.proofs.Answering.{on_ok, refused_line, unknown_to_get, unknown_to_set}
+use Rattle.ld_world.specs.Answers.{AnswersLine}
+use Rattle.ld_world.specs.WorldView.{world_of, world_with}
+use Rattle.ld_world.proofs.Serving.{runs_alike, serves_alike, store_alike}
 use Rattle.ld_world.proofs.world.World.do_line.Goals as goal
+
+pub invariant_of-self : goal.invariant_of-self
+invariant_of-self g c =
+    let s = c.self.inside in
+    let units = map (λ unit. unit.value) s.units.items in (
+      store_alike s.globals c.set_global.new.globals units c.set_global.ensures.declared c.self.invariant.0,
+      serves_alike s.globals c.set_global.new.globals units c.set_global.ensures.declared c.self.invariant.1,
+      runs_alike s.globals c.set_global.new.globals s.runs.entries c.set_global.ensures.declared c.self.invariant.2,
+    )
 
 pub returns-in-GlobalSet-clause-ok : goal.returns-in-GlobalSet-clause-ok
 returns-in-GlobalSet-clause-ok g c =
-    let w = world_of c.args.self.now in
+    let s = c.self.inside in
+    let units = map (λ unit. unit.value) s.units.items in
     let asked = c.in-GlobalSet in
-    let step = unknown_to_set w asked.moment asked.uri asked.person asked.value (c.refuse_uri.ensures.unknown asked.uri) in
-    rw asked.is (on_ok c.refuse_uri.result c.refuse_uri.ensures.text (refused_line w (Some (line.GlobalSet asked.moment asked.uri asked.person asked.value)) UnknownGlobal c.refuse_uri.new.out.bytes step))
+    let new = world_with units c.set_global.new.globals s.runs.entries in
+    let told = c.set_global.ensures.ok units s.runs.entries asked.moment c.self.invariant.0 in
+    let mine = subst (λ person. OnOk c.set_global.result (AnswersLine (world_with units s.globals s.runs.entries) (Some (line.GlobalSet asked.moment asked.uri person asked.value)) c.set_global.new.out.bytes new)) c.as_ref.ensures.value told in
+    rw asked.is (subst (λ w. OnOk c.set_global.result (AnswersLine (world_of w) (Some (line.GlobalSet asked.moment asked.uri asked.person asked.value)) c.set_global.new.out.bytes new)) c.self.view_is mine)
 
-pub returns-clause-ok : goal.returns-clause-ok
-returns-clause-ok g c =
-    let w = world_of c.args.self.now in
+pub returns-in-GlobalGet-clause-ok : goal.returns-in-GlobalGet-clause-ok
+returns-in-GlobalGet-clause-ok g c =
+    let s = c.self-in-GlobalGet.inside in
+    let units = map (λ unit. unit.value) s.units.items in
     let asked = c.in-GlobalGet in
-    let said = c.refuse_uri-in-GlobalGet in
-    let step = unknown_to_get w asked.moment asked.uri asked.person (said.ensures.unknown asked.uri) in
-    rw asked.is (on_ok said.result said.ensures.text (refused_line w (Some (line.GlobalGet asked.moment asked.uri asked.person)) UnknownGlobal said.new.out.bytes step))
+    let same = world_with units s.globals s.runs.entries in
+    let told = c.get_global.ensures.ok units s.runs.entries asked.moment c.self-in-GlobalGet.invariant.0 in
+    let mine = subst (λ person. OnOk c.get_global.result (AnswersLine same (Some (line.GlobalGet asked.moment asked.uri person)) c.get_global.new.out.bytes same)) c.as_ref-in-GlobalGet.ensures.value told in
+    rw asked.is (subst (λ w. OnOk c.get_global.result (AnswersLine (world_of w) (Some (line.GlobalGet asked.moment asked.uri asked.person)) c.get_global.new.out.bytes (world_of w))) c.self-in-GlobalGet.view_is mine)

@@ -1,0 +1,17 @@
+use Rattle.std.proofs.Common.{◌≡◌, ◌+◌, ◌≤◌, fold, map, take}
+use Rattle.std.specs.List.{sum_by}
+use Rattle.ld_model.specs.declared.condition.Action.TheVariants.{Notify}
+use Rattle.ld_firing.specs.Actions.{do_action}
+use Rattle.ld_firing.specs.Costs.{action_cost}
+use Rattle.ld_firing.specs.Progress.{Does, progress_of}
+use Rattle.ld_state.specs.StateView.{IsStateOf, run_of}
+use Rattle.ld_firing.proofs.actor.Actor.do_notices.Given as goal
+
+abbrev pub invariant-loop-notice : goal.invariant-loop-notice
+invariant-loop-notice g l =
+    Does l.self.unit.now (progress_of l.fn.state l.fn.changed.items l.fn.fired) (progress_of l.state l.changed.items l.fired)
+    (λ doing. fold (do_action l.self.unit.now l.self.owner) doing (map Notify (take l.notice-index l.notices)))
+    × IsStateOf l.self.unit.now l.state
+    × (l.state.rows ≡ l.fn.state.rows)
+    × (l.state.kept ≡ l.fn.state.kept)
+    × (l.steps ≤ l.fn.steps + sum_by (action_cost l.self.unit.now (run_of l.fn.state) l.self.owner) (map Notify (take l.notice-index l.notices)))

@@ -1,0 +1,10 @@
+pub mod ActionCells
+pub mod Actions
+pub mod Costs
+pub mod Progress
+pub mod RunSettling
+pub mod RunSystem
+pub mod Seating
+pub mod SettledView
+pub mod SiteWalk
+pub mod Sweeping

@@ -1,0 +1,100 @@
+-- The sites of a unit's runs as a system: what the settling of a run goes by.
+use Rattle.std.specs.Prelude.{ℕ, ◌+◌, ◌*◌, ◌<◌, ◌≤◌, ◌≡◌, List, length, map, find, filter_map, Option, Some, None, Bool, true, false, is_some, nat_eq, slice_get}
+use Rattle.std.specs.Option.{option_map_or}
+use Rattle.ld_base.specs.Maybe.{◌>>=◌}
+use Rattle.ld_cascade.specs.System.{System}
+use Rattle.ld_value.specs.Datum.{Datum, truth_datum}
+use Rattle.ld_model.specs.declared.cell.CellName.{CellName}
+use Rattle.ld_model.specs.declared.cell.Owner.{Owner}
+use Rattle.ld_model.specs.declared.cell.Owner.TheVariants.{Run, Person}
+use Rattle.ld_model.specs.declared.unit.Unit.{Unit as Course}
+use Rattle.ld_names.specs.Identifiers.{all_differ}
+use Rattle.ld_names.specs.Rules.{Site, sites_of, rules_of}
+use Rattle.ld_refs.specs.Checks.{IsValid}
+use Rattle.ld_expr.specs.Lookup.{list_from}
+use Rattle.ld_roles.specs.Roster.{Persons}
+use Rattle.ld_firing.specs.Actions.{Doing, nothing_done, site_firing}
+use Rattle.ld_firing.specs.Costs.{site_cost}
+use Rattle.ld_state.specs.RunCells.{IsRunOf, all_cells, slot_of}
+use Rattle.ld_state.specs.RunState.{RunState, seen_in, cell_of}
+use Rattle.ld_rules.specs.SiteLooks.{site_looks, open_looks}
+use Rattle.ld_rules.specs.SiteTests.{site_test, site_mark}
+
+-- ---- numbers of sites
+
+abbrev pub owner_number : Owner → ℕ
+owner_number Run = 0
+owner_number (Person p) = p.0
+
+-- Each rule has as many numbers as the run has seats, so that sites stand in the order of their numbers,
+-- and keep them when a person joins.
+abbrev pub site_number : ℕ → Site → ℕ
+site_number seats site = site.rule * seats + owner_number site.owner
+
+-- The site of this number.
+abbrev pub site_at : Course → RunState → ℕ → Option Site
+site_at unit s number =
+    find (λ site. nat_eq (site_number s.seats site) number) (sites_of unit (length s.persons))
+
+-- What is said of the site of this number, or of a number that is none.
+abbrev pub of_site : {A : Type 0} → Course → RunState → ℕ → (Site → A) → A → A
+of_site unit s number said other = option_map_or said (site_at unit s number) other
+
+-- ---- slots
+
+abbrev pub slots_named : Course → RunState → List CellName → List ℕ
+slots_named unit s cells = filter_map (slot_of unit (length s.persons)) cells
+
+abbrev pub content_of : Course → RunState → ℕ → Option Datum
+content_of unit s slot = slice_get (all_cells unit (length s.persons)) slot >>= cell_of unit s
+
+-- ---- the system
+
+-- What firings leave as it is.
+pub record Enrolment : Type 0 where
+  pub seats : ℕ
+  pub persons : Persons
+
+-- No two persons have one name.
+abbrev pub HaveNamesOfTheirOwn : Persons → Type 0
+HaveNamesOfTheirOwn persons = all_differ (map (λ person. person.name) persons) ≡ true
+
+-- What is true of each state of a run: its unit is valid, no two persons have one name, there is a seat, and
+-- one for each person, and each cell has a value that it may have.
+pub record IsSoundRun (unit : Course) (s : RunState) : Type 0 where
+  pub valid : IsValid unit
+  pub names : HaveNamesOfTheirOwn s.persons
+  pub seat : 0 < s.seats
+  pub seated : length s.persons ≤ s.seats
+  pub seen : IsRunOf unit (seen_in unit s)
+
+-- The verdict that a mark holds.
+abbrev pub verdict_in : Option Datum → Option Bool
+verdict_in (Some (truth_datum b)) = Some b
+verdict_in _ = None
+
+-- What the firing of the site of this number does.
+abbrev pub firing_at : Course → RunState → ℕ → Doing
+firing_at unit s i = of_site unit s i (site_firing unit s) (nothing_done s)
+
+abbrev pub run_system : Course → System
+run_system unit = record {
+  Situation = RunState;
+  Content = Option Datum;
+  Course = Enrolment;
+  IsSound = IsSoundRun unit;
+  course = λ s. record { seats = s.seats; persons = s.persons };
+  is_site = λ s i. is_some (site_at unit s i);
+  count = λ s. length (rules_of unit) * s.seats;
+  slots = λ s. length (all_cells unit (length s.persons));
+  content = content_of unit;
+  test = λ s i. of_site unit s i (site_test unit (seen_in unit s)) false;
+  mark = λ s i. of_site unit s i (λ site. verdict_in (s.cells (site_mark site))) (Some false);
+  reads = λ s i. slots_named unit s (list_from (site_looks unit (seen_in unit s)) (site_at unit s i));
+  size = λ s i. of_site unit s i (λ site. length (open_looks unit (seen_in unit s) site)) 0;
+  after = λ s i. (firing_at unit s i).state;
+  changed = λ s i. slots_named unit s (firing_at unit s i).changes;
+  rejected = λ s i. (firing_at unit s i).rejected;
+  sent = λ s i. (firing_at unit s i).sent;
+  cost = λ s i. of_site unit s i (site_cost unit s) 0;
+}

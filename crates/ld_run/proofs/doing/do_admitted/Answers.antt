@@ -1,0 +1,148 @@
+use Rattle.std.proofs.Common.{◌∙◌, ℕ, Ok, Result, ap, ap₂, refl, subst, sym}
+use Rattle.ld_cascade.specs.Settling.{Sums}
+use Rattle.ld_roles.specs.Kept.{persons_of}
+use Rattle.ld_firing.specs.RunSystem.{IsSoundRun}
+use Rattle.ld_firing.specs.SettledView.{settlement_of}
+use Rattle.ld_state.specs.RunState.{RunState}
+use Rattle.ld_state.specs.StateView.{run_of}
+use Rattle.ld_sharing.specs.Fitting.{HasFittingGlobals}
+use Rattle.ld_sharing.specs.Globals.{giving_back}
+use Rattle.ld_sharing.specs.StoreView.{values_of}
+use Rattle.ld_run.specs.AdmittedView.{IsTellable, admitted_of}
+use Rattle.ld_run.specs.Checks.{is_started}
+use Rattle.ld_run.specs.Printing.{AreNoticesOf}
+use Rattle.ld_run.specs.Refusals.{NotOpen, Refusal}
+use Rattle.ld_run.specs.RefusalView.{refusal_of}
+use Rattle.ld_run.specs.RunStep.{DoneCommand, at_moment, settled}
+use Rattle.ld_run.proofs.FittingRuns.{changed_fits, dated_fits, taken_fits}
+use Rattle.ld_run.proofs.LawsNotices.{changed_outbox}
+use Rattle.ld_run.proofs.SoundRuns.{changed_is_sound, dated_is_sound, taken_is_sound, possible_stays, tellable_after, tellable_stays}
+use Rattle.ld_run.proofs.StepStages.{first_refused, is_done, not_open, second_refused}
+use Rattle.ld_run.proofs.doing.do_admitted.Goals as goal
+
+-- A run that is refreshed is sound, its values fit, and it has sent no notice.
+pub settle_if-requires-clause-sound : goal.settle_if-requires-clause-sound
+settle_if-requires-clause-sound g c =
+    let unit = c.args.unit.now in
+    let s = run_of c.args.state.now in
+    subst (IsSoundRun unit) (sym c.in_default.ensures.run)
+    (taken_is_sound unit (values_of c.args.globals.now) (at_moment s c.args.moment.0)
+    (dated_is_sound unit s c.args.moment.0 c.requires.sound c.requires.moment) c.in_default.ensures.takes)
+
+pub settle_if-requires-clause-fitting : goal.settle_if-requires-clause-fitting
+settle_if-requires-clause-fitting g c =
+    let unit = c.args.unit.now in
+    let s = run_of c.args.state.now in
+    subst (HasFittingGlobals unit) (sym c.in_default.ensures.run)
+    (taken_fits unit (values_of c.args.globals.now) (at_moment s c.args.moment.0)
+    (dated_fits unit s c.args.moment.0 c.requires.fitting) c.in_default.ensures.takes)
+
+pub settle_if-requires-clause-notices : goal.settle_if-requires-clause-notices
+settle_if-requires-clause-notices g c =
+    subst (AreNoticesOf c.args.unit.now) (ap (λ (s : RunState). s.outbox) (sym c.in_default.ensures.run)) c.requires.notices
+
+pub returns-in-Err-settle_if-clause-refused : goal.returns-in-Err-settle_if-clause-refused
+returns-in-Err-settle_if-clause-refused g c other =
+    let unit = c.args.unit.now in
+    let store = values_of c.args.globals.now in
+    let started = c.is_started.ensures ∙ ap is_started c.in_default.ensures.run in
+    first_refused unit store (run_of c.args.state.now) c.args.moment.0 (admitted_of c.args.command.now)
+    (refusal_of c.in-Err-settle_if.refusal)
+    (ap₂ (λ b s. settled b unit s) (sym started) (sym c.in_default.ensures.run) ∙ c.in-Err-settle_if.ensures.refused other)
+
+pub is_open_for-requires-clause-possible : goal.is_open_for-requires-clause-possible
+is_open_for-requires-clause-possible g c =
+    let same = ap persons_of (sym (c.settle_if.ensures.rows ∙ c.refresh.ensures.rows)) in
+    possible_stays c.args.unit.now (run_of c.args.state.now) (run_of c.settle_if.new.state) same
+    (admitted_of c.args.command.now) c.requires.possible
+
+pub returns-then-not-is_open_for-clause-refused : goal.returns-then-not-is_open_for-clause-refused
+returns-then-not-is_open_for-clause-refused g c other =
+    let unit = c.args.unit.now in
+    let store = values_of c.args.globals.now in
+    let started = c.is_started.ensures ∙ ap is_started c.in_default.ensures.run in
+    not_open unit store (run_of c.args.state.now) c.args.moment.0 (admitted_of c.args.command.now)
+    (settlement_of c.in-Ok.settled (run_of c.settle_if.new.state))
+    (ap₂ (λ b s. settled b unit s) (sym started) (sym c.in_default.ensures.run) ∙ c.in-Ok.ensures.settled)
+    NotOpen (c.is_open_for.ensures.closed c.if-not-is_open_for.true)
+
+pub change_directly-requires-clause-possible : goal.change_directly-requires-clause-possible
+change_directly-requires-clause-possible g c =
+    let same = ap persons_of (sym (c.settle_if.ensures.rows ∙ c.refresh.ensures.rows)) in
+    possible_stays c.args.unit.now (run_of c.args.state.now) (run_of c.settle_if.new.state) same
+    (admitted_of c.args.command.now) c.requires.possible
+
+-- The direct change leaves a sound run whose values fit, and sends no notice.
+pub settle_if-requires-2-clause-sound : goal.settle_if-requires-2-clause-sound
+settle_if-requires-2-clause-sound g c =
+    let unit = c.args.unit.now in
+    let store = values_of c.args.globals.now in
+    let command = admitted_of c.args.command.now in
+    let same = ap persons_of (sym (c.settle_if.ensures.rows ∙ c.refresh.ensures.rows)) in
+    let possible = possible_stays unit (run_of c.args.state.now) (run_of c.settle_if.new.state) same command c.requires.possible in
+    subst (IsSoundRun unit) (sym c.in_default-change_directly.ensures.run)
+    (changed_is_sound unit store (run_of c.settle_if.new.state) c.args.moment.0 command c.in-Ok.ensures.sound refl
+    c.requires.moment c.in_default-change_directly.ensures.joins possible)
+
+pub settle_if-requires-2-clause-fitting : goal.settle_if-requires-2-clause-fitting
+settle_if-requires-2-clause-fitting g c =
+    let unit = c.args.unit.now in
+    subst (HasFittingGlobals unit) (sym c.in_default-change_directly.ensures.run)
+    (changed_fits unit (values_of c.args.globals.now) (run_of c.settle_if.new.state) c.args.moment.0 (admitted_of c.args.command.now)
+    c.in-Ok.ensures.fitting c.requires.writes c.in_default-change_directly.ensures.joins)
+
+pub settle_if-requires-2-clause-notices : goal.settle_if-requires-2-clause-notices
+settle_if-requires-2-clause-notices g c =
+    let unit = c.args.unit.now in
+    let store = values_of c.args.globals.now in
+    let same = ap (λ (s : RunState). s.outbox) c.in_default-change_directly.ensures.run
+    ∙ changed_outbox unit store (run_of c.settle_if.new.state) c.args.moment.0 (admitted_of c.args.command.now) in
+    subst (AreNoticesOf unit) (sym same) c.in-Ok.ensures.notices
+
+pub returns-in-Err-settle_if-2-clause-refused : goal.returns-in-Err-settle_if-2-clause-refused
+returns-in-Err-settle_if-2-clause-refused g c other =
+    let unit = c.args.unit.now in
+    let store = values_of c.args.globals.now in
+    let started = c.is_started.ensures ∙ ap is_started c.in_default.ensures.run in
+    let changed = run_of c.change_directly.new.state in
+    second_refused unit store (run_of c.args.state.now) c.args.moment.0 (admitted_of c.args.command.now)
+    (settlement_of c.in-Ok.settled (run_of c.settle_if.new.state))
+    (ap₂ (λ b s. settled b unit s) (sym started) (sym c.in_default.ensures.run) ∙ c.in-Ok.ensures.settled)
+    (c.is_open_for.ensures.open c.if-not-is_open_for.false) changed c.in_default-change_directly.ensures.run
+    (refusal_of c.in-Err-settle_if-2.refusal)
+    (ap (λ b. settled b unit changed) (sym c.settles_after-settles.ensures) ∙ c.in-Err-settle_if-2.ensures.refused other)
+
+pub returns-in-Ok-both-clause-done : goal.returns-in-Ok-both-clause-done
+returns-in-Ok-both-clause-done g c =
+    let unit = c.args.unit.now in
+    let store = values_of c.args.globals.now in
+    let command = admitted_of c.args.command.now in
+    let started = c.is_started.ensures ∙ ap is_started c.in_default.ensures.run in
+    let changed = run_of c.change_directly.new.state in
+    let left = run_of c.settle_if-2.new.state in
+    let done : ℕ → Sums → Result DoneCommand Refusal = λ turns sums. Ok (record {
+      command = command;
+      turns = turns;
+      sums = sums;
+      state = left;
+      store = giving_back unit left store;
+    }) in
+    is_done unit store (run_of c.args.state.now) c.args.moment.0 command
+    (settlement_of c.in-Ok.settled (run_of c.settle_if.new.state))
+    (ap₂ (λ b s. settled b unit s) (sym started) (sym c.in_default.ensures.run) ∙ c.in-Ok.ensures.settled)
+    (c.is_open_for.ensures.open c.if-not-is_open_for.false) changed c.in_default-change_directly.ensures.run
+    (settlement_of c.in-Ok-settle_if.settled left)
+    (ap (λ b. settled b unit changed) (sym c.settles_after-settles.ensures) ∙ c.in-Ok-settle_if.ensures.settled)
+    ∙ ap₂ done (sym c.in-Ok-both.ensures.turns) (sym c.in-Ok-both.ensures.sums)
+
+pub returns-in-Ok-both-clause-tellable : goal.returns-in-Ok-both-clause-tellable
+returns-in-Ok-both-clause-tellable g c =
+    let unit = c.args.unit.now in
+    let store = values_of c.args.globals.now in
+    let command = admitted_of c.args.command.now in
+    let same = ap persons_of (sym (c.settle_if.ensures.rows ∙ c.refresh.ensures.rows)) in
+    let possible = possible_stays unit (run_of c.args.state.now) (run_of c.settle_if.new.state) same command c.requires.possible in
+    tellable_stays unit (run_of c.change_directly.new.state) (run_of c.settle_if-2.new.state)
+    (ap persons_of (sym c.settle_if-2.ensures.rows)) command
+    (subst (λ (s : RunState). IsTellable unit s command) (sym c.in_default-change_directly.ensures.run)
+    (tellable_after unit store (run_of c.settle_if.new.state) c.args.moment.0 command possible))

@@ -1,0 +1,21 @@
+use Rattle.std.proofs.Common.{ap}
+use Rattle.ld_state.specs.StateView.{run_of}
+use Rattle.ld_run.specs.RunStep.{settled}
+use Rattle.ld_firing.specs.SettledView.{settlement_of}
+use Rattle.ld_run.proofs.FittingRuns.{settling_fits}
+use Rattle.ld_run.proofs.NoticesTold.{settling_told}
+use Rattle.ld_run.proofs.settling.settle_if.Goals as goal
+
+pub returns-then-not-settles-clause-settled : goal.returns-then-not-settles-clause-settled
+returns-then-not-settles-clause-settled g c =
+    ap (λ b. settled b c.args.unit.now (run_of c.args.state.now)) c.if-not-settles.true
+
+pub returns-in-Ok-clause-fitting : goal.returns-in-Ok-clause-fitting
+returns-in-Ok-clause-fitting g c =
+    settling_fits c.args.unit.now (run_of c.args.state.now) (settlement_of c.in-Ok.totals (run_of c.settle.new.state))
+    c.in-Ok.ensures.settled c.requires.fitting
+
+pub returns-in-Ok-clause-notices : goal.returns-in-Ok-clause-notices
+returns-in-Ok-clause-notices g c =
+    settling_told c.args.unit.now (run_of c.args.state.now) (settlement_of c.in-Ok.totals (run_of c.settle.new.state))
+    c.requires.sound c.requires.notices c.in-Ok.ensures.settled

@@ -1,0 +1,178 @@
+//! What an admitted command does to its run.
+ghost use Rattle.std.specs.Prelude.{◌≡◌, Err, IfErr, IfOk, Ok, OnOk, false, true};
+ghost use Rattle.ld_state.specs.StateView.{HasMarkedPersons, IsStateOf, run_of};
+ghost use Rattle.ld_firing.specs.RunSystem.{IsSoundRun};
+ghost use Rattle.ld_value.specs.Calendar.{IsMoment};
+ghost use Rattle.ld_sharing.specs.Fitting.{HasFittingGlobals, TakesFitting};
+ghost use Rattle.ld_sharing.specs.Globals.{taking_in};
+ghost use Rattle.ld_sharing.specs.StoreView.{Serves, values_of};
+ghost use Rattle.ld_run.specs.AdmittedView.{HasPersonAndActivity, IsPossible, IsTellable, WritesFitting, admitted_of};
+ghost use Rattle.ld_run.specs.Printing.{AreNoticesOf, IsPrintable};
+ghost use Rattle.ld_run.specs.RefusalView.{RefusesWith, refusal_of};
+ghost use Rattle.ld_run.specs.Refusals.{NotOpen};
+ghost use Rattle.ld_run.specs.RunStep.{at_moment, done_by, is_thing_open, open_for_it};
+ghost use Rattle.ld_run.specs.StageView.{done_with};
+
+use crate::admitted::Admitted;
+use crate::changes::change_directly;
+use crate::refusal::Refusal;
+use crate::settling::{both, is_started, settle_if, settles_after};
+use ld_base::memory::NoMemory;
+use ld_base::numbers::{PersonNo, ThingNo};
+use ld_base::steps::Steps;
+use ld_cascade::settled::Settled;
+use ld_globals::globals::Globals;
+use ld_model::cell::CellName;
+use ld_names::names::Named;
+use ld_rules::prepared::PreparedUnit;
+use ld_sharing::taking::take_in;
+use ld_state::state::State;
+use ld_tree::tree::is_open;
+use ld_value::moment::Moment;
+use ld_value::value::Value;
+use std::alloc::Global;
+use std::sync::ledger::Ledger;
+
+/// Does an admitted command, and gives the turns and sums of its settlings.
+pub(crate) fn do_admitted<L: Ledger>(
+    alloc: Global,
+    unit: &PreparedUnit,
+    state: &mut State,
+    globals: &Globals,
+    moment: Moment,
+    command: &Admitted<'_>,
+    steps: &mut Steps<L>,
+) -> Result<Settled, Refusal<'static>>
+    requires own { IsStateOf unit.now state.old }
+    requires sound { IsSoundRun unit.now (run_of state.old) }
+    requires fitting { HasFittingGlobals unit.now (run_of state.old) }
+    requires serves { Serves globals.now unit.now }
+    requires notices { AreNoticesOf unit.now state.old.outbox }
+    requires moment { IsMoment moment.0 }
+    requires possible { IsPossible unit.now (run_of state.old) (admitted_of command.now) }
+    requires writes { WritesFitting unit.now (admitted_of command.now) }
+    requires persons { HasMarkedPersons state.old }
+    ensures done { IfOk result (λ totals. done_by unit.now (run_of state.old)
+        (values_of globals.now) moment.0 (admitted_of command.now)
+        ≡ Ok (done_with unit.now (values_of globals.now) (admitted_of command.now) totals
+        (run_of state.new))) }
+    ensures refused { IfErr result (RefusesWith (done_by unit.now (run_of state.old)
+        (values_of globals.now) moment.0 (admitted_of command.now))) }
+    ensures sound { OnOk result (IsSoundRun unit.now (run_of state.new)) }
+    ensures fitting { OnOk result (HasFittingGlobals unit.now (run_of state.new)) }
+    ensures notices { OnOk result (AreNoticesOf unit.now state.new.outbox) }
+    ensures printable { IfErr result (λ refusal. IsPrintable (refusal_of refusal)) }
+    ensures tellable { OnOk result
+        (IsTellable unit.now (run_of state.new) (admitted_of command.now)) }
+    ensures own { IsStateOf unit.now state.new }
+    ensures kept { state.new.kept ≡ state.old.kept }
+{
+    if let Err(_) = refresh(alloc, unit, state, globals, moment, steps) {
+        return Err(Refusal::NoMemory);
+    }
+    let first = match settle_if(alloc, is_started(unit, state, steps), unit, state, steps) {
+        Ok(settled) => settled,
+        Err(refusal) => return Err(refusal),
+    };
+    if !is_open_for(unit, state, command, steps) {
+        return Err(Refusal::NotOpen);
+    }
+    if let Err(_) = change_directly(alloc, unit, state, globals, moment, command, steps) {
+        return Err(Refusal::NoMemory);
+    }
+    let settles = settles_after(unit, state, command, steps);
+    let second = match settle_if(alloc, settles, unit, state, steps) {
+        Ok(settled) => settled,
+        Err(refusal) => return Err(refusal),
+    };
+    match both(first, second) {
+        Ok(totals) => Ok(totals),
+        Err(_) => Err(Refusal::NoMemory),
+    }
+}
+
+/// Keeps the moment as the run's last one, and takes in the store's values.
+fn refresh<L: Ledger>(
+    alloc: Global,
+    unit: &PreparedUnit,
+    state: &mut State,
+    globals: &Globals,
+    moment: Moment,
+    steps: &mut Steps<L>,
+) -> Result<(), NoMemory>
+    requires own { IsStateOf unit.now state.old }
+    requires sound { IsSoundRun unit.now (run_of state.old) }
+    requires serves { Serves globals.now unit.now }
+    requires moment { IsMoment moment.0 }
+    ensures run { OnOk result (run_of state.new
+        ≡ taking_in unit.now (values_of globals.now) (at_moment (run_of state.old) moment.0)) }
+    ensures takes { OnOk result
+        (TakesFitting unit.now (values_of globals.now) (run_of state.old).persons) }
+    ensures own { IsStateOf unit.now state.new }
+    ensures rows { state.new.rows ≡ state.old.rows }
+    ensures kept { state.new.kept ≡ state.old.kept }
+{
+    set_moment(alloc, unit, state, moment)?;
+    take_in(alloc, unit, state, globals, steps)
+}
+
+/// Keeps the moment as the run's last one.
+fn set_moment(
+    alloc: Global,
+    unit: &PreparedUnit,
+    state: &mut State,
+    moment: Moment,
+) -> Result<(), NoMemory>
+    requires own { IsStateOf unit.now state.old }
+    requires sound { IsSoundRun unit.now (run_of state.old) }
+    requires moment { IsMoment moment.0 }
+    ensures run { OnOk result (run_of state.new ≡ at_moment (run_of state.old) moment.0) }
+    ensures sound { OnOk result (IsSoundRun unit.now (run_of state.new)) }
+    ensures own { IsStateOf unit.now state.new }
+    ensures rows { state.new.rows ≡ state.old.rows }
+    ensures kept { state.new.kept ≡ state.old.kept }
+{
+    let mut changed = Vec::new(alloc);
+    state.set(CellName::Now, Some(Value::Moment(moment)), &mut changed)?;
+    Ok(())
+}
+
+/// Whether what the command opens or completes is open for its person.
+fn is_open_for<L: Ledger>(
+    unit: &PreparedUnit,
+    state: &State,
+    command: &Admitted<'_>,
+    steps: &mut Steps<L>,
+) -> bool
+    requires own { IsStateOf unit.now state.now }
+    requires sound { IsSoundRun unit.now (run_of state.now) }
+    requires possible { IsPossible unit.now (run_of state.now) (admitted_of command.now) }
+    ensures open { result ≡ true
+        → open_for_it unit.now (run_of state.now) (admitted_of command.now) ≡ Ok tt }
+    ensures closed { result ≡ false
+        → open_for_it unit.now (run_of state.now) (admitted_of command.now) ≡ Err NotOpen }
+{
+    match command {
+        Admitted::Opens(person, thing) | Admitted::Completes(person, thing) => {
+            is_thing_open(unit, state, *person, *thing, steps)
+        }
+        _ => true,
+    }
+}
+
+/// Whether the activity is open for the person.
+fn is_thing_open<L: Ledger>(
+    unit: &PreparedUnit,
+    state: &State,
+    person: PersonNo,
+    thing: ThingNo,
+    steps: &mut Steps<L>,
+) -> bool
+    requires own { IsStateOf unit.now state.now }
+    requires sound { IsSoundRun unit.now (run_of state.now) }
+    requires there { HasPersonAndActivity unit.now (run_of state.now) person.0 thing.0 }
+    ensures { result ≡ is_thing_open unit.now (run_of state.now) person.0 thing.0 }
+{
+    let id = unit.names().id(Named::Thing(thing));
+    is_open(unit.unit(), unit.names(), state, person, id, steps)
+}

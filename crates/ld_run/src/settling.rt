@@ -1,0 +1,126 @@
+//! The settlings of a command.
+ghost use Rattle.std.specs.Prelude.{◌≡◌, ◌+◌, ◌&&◌, IfErr, IfOk, Ok, OnOk, false, true};
+ghost use Rattle.ld_state.specs.StateView.{IsStateOf, run_of};
+ghost use Rattle.ld_firing.specs.RunSystem.{IsSoundRun};
+ghost use Rattle.ld_firing.specs.SettledView.{settlement_of, sums_in};
+ghost use Rattle.ld_cascade.specs.Settling.{plus};
+ghost use Rattle.ld_sharing.specs.Fitting.{HasFittingGlobals};
+ghost use Rattle.ld_run.specs.AdmittedView.{admitted_of};
+ghost use Rattle.ld_run.specs.Checks.{is_started};
+ghost use Rattle.ld_run.specs.Commands.{has_change};
+ghost use Rattle.ld_run.specs.Printing.{AreNoticesOf, IsPrintable};
+ghost use Rattle.ld_run.specs.RefusalView.{RefusesWith, refusal_of};
+ghost use Rattle.ld_run.specs.RunStep.{settled};
+
+use crate::admitted::Admitted;
+use crate::refusal::Refusal;
+use ld_base::memory::NoMemory;
+use ld_base::steps::Steps;
+use ld_cascade::settled::{Settled, Stop};
+use ld_firing::settling::settle;
+use ld_model::cell::CellName;
+use ld_model::view::View;
+use ld_rules::prepared::PreparedUnit;
+use ld_state::state::State;
+use std::alloc::Global;
+use std::sync::ledger::Ledger;
+
+/// Settles the run, where it is to.
+pub(crate) fn settle_if<L: Ledger>(
+    alloc: Global,
+    settles: bool,
+    unit: &PreparedUnit,
+    state: &mut State,
+    steps: &mut Steps<L>,
+) -> Result<Settled, Refusal<'static>>
+    requires own { IsStateOf unit.now state.old }
+    requires sound { IsSoundRun unit.now (run_of state.old) }
+    requires fitting { HasFittingGlobals unit.now (run_of state.old) }
+    requires notices { AreNoticesOf unit.now state.old.outbox }
+    ensures settled { IfOk result (λ totals. settled settles unit.now (run_of state.old)
+        ≡ Ok (settlement_of totals (run_of state.new))) }
+    ensures refused { IfErr result (RefusesWith (settled settles unit.now (run_of state.old))) }
+    ensures sound { OnOk result (IsSoundRun unit.now (run_of state.new)) }
+    ensures fitting { OnOk result (HasFittingGlobals unit.now (run_of state.new)) }
+    ensures notices { OnOk result (AreNoticesOf unit.now state.new.outbox) }
+    ensures printable { IfErr result (λ refusal. IsPrintable (refusal_of refusal)) }
+    ensures own { IsStateOf unit.now state.new }
+    ensures rows { state.new.rows ≡ state.old.rows }
+    ensures kept { state.new.kept ≡ state.old.kept }
+{
+    if !settles {
+        return Ok(NO_SETTLING);
+    }
+    match settle(alloc, unit, state, steps) {
+        Ok(totals) => Ok(totals),
+        Err(Stop::TurnBudget) => Err(Refusal::TurnBudget),
+        Err(Stop::NoMemory) => Err(Refusal::NoMemory),
+    }
+}
+
+/// The numbers of a settling of which there was none.
+const NO_SETTLING: Settled = Settled {
+    turns: 0,
+    fired: 0,
+    rejected: 0,
+    sent: 0,
+};
+
+/// Whether the run settles once the command has changed it.
+pub(crate) fn settles_after<L: Ledger>(
+    unit: &PreparedUnit,
+    state: &State,
+    command: &Admitted<'_>,
+    steps: &mut Steps<L>,
+) -> bool
+    requires { IsStateOf unit.now state.now }
+    ensures { result ≡ has_change (admitted_of command.now) && is_started (run_of state.now) }
+{
+    if !has_change(command) {
+        return false;
+    }
+    is_started(unit, state, steps)
+}
+
+/// Whether the command changes the run directly, and not by what it sets off alone.
+fn has_change(command: &Admitted<'_>) -> bool
+    ensures { result ≡ has_change (admitted_of command.now) }
+{
+    match command {
+        Admitted::Gets(_)
+        | Admitted::ShowsTree(_)
+        | Admitted::ShowsOutbox(_)
+        | Admitted::Reports
+        | Admitted::Ticks => false,
+        _ => true,
+    }
+}
+
+/// Whether the run is started.
+pub(crate) fn is_started<L: Ledger>(
+    unit: &PreparedUnit,
+    state: &State,
+    steps: &mut Steps<L>,
+) -> bool
+    requires { IsStateOf unit.now state.now }
+    ensures { result ≡ is_started (run_of state.now) }
+{
+    match state.get(CellName::Started, steps) {
+        Some(_) => true,
+        None => false,
+    }
+}
+
+/// The turns and sums of two settlings together; NoMemory where one of them passes the range of its
+/// number, for which no memory would do.
+pub(crate) fn both(first: Settled, second: Settled) -> Result<Settled, NoMemory>
+    ensures turns { IfOk result (λ sum. sum.turns ≡ first.turns + second.turns) }
+    ensures sums { IfOk result (λ sum. sums_in sum ≡ plus (sums_in first) (sums_in second)) }
+{
+    Ok(Settled {
+        turns: first.turns.checked_add(second.turns).ok_or(NoMemory)?,
+        fired: first.fired.checked_add(second.fired).ok_or(NoMemory)?,
+        rejected: first.rejected.checked_add(second.rejected).ok_or(NoMemory)?,
+        sent: first.sent.checked_add(second.sent).ok_or(NoMemory)?,
+    })
+}

@@ -1,0 +1,12 @@
+pub mod GivingFirsts
+pub mod GivingKeys
+pub mod GivingLists
+pub mod GivingStores
+pub mod GivingWrites
+pub mod InitialsFit
+pub mod LocalUris
+pub mod StoredParts
+pub mod TakingCells
+pub mod TakingKeys
+pub mod TakingLoops
+pub mod UrisDiffer

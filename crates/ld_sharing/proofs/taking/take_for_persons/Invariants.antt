@@ -1,0 +1,13 @@
+use Rattle.std.proofs.Common.{◌≡◌}
+use Rattle.ld_state.specs.StateView.{IsStateOf, run_of}
+use Rattle.ld_sharing.specs.StoreView.{values_of}
+use Rattle.ld_sharing.specs.Taken.{HasTaken, is_own_value_before}
+use Rattle.ld_sharing.proofs.taking.take_for_persons.Given as goal
+
+abbrev pub invariant-loop-number : goal.invariant-loop-number
+invariant-loop-number g l =
+    HasTaken l.unit (values_of l.globals) (is_own_value_before l.property.0 l.number) (run_of l.fn.state) (run_of l.state)
+    × IsStateOf l.unit l.state
+    × (l.state.rows ≡ l.fn.state.rows)
+    × (l.state.outbox ≡ l.fn.state.outbox)
+    × (l.state.kept ≡ l.fn.state.kept)

@@ -1,0 +1,7 @@
+pub mod Fitting
+pub mod GivenValues
+pub mod Globals
+pub mod Readable
+pub mod StoreView
+pub mod Taken
+pub mod Writes

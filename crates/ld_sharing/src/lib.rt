@@ -1,0 +1,8 @@
+//! What a run takes from the store of global values, and what it gives back.
+#![tactic(auto)]
+
+pub mod giving;
+mod reading;
+pub mod stored;
+mod taken_value;
+pub mod taking;

@@ -1,0 +1,16 @@
+-- Why a line that asks the store for something is refused.
+use Rattle.ld_globals.specs.declared.faults.GlobalFault.{GlobalFault}
+use Rattle.ld_globals.specs.declared.faults.GlobalFault.TheVariants as getting
+use Rattle.ld_globals.specs.declared.faults.SetFault.{SetFault}
+use Rattle.ld_globals.specs.declared.faults.SetFault.TheVariants as setting
+use Rattle.ld_run.specs.Refusals.{Refusal, UnknownGlobal, BadValue, NotAllowed, NoMemory}
+
+abbrev pub refusal_to_set : SetFault → Refusal
+refusal_to_set setting.UnknownGlobal = UnknownGlobal
+refusal_to_set setting.BadValue = BadValue
+refusal_to_set setting.NotAllowed = NotAllowed
+refusal_to_set setting.NoMemory = NoMemory
+
+abbrev pub refusal_to_get : GlobalFault → Refusal
+refusal_to_get getting.UnknownGlobal = UnknownGlobal
+refusal_to_get getting.NotAllowed = NotAllowed

@@ -1,0 +1,128 @@
+//! Lines that ask the store of global values for something.
+ghost use Rattle.std.specs.Prelude.{◌≡◌, ◌≢◌, ◌≤◌, ◌++◌, ◌∷◌, [], List, ℕ, Some, codes, option_copied, option_map, IfSome, OnErr, OnOk};
+ghost use Rattle.ld_base.specs.Roomy.{KeepsRoom, room_of};
+ghost use Rattle.ld_lines.specs.declared.line.Line.TheVariants as line;
+ghost use Rattle.ld_model.specs.declared.unit.Unit.{Unit as Course};
+ghost use Rattle.ld_run.specs.Replies.{printed_value, refusal_text};
+ghost use Rattle.ld_run.specs.RunView.{RunView};
+ghost use Rattle.ld_value.specs.Datum.{datum_of};
+ghost use Rattle.ld_value.specs.Values.{IsPrintable};
+ghost use Rattle.ld_value.specs.declared.moment.Moment.{Moment as MomentOf};
+ghost use Rattle.ld_world.specs.Answers.{AnswersLine};
+ghost use Rattle.ld_world.specs.GlobalFaults.{refusal_to_get, refusal_to_set};
+ghost use Rattle.ld_world.specs.WorldView.{IsStoreOf, world_with};
+
+use ld_base::id::Id;
+use ld_base::memory::NoMemory;
+use ld_base::plain_text::PlainText;
+use ld_base::steps::Steps;
+use ld_base::text::Text;
+use ld_globals::faults::{GlobalFault, SetFault};
+use ld_globals::globals::Globals;
+use ld_run::refusal::Refusal;
+use ld_run::telling::refuse;
+use ld_run::value_text::push_value;
+use ld_value::value::Value;
+use std::alloc::Global;
+use std::sync::ledger::Ledger;
+
+/// Gives the key the value of the text, or says why not. Where memory is wanting the store stays as
+/// it was.
+pub(crate) fn set_global(
+    alloc: Global,
+    globals: &mut Globals,
+    uri: &PlainText,
+    person: Option<&Id>,
+    text: &PlainText,
+    out: &mut Text,
+) -> Result<(), NoMemory>
+    requires room { 128 ≤ room_of out.old }
+    ensures ok { (units : List Course) (runs : List (List ℕ × RunView)) (moment : MomentOf)
+        → IsStoreOf units globals.old → OnOk result (AnswersLine (world_with units globals.old runs)
+        (Some (line.GlobalSet moment uri.now (option_copied person.entry) text.now))
+        out.new.bytes (world_with units globals.new runs)) }
+    ensures declared { globals.new.declared ≡ globals.old.declared }
+    ensures err { OnErr result (globals.new ≡ globals.old) }
+    ensures room { 128 ≤ room_of out.new }
+{
+    let key = Text::of(alloc, uri.as_str())?;
+    match globals.set(&key, person, text.as_str()) {
+        Ok(()) => {
+            say_set(out);
+            Ok(())
+        }
+        Err(fault) => refuse_to_set(fault, out),
+    }
+}
+
+/// Tells the value of the key, or says why not.
+pub(crate) fn get_global<L: Ledger>(
+    alloc: Global,
+    globals: &Globals,
+    uri: &PlainText,
+    person: Option<&Id>,
+    out: &mut Text,
+    steps: &mut Steps<L>,
+) -> Result<(), NoMemory>
+    ensures ok { (units : List Course) (runs : List (List ℕ × RunView)) (moment : MomentOf)
+        → IsStoreOf units globals.now → OnOk result (AnswersLine (world_with units globals.now runs)
+        (Some (line.GlobalGet moment uri.now (option_copied person.entry)))
+        out.new.bytes (world_with units globals.now runs)) }
+    ensures room { KeepsRoom out.old out.new }
+{
+    let key = Text::of(alloc, uri.as_str())?;
+    match globals.get(&key, person, steps) {
+        Ok(value) => tell_value(alloc, value, out),
+        Err(fault) => refuse_to_get(fault, out),
+    }
+}
+
+/// Says that the value was set. It takes no memory.
+fn say_set(out: &mut Text)
+    requires { 128 ≤ room_of out.old }
+    ensures text { out.new.bytes ≡ codes "ok global-set" ++ 10 ∷ [] }
+    ensures room { 128 ≤ room_of out.new }
+{
+    out.clear();
+    let Ok(()) = out.push("ok global-set\n") else {
+        unreachable!();
+    };
+}
+
+/// Tells the value.
+fn tell_value(alloc: Global, value: Option<&Value>, out: &mut Text) -> Result<(), NoMemory>
+    requires { IfSome (option_map datum_of (option_copied value)) IsPrintable }
+    ensures text { OnOk result (out.new.bytes ≡ codes "ok global-get "
+        ++ printed_value (option_map datum_of (option_copied value.entry)) ++ 10 ∷ []) }
+    ensures room { KeepsRoom out.old out.new }
+{
+    out.clear();
+    out.push("ok global-get ")?;
+    push_value(alloc, value, out)?;
+    out.push("\n")
+}
+
+/// Says why the value was not set. The only error is want of memory.
+fn refuse_to_set(fault: SetFault, out: &mut Text) -> Result<(), NoMemory>
+    ensures text { OnOk result (out.new.bytes ≡ refusal_text (refusal_to_set fault) ++ 10 ∷ []) }
+    ensures memory { OnOk result (fault ≢ SetFault.NoMemory) }
+    ensures room { KeepsRoom out.old out.new }
+{
+    match fault {
+        SetFault::UnknownGlobal => refuse(Refusal::UnknownGlobal, out),
+        SetFault::BadValue => refuse(Refusal::BadValue, out),
+        SetFault::NotAllowed => refuse(Refusal::NotAllowed, out),
+        SetFault::NoMemory => Err(NoMemory),
+    }
+}
+
+/// Says why the value is not told. The only error is want of memory.
+fn refuse_to_get(fault: GlobalFault, out: &mut Text) -> Result<(), NoMemory>
+    ensures text { OnOk result (out.new.bytes ≡ refusal_text (refusal_to_get fault) ++ 10 ∷ []) }
+    ensures room { KeepsRoom out.old out.new }
+{
+    match fault {
+        GlobalFault::UnknownGlobal => refuse(Refusal::UnknownGlobal, out),
+        GlobalFault::NotAllowed => refuse(Refusal::NotAllowed, out),
+    }
+}
