@@ -24,9 +24,8 @@ def levels():
         environments=[named("x", services=[service("w"), service("m", "monitor")], environments=["e"]),
                       room("monitor")])
     for level in "BC":
-        yield f"a monitor at level {level}", f"{ROOM} not-in-profile", folder(
-            environments=[room("monitor")], level=level)
-    yield "other services", f"{ROOM} not-in-profile", folder(
+        yield f"a monitor at level {level}", None, folder(environments=[room("monitor")], level=level)
+    yield "other services", None, folder(
         environments=[room("send-mail", "conference", "index-search")])
 
 
@@ -65,25 +64,24 @@ def with_a_property():
 
 
 def empty_lists():
-    """Empty lists are absent ones: no level is broken, and what is told is what is not built."""
+    """Empty lists are absent ones: no level is broken."""
     empty = follows(change=[], notify=[])
-    yield "an activity's empty lists", "activities.json /activities/0", {"activities": [activity(on_completion=empty)]}
-    yield "an act's empty lists", ACT, {"plays": one_act(complete=LIMIT, on_completion=empty)}
-    yield "a play's empty lists", "unit.json /method/plays/0", {"plays": [play(complete=LIMIT, on_completion=empty)]}
-    yield "the unit's empty lists", METHOD, {"method": {"complete": LIMIT, "on_completion": empty}}
+    yield "an activity's empty lists", {"activities": [activity(on_completion=empty)]}
+    yield "an act's empty lists", {"plays": one_act(complete=LIMIT, on_completion=empty)}
+    yield "a play's empty lists", {"plays": [play(complete=LIMIT, on_completion=empty)]}
+    yield "the unit's empty lists", {"method": {"complete": LIMIT, "on_completion": empty}}
 
 
 def of_level_c():
     """What is above levels A and B."""
     after = follows(notify=NOTICES)
-    yield "an activity's notice", "activities.json /activities/0/on-completion/notify", "activities.json /activities/0", {
+    yield "an activity's notice", "activities.json /activities/0/on-completion/notify", {
         "activities": [activity(on_completion=after)]}
-    yield "an act's notice", f"{ACT}/on-completion/notify", ACT, {"plays": one_act(complete=LIMIT, on_completion=after)}
-    yield "a play's notice", "unit.json /method/plays/0/on-completion/notify", "unit.json /method/plays/0", {
+    yield "an act's notice", f"{ACT}/on-completion/notify", {"plays": one_act(complete=LIMIT, on_completion=after)}
+    yield "a play's notice", "unit.json /method/plays/0/on-completion/notify", {
         "plays": [play(complete=LIMIT, on_completion=after)]}
-    yield "the unit's notice", f"{METHOD}/on-completion/notify", METHOD, {
-        "method": {"complete": LIMIT, "on_completion": after}}
-    yield "feedback and a notice", "activities.json /activities/0/on-completion/notify", "activities.json /activities/0", {
+    yield "the unit's notice", f"{METHOD}/on-completion/notify", {"method": {"complete": LIMIT, "on_completion": after}}
+    yield "feedback and a notice", "activities.json /activities/0/on-completion/notify", {
         "activities": [activity(on_completion=follows(item("f"), change=[], notify=NOTICES * 2))]}
 
 
@@ -103,17 +101,17 @@ def levels_of_more():
         yield f"{name} at level A", f"{place} above-level", folder(**given)
     for name, given in with_a_property():
         yield f"{name} at level A", "properties.json /properties/0 above-level", folder(**given)
-        yield f"{name} at level B", "properties.json /properties/0 not-in-profile", folder(level="B", **given)
-    for name, place, given in empty_lists():
-        yield f"{name} at level A", f"{place} not-in-profile", folder(**given)
-    for name, place, built, given in of_level_c():
+        yield f"{name} at level B", None, folder(level="B", **given)
+    for name, given in empty_lists():
+        yield f"{name} at level A", None, folder(**given)
+    for name, place, given in of_level_c():
         for level in "AB":
             yield f"{name} at level {level}", f"{place} above-level", folder(level=level, **given)
-        yield f"{name} at level C", f"{built} not-in-profile", folder(level="C", **given)
+        yield f"{name} at level C", None, folder(level="C", **given)
     for name, place, given in notices_of_conditions():
         yield f"{name} at level A", "conditions.json /conditions/0 above-level", folder(conditions=given)
         yield f"{name} at level B", f"{place} above-level", folder(level="B", conditions=given)
-        yield f"{name} at level C", "conditions.json /conditions/0 not-in-profile", folder(level="C", conditions=given)
+        yield f"{name} at level C", None, folder(level="C", conditions=given)
 
 
 def first_levels():
@@ -185,24 +183,23 @@ def first_completions():
     yield "the unit behind those that are completed", f"{place}/on-completion not-in-profile", folder(
         activities=[activity(**after)], plays=[play(acts=[act(complete=DONE, **after)], complete=LAST, **after)],
         method=after)
-    yield "a second activity before the first is not built", (
-        "activities.json /activities/1/on-completion not-in-profile"), folder(
+    yield "a second activity", "activities.json /activities/1/on-completion not-in-profile", folder(
         activities=[activity(complete=None), activity("x", complete=None, **after)])
     yield "before a structure", f"{place}/on-completion not-in-profile", folder(
         structures=[structure("s", "read")], method=after)
 
 
 def completed():
-    """Something follows what is completed: runs of it are not built, which is told at the object."""
+    """Something follows what is completed."""
     for name, limit in [("by time", LIMIT), ("as it can", None)]:
         after = {"on_completion": follows(item("f"))}
-        yield f"an activity, {name}", "activities.json /activities/0 not-in-profile", folder(
+        yield f"an activity, {name}", None, folder(
             activities=[activity(complete=limit or {"user-choice": True}, **after)])
-        yield f"an act, {name}", "unit.json /method/plays/0/acts/0 not-in-profile", folder(
+        yield f"an act, {name}", None, folder(
             plays=one_act(complete=limit or DONE, **after))
-        yield f"a play, {name}", "unit.json /method/plays/0 not-in-profile", folder(
+        yield f"a play, {name}", None, folder(
             plays=[play(complete=limit or LAST, **after)])
-        yield f"the unit, {name}", "unit.json /method not-in-profile", folder(
+        yield f"the unit, {name}", None, folder(
             method={"complete": limit or PLAYED, **after})
 
 

@@ -1,4 +1,4 @@
-"""Random folders of all levels: units that mostly have no fault but that no run of them is built."""
+"""Random folders of all levels: units that mostly have no fault."""
 from units import members
 
 VALUES = {
@@ -241,7 +241,7 @@ class Course:
 
 
 def plain(dice):
-    """A unit of which a run may be built: one role-part, its activity, and items."""
+    """A small unit: one role-part, its activity, and items."""
     def items():
         return [{"identifier": f"i{dice.randrange(10**9)}", "href": "x"} for _ in range(dice.choice([0, 0, 1, 2]))]
     activity = members({"identifier": "read", "items": items() or None, "complete": {"user-choice": True},

@@ -16,7 +16,6 @@ import json
 from shapes import rows
 from units import act, activity, change, condition, folder, follows, one_act, part, play, prop
 
-BUILT = "properties.json /properties/0 not-in-profile"
 DATATYPES = ["string", "text", "uri", "boolean", "integer", "datetime", "duration"]
 LITERALS = {"text": "x", "boolean": "true", "integer": "1", "datetime": "2024-01-01T00:00:00Z", "duration": "PT1H"}
 LIMIT = {"time-limit": "P1D"}
@@ -35,7 +34,7 @@ def unit(**given):
 
 def told(place, below):
     if below == "-":
-        return BUILT
+        return None
     return f"{place}{'' if below == '.' else below} bad-type"
 
 
@@ -129,7 +128,7 @@ def properties():
         for kind, more in [("glob", {"uri": "urn:x"}), ("locrole", {"role": "learner"})]:
             yield f"{name}, a second one, {kind}", told(f"{place}/1", below), folder(
                 level="B", properties=[prop("first"), {**given, "kind": kind, **more}])
-    for count, fault in [(100, BUILT), (101, f"{place}/0/restrictions/enumeration wrong-shape")]:
+    for count, fault in [(100, None), (101, f"{place}/0/restrictions/enumeration wrong-shape")]:
         yield f"{count} texts to choose from", fault, folder(level="B", properties=[
             prop("x", restrictions={"enumeration": [str(number) for number in range(count)]})])
 

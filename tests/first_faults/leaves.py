@@ -1,7 +1,6 @@
 """Leaves of tests and terms, and those that are asked for each member of a role, at their limits and one beyond."""
 from units import act, activity, change, condition, folder, follows, notice, one_act, part, play, prop
 
-BUILT = "properties.json /properties/0 not-in-profile"
 METHOD = "unit.json /method too-many"
 LIMIT = {"time-limit": "P1D"}
 READ = {"complete": "read"}
@@ -46,7 +45,7 @@ def filled(test, size, count):
 
 def numbers(limit):
     """A number of leaves and what is told of it."""
-    return [(limit, BUILT), (limit + 1, METHOD)]
+    return [(limit, None), (limit + 1, METHOD)]
 
 
 def in_tests():

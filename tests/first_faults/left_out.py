@@ -10,7 +10,6 @@ import json
 from shapes import rows
 from units import act, activity, change, condition, folder, follows, notice, one_act, part, play, prop
 
-BUILT = "properties.json /properties/0 not-in-profile"
 LIMIT = {"time-limit": "P1D"}
 READ = {"complete": "read"}
 CONDITION = "conditions.json /conditions"
@@ -24,7 +23,7 @@ def unit(**given):
 
 def told(place, fault):
     if fault == "-":
-        return BUILT
+        return None
     below, _, code = fault.partition(" ")
     return f"{place}{'' if below == '.' else below} {code or 'not-in-profile'}"
 

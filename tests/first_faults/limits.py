@@ -2,8 +2,6 @@
 from units import (act, activities, activity, condition, environments_of, folder, follows, item, items, named, one_act, part,
                    parts, play, prop, role, services, structure, structures_of)
 
-ROOM = "environments.json /environments/0 not-in-profile"
-TOP = "activities.json /structures/0 not-in-profile"
 METHOD = "unit.json /method too-many"
 DONE = {"when-role-part-completed": ["rp0"]}
 LAST = {"when-last-act-completed": True}
@@ -25,19 +23,19 @@ def roles():
     yield "60 roles", None, sixty
     yield "61 roles", "/roles/60 too-many", sixty + [role("more")]
     yield "70 roles", "/roles/60 too-many", sixty + [role(f"m{n}") for n in range(10)]
-    yield "60 roles in pairs", "/roles/1/roles/0 not-in-profile", [role("learner"), *pairs, role("last")]
+    yield "60 roles in pairs", None, [role("learner"), *pairs, role("last")]
     yield "61 roles in pairs", "/roles/31 too-many", [role("learner"), *pairs, role("last"), role("more")]
     yield "62 roles in pairs", "/roles/30/roles/0 too-many", [
         role("learner"), *pairs, role("m", roles=[named("a1"), named("a2")])]
-    yield "60 roles in one", "/roles/0/roles/0 not-in-profile", [role("learner", roles=wide)]
+    yield "60 roles in one", None, [role("learner", roles=wide)]
     yield "61 roles in one", "/roles/0/roles/59 too-many", [role("learner", roles=wide + [named("more")])]
     yield "61 roles with a late top", "/roles/1 too-many", [role("learner", roles=wide), role("more")]
-    yield "60 roles each in the last", "/roles/0/roles/0 not-in-profile", [nested_chain(59)]
+    yield "60 roles each in the last", None, [nested_chain(59)]
     yield "61 roles each in the last", "/roles/0" + "/roles/0" * 60 + " too-many", [nested_chain(60)]
 
 
 def properties():
-    yield "300 properties", "/properties/0 not-in-profile", [prop(f"n{n}") for n in range(300)]
+    yield "300 properties", None, [prop(f"n{n}") for n in range(300)]
     yield "301 properties", "/properties/300 too-many", [prop(f"n{n}") for n in range(301)]
     yield "310 properties of all kinds", "/properties/300 too-many", [
         prop(f"{kind}{n}", kind=kind) for n in range(62) for kind in ("loc", "locpers", "locrole", "glob", "globpers")]
@@ -50,14 +48,14 @@ def objects_in(*counts):
 
 
 def environments():
-    yield "400 environments", ROOM, environments_of([[]] * 400)
+    yield "400 environments", None, environments_of([[]] * 400)
     yield "401 environments", "environments.json /environments/400 too-many", environments_of([[]] * 401)
     place = "environments.json /environments"
-    yield "1,000 objects", ROOM, objects_in((1000, 0))
+    yield "1,000 objects", None, objects_in((1000, 0))
     yield "1,001 objects", f"{place}/0/learning-objects/1000 too-many", objects_in((1001, 0))
-    yield "1,000 services", ROOM, objects_in((0, 1000))
+    yield "1,000 services", None, objects_in((0, 1000))
     yield "1,001 services", f"{place}/0/services/1000 too-many", objects_in((0, 1001))
-    yield "1,000 of both", ROOM, objects_in((250, 250), (250, 250))
+    yield "1,000 of both", None, objects_in((250, 250), (250, 250))
     yield "objects and a service beyond", f"{place}/0/services/0 too-many", objects_in((1000, 1))
     yield "both and an object beyond", f"{place}/2/learning-objects/0 too-many", objects_in(
         (400, 100), (100, 400), (1, 1))
@@ -83,7 +81,7 @@ def spread(extra):
 
 
 def every_item():
-    yield "4,000 items of every kind", ROOM, spread("")
+    yield "4,000 items of every kind", None, spread("")
     for name in ["object", "feedback", "unit objectives", "act", "play", "unit"]:
         # The last list in document order is the unit's feedback.
         yield f"4,001 items, one more of {name}", (
@@ -107,7 +105,7 @@ def activities_and_structures():
     yield "400 activities", None, folder(activities=[activity(), *activities("x", 399)])
     yield "401 activities", "activities.json /activities/400 too-many", folder(
         activities=[activity(), *activities("x", 400)])
-    yield "400 of both", TOP, folder(structures=structures_of([[]] * 399))
+    yield "400 of both", None, folder(structures=structures_of([[]] * 399))
     yield "a structure beyond", "activities.json /structures/399 too-many", folder(structures=structures_of([[]] * 400))
     yield "one structure beyond", "activities.json /structures/0 too-many", folder(
         activities=[activity(), *activities("x", 399)], structures=[structure("s", "read")])
@@ -121,29 +119,27 @@ def acts(count, last):
 def rules():
     """The activities, the structures, for each act its opening, its role-parts and its completion, for each
     play and the unit its completion: at most 600."""
-    second = "unit.json /method/plays/0/acts/0/role-parts/1 not-in-profile"
-    yield "598 role-parts", second, folder(plays=one_act(parts("rp", 598)))
+    yield "598 role-parts", None, folder(plays=one_act(parts("rp", 598)))
     yield "599 role-parts", METHOD, folder(plays=one_act(parts("rp", 599)))
     whole = {"activities": [activity(), *activities("x", 399)]}
-    yield "199 role-parts of 400 activities", second, folder(plays=one_act(parts("rp", 199)), **whole)
+    yield "199 role-parts of 400 activities", None, folder(plays=one_act(parts("rp", 199)), **whole)
     yield "200 role-parts of 400 activities", METHOD, folder(plays=one_act(parts("rp", 200)), **whole)
     tops = {"structures": structures_of([[]] * 399)}
-    yield "199 role-parts of 399 structures", TOP, folder(plays=one_act(parts("rp", 199)), **tops)
+    yield "199 role-parts of 399 structures", None, folder(plays=one_act(parts("rp", 199)), **tops)
     yield "200 role-parts of 399 structures", METHOD, folder(plays=one_act(parts("rp", 200)), **tops)
-    for count, fault in [(595, second), (596, METHOD)]:
+    for count, fault in [(595, None), (596, METHOD)]:
         yield f"{count} role-parts and all completions", fault, folder(
             plays=[play(acts=[act(role_parts=parts("rp", count), complete=DONE)], complete=LAST)],
             method={"complete": PLAYED})
-    yield "299 acts with 300 role-parts", "unit.json /method/plays/0/acts/1 not-in-profile", folder(
-        plays=[play(acts=acts(299, 2))])
+    yield "299 acts with 300 role-parts", None, folder(plays=[play(acts=acts(299, 2))])
     yield "299 acts with 301 role-parts", METHOD, folder(plays=[play(acts=acts(299, 3))])
     yield "300 acts with 300 role-parts", METHOD, folder(plays=[play(acts=acts(300, 1))])
     plays = [play(f"p{n}", [act(f"a{n}", [part(f"rp{n}")])], complete=LAST) for n in range(200)]
-    yield "199 completed plays", "unit.json /method/plays/0/complete not-in-profile", folder(plays=plays[:199])
+    yield "199 completed plays", None, folder(plays=plays[:199])
     yield "200 completed plays", METHOD, folder(plays=plays)
-    yield "199 completed plays in a completed unit", "unit.json /method/plays/0/complete not-in-profile", folder(
+    yield "199 completed plays in a completed unit", None, folder(
         plays=plays[:199], method={"complete": {"time-limit": "PT1S"}})
-    yield "199 completed plays and two more activities", "unit.json /method/plays/0/complete not-in-profile", folder(
+    yield "199 completed plays and two more activities", None, folder(
         plays=plays[:199], activities=[activity(), *activities("x", 2)])
     yield "199 completed plays and three more activities", METHOD, folder(
         plays=plays[:199], activities=[activity(), *activities("x", 3)])
@@ -152,20 +148,17 @@ def rules():
 
 def rules_with_conditions():
     """The least unit has three rules: the activity, the act's opening and its role-part."""
-    first = "conditions.json /conditions/0 not-in-profile"
-    for count, fault in [(597, first), (598, METHOD)]:
+    for count, fault in [(597, None), (598, METHOD)]:
         shown = {"conditions": [condition({"complete": "read"})] * count, "level": "B"}
         yield f"{count} conditions", fault, folder(**shown)
         yield f"{count} conditions with two branches", fault, folder(level="B", conditions=[
             condition({"complete": "read"}, {"show": ["read"]}, {"hide": ["read"]}, **{"else": [{"show": ["read"]}] * 3})
         ] * count)
-        yield f"{count - 1} conditions and an act that is completed", fault.replace(
-            "conditions.json /conditions/0", "unit.json /method/plays/0/acts/0/complete"), folder(
+        yield f"{count - 1} conditions and an act that is completed", fault, folder(
             plays=one_act(complete={"time-limit": "P1D"}), level="B", conditions=shown["conditions"][1:])
     half = [condition({"complete": "read"})] * 200
-    second = "unit.json /method/plays/0/acts/0/role-parts/1 not-in-profile"
-    yield "199 role-parts, 198 activities and 200 conditions", second, (
-        folder(activities=[activity(), *activities("x", 197)], plays=one_act(parts("rp", 199)), conditions=half, level="B"))
+    yield "199 role-parts, 198 activities and 200 conditions", None, folder(
+        activities=[activity(), *activities("x", 197)], plays=one_act(parts("rp", 199)), conditions=half, level="B")
     yield "199 role-parts, 201 activities and 200 conditions", METHOD, folder(
         activities=[activity(), *activities("x", 200)], plays=one_act(parts("rp", 199)), conditions=half, level="B")
 
@@ -174,7 +167,7 @@ def cases():
     for name, fault, given in roles():
         yield name, fault and f"roles.json {fault}", folder(roles=given)
     for name, fault, given in properties():
-        yield name, f"properties.json {fault}", folder(properties=given, level="B")
+        yield name, fault and f"properties.json {fault}", folder(properties=given, level="B")
     for name, fault, given in environments():
         yield name, fault, folder(environments=given)
     yield from every_item()

@@ -168,7 +168,7 @@ def places_of_conditions():
     place = "conditions.json /conditions"
     yield "the first branch before the other", f"{place}/0/then/0/show/1", folder(
         conditions=[condition({"complete": "read"}, {"show": twice}, **{"else": [{"hide": twice}]})])
-    yield "one reference in both branches", f"{place}/0 not-in-profile", folder(
+    yield "one reference in both branches", None, folder(
         conditions=[condition({"complete": "read"}, **{"else": [{"hide": ["read"]}, {"show": ["read"]}]})], level="B")
     yield "an earlier condition before a later one", f"{place}/1/else/0/hide/1", folder(conditions=[
         condition({"complete": "read"}), condition({"complete": "read"}, **{"else": [{"hide": twice}]}),
@@ -184,7 +184,7 @@ def places_of_conditions():
 
 
 def places():
-    """Which of two repetitions is first."""
+    """Which of two repetitions is first, and what is none."""
     twice = ["x", "x"]
     yield "an environment before its list", "environments.json /environments/0", folder(
         environments=[named("learner", environments=twice), named("x")])
@@ -203,7 +203,7 @@ def places():
         environments=ROOM, structures=[structure("s", "read", "read", environments=twice)])
     yield "role-parts before what completes the act", f"{ACT}/role-parts/1", folder(
         plays=one_act([part(), part()], complete={"when-role-part-completed": ["rp", "rp"]}))
-    yield "one reference in two lists", "environments.json /environments/0 not-in-profile", folder(
+    yield "one reference in two lists", None, folder(
         environments=ROOM, activities=of_activity(environments=["x", "y"]),
         structures=[structure("s", "read", environments=["y", "x"])])
 
@@ -220,4 +220,4 @@ def cases():
     for name, place, given in properties():
         yield name, f"{place} repeated-id", folder(**given)
     for name, place, documents in [*lists(), *lists_of_conditions(), *places(), *places_of_conditions()]:
-        yield name, place if place.endswith("profile") else f"{place} repeated-id", documents
+        yield name, place and f"{place} repeated-id", documents

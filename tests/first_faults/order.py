@@ -1,6 +1,6 @@
 """The order of the steps and of the checks: an earlier one is told though it stands later."""
 from units import (act, activities, activity, change, condition, environments_of, folder, follows, item, items, named,
-                   notice, one_act, part, parts, play, prop, role, service, sized, structure, structures_of)
+                   notice, one_act, part, parts, play, prop, role, service, sized, structures_of)
 
 BIG = b" " * 4_194_305
 NOT_JSON = b"{"
@@ -93,8 +93,6 @@ def checks():
         environments=[named("e", environments=["none"])], plays=[play("u")])
     yield "lists before references", f"{METHOD}/complete/when-play-completed/1 repeated-id", folder(
         environments=[named("e", environments=["none"])], method={"complete": {"when-play-completed": ["p", "p"]}})
-    yield "identifiers before what is not built", f"{METHOD}/plays/0 repeated-id", folder(
-        roles=[role("learner", max_persons=1)], plays=[play("u")])
     yield "references before cycles", f"{METHOD}{ACT}/role-parts/0/role unknown-ref", folder(
         environments=ring, plays=one_act(unknown))
     yield "kinds before cycles", f"{METHOD}/complete/when-play-completed/0 wrong-kind-of-ref", folder(
@@ -115,8 +113,6 @@ def checks():
     yield "completions before limits", f"{METHOD}/on-completion not-in-profile", folder(roles=sixty_one, method=AFTER)
     yield "completions before sizes", f"{METHOD}/on-completion not-in-profile", folder(
         environments=sized("big", 30_000), plays=one_act([part(ref="big")]), method=AFTER)
-    yield "completions before what is not built", f"{METHOD}/on-completion not-in-profile", folder(
-        roles=[role("learner", max_persons=1)], method=AFTER)
 
 
 URIS = [prop("n", kind="glob", uri="urn:x"), prop("m", kind="glob", uri="urn:x")]
@@ -176,16 +172,9 @@ def later_checks_of_more(place):
         level="B", conditions=[SHOWN] * 599 + [MISTYPED])
     yield "types before sizes", f"{place}/0/if bad-type", folder(
         environments=sized("big", 30_000), plays=one_act([part(ref="big")]), level="B", conditions=[MISTYPED])
-    yield "types before what is not built", f"{place}/0/if bad-type", folder(
-        roles=[role("learner", max_persons=1)], level="B", conditions=[MISTYPED])
     yield "leaves before sizes", f"{METHOD} too-many", folder(
         environments=sized("big", 30_000), plays=one_act([part(ref="big")]), level="B",
         conditions=[condition({"or": [{"complete": "read"}] * 4_001})])
-    yield "many rules before what is not built", f"{METHOD} too-many", folder(
-        roles=[role("learner", max_persons=1)], level="B", conditions=[SHOWN] * 598)
-    yield "sizes before conditions that are not built", f"{METHOD}{ACT}/role-parts/0 too-big", folder(
-        properties=[prop("n")], environments=sized("big", 30_000), plays=one_act([part(ref="big")]), level="B",
-        conditions=[SHOWN])
 
 
 def later_checks():
@@ -194,13 +183,6 @@ def later_checks():
         activities=[activity(items=items("i", 4000))], plays=one_act([part(ref="big")]),
         method={"complete": {"when-play-completed": ["p"]}, **AFTER}, **huge)
     yield "rules before sizes", f"{METHOD} too-many", folder(plays=one_act(parts("rp", 599, ref="big")), **huge)
-    yield "limits before what is not built", "activities.json /activities/400 too-many", folder(
-        roles=[role("learner", max_persons=1)], activities=[activity(), *activities("x", 400)])
-    yield "sizes before what is not built", f"{METHOD}{ACT}/role-parts/0 too-big", folder(
-        structures=[structure("s", "read")], plays=one_act([part(ref="big")]), **huge)
-    yield "the unit's size before what is not built", f"{METHOD} too-big", folder(
-        roles=[role("learner", max_persons=1)], environments=sized("big", 19_999),
-        plays=one_act(parts("rp", 11, ref="big")))
 
 
 def limits():

@@ -11,6 +11,7 @@ import json
 import pathlib
 import sys
 
+from reference_beside import faults_beside
 from reference_checks import check_faults
 from reference_json import read_json
 from reference_parts import FILES, parts_of
@@ -69,15 +70,23 @@ def first_fault(folder):
     return " ".join(found[0][1]) if found else None
 
 
+def first_beside(before, folder):
+    """The same of a folder that is read behind others, none of which has a fault."""
+    assert all(first_fault(each) is None for each in before)
+    return first_fault(folder) or next(faults_beside(before, folder), None)
+
+
 def of_folder(path):
     return {name: (path / name).read_bytes() for name in FILES if (path / name).is_file()}
 
 
 def compare(word):
+    import beside
     from tables import all_cases
     passed = failed = 0
-    for name, fault, folder in all_cases(word):
-        told = first_fault(folder)
+    told_of = [(name, fault, first_fault(folder)) for name, fault, folder in all_cases(word)]
+    told_of += [(name, fault, first_beside(before, folder)) for name, fault, [*before, folder] in beside.cases(word)]
+    for name, fault, told in told_of:
         if told == fault:
             passed += 1
         else:

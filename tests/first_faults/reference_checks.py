@@ -143,25 +143,6 @@ def too_many(parts):
             yield "unit.json", "/method", "too-many"
 
 
-def built(part):
-    """Whether a run is built of the part."""
-    value = part.value
-    if part.what in ("activity", "item", "play") and not value.get("visible", True):
-        return False
-    if part.what in ("activity", "act", "play", "method") and "on-completion" in value:
-        return False
-    if part.what == "role":
-        return part.more["depth"] == 0 and value.get("min-persons", 0) == 0 and "max-persons" not in value and (
-            value.get("match-persons") != "exclusively-in-roles")
-    if part.what == "activity":
-        return value.get("kind") != "support" and value.get("complete") == {"user-choice": True}
-    if part.what in ("play", "act", "role-part"):
-        return part.more["number"] == 0
-    if part.what == "complete":
-        return part.more["of"] == "activity"
-    return part.what not in ("property", "environment", "structure", "condition")
-
-
 def check_faults(parts):
     """The names and faults of all checks, in order; sizes are asked where nothing before is wrong."""
     things = things_of(parts)
@@ -174,4 +155,4 @@ def check_faults(parts):
     found = [(name, each) for name, faults in checks for each in faults]
     if not found:
         found += [("sizes", each) for each in size_faults(parts, things)]
-    return found + [("what runs", fault(part, "not-in-profile")) for part in parts if not built(part)]
+    return found

@@ -57,11 +57,11 @@ class Walk:
 
     # ---- roles, properties, environments
 
-    def roles(self, owner, at, depth=0):
+    def roles(self, owner, at):
         for number, role in enumerate(owner.get("roles", [])):
             place = f"{at}/roles/{number}"
-            yield self.part("role", place, role, depth=depth)
-            yield from self.roles(role, place, depth + 1)
+            yield self.part("role", place, role)
+            yield from self.roles(role, place)
 
     def properties(self, document):
         for number, each in enumerate(document.get("properties", [])):
@@ -209,20 +209,20 @@ class Walk:
         method = unit["method"]
         yield self.part("method", "/method", method)
         for number, play in enumerate(method["plays"]):
-            yield from self.play(play, f"/method/plays/{number}", number)
+            yield from self.play(play, f"/method/plays/{number}")
         yield from self.completed(method, "/method", "unit")
 
-    def play(self, play, at, number):
-        yield self.part("play", at, play, number=number)
-        for inner, act in enumerate(play["acts"]):
-            yield from self.act(act, f"{at}/acts/{inner}", inner)
+    def play(self, play, at):
+        yield self.part("play", at, play)
+        for number, act in enumerate(play["acts"]):
+            yield from self.act(act, f"{at}/acts/{number}")
         yield from self.completed(play, at, "play")
 
-    def act(self, act, at, number):
-        yield self.part("act", at, act, number=number)
-        for inner, part in enumerate(act["role-parts"]):
-            place = f"{at}/role-parts/{inner}"
-            yield self.part("role-part", place, part, number=inner)
+    def act(self, act, at):
+        yield self.part("act", at, act)
+        for number, part in enumerate(act["role-parts"]):
+            place = f"{at}/role-parts/{number}"
+            yield self.part("role-part", place, part)
             yield from self.reference(f"{place}/role", part["role"], "role")
             yield from self.reference(f"{place}/ref", part["ref"], "activity", "structure", "environment")
         yield from self.completed(act, at, "act")

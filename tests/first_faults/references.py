@@ -117,10 +117,7 @@ def matrix():
     documents = whole()
     for place, allowed in ALLOWED.items():
         for kind, target in THINGS.items():
-            # What is in order meets what is not built: an inner role, the first of all.
-            fault = f"{place} wrong-kind-of-ref"
-            if LIKE.get(kind, kind) in allowed:
-                fault = "roles.json /roles/1/roles/0 not-in-profile"
+            fault = None if LIKE.get(kind, kind) in allowed else f"{place} wrong-kind-of-ref"
             yield f"{kind} at {place}", fault, with_target(documents, place, target)
         for target in ["none", "Tutor", "rp22", "e"]:
             yield f"{target} at {place}", f"{place} unknown-ref", with_target(documents, place, target)

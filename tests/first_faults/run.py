@@ -5,35 +5,47 @@
 
 A case is a name, the fault that is told (`FILE PLACE CODE`, or None where the unit is good) and the
 documents of a folder. The faults in the tables are taken from docs/FORMATS.md, not from the program. Each
-case is also compared with the second reading (reference.py). With a WORD, only the cases whose names have it are run;
-without one, random folders are run, too (random_folders.py).
+case is also compared with the second reading (reference.py). Of several folders (beside.py) the last alone has a fault. With
+a WORD, only the cases whose names have it are run; without one, random folders are run, too (random_folders.py).
 """
 import sys
 
+import beside
 import random_folders
 from judging import judge
-from reference import bytes_of, first_fault
+from reference import bytes_of, first_beside
 from tables import all_cases
 
 # Folders of more bytes are left out of the comparison with the second reading, which takes seconds for them.
 LARGE = 500_000
 
 
-def second(files, fault):
+def second(before, documents, files, fault):
     """What the second reading has in place of the fault, or None."""
     if sum(map(len, files.values())) > LARGE:
         return None
-    found = first_fault(files)
+    found = first_beside(before, documents)
     return None if found == fault else f"the second reading has {found} in place of {fault}"
+
+
+def bytes_in(documents):
+    return {file: bytes_of(document) for file, document in documents.items()}
+
+
+def every_case(word):
+    """The name, the fault of the last folder, and the folders of each case."""
+    for name, fault, documents in all_cases(word):
+        yield name, fault, [documents]
+    yield from beside.cases(word)
 
 
 def main():
     program = sys.argv[1]
     word = sys.argv[2] if len(sys.argv) > 2 else ""
     passed = failed = 0
-    for name, fault, documents in all_cases(word):
-        files = {file: bytes_of(document) for file, document in documents.items()}
-        wrong = judge(program, fault, files) or second(files, fault)
+    for name, fault, folders in every_case(word):
+        files = [bytes_in(documents) for documents in folders]
+        wrong = judge(program, fault, *files) or second(folders[:-1], folders[-1], files[-1], fault)
         if wrong is None:
             passed += 1
         else:

@@ -2,8 +2,6 @@
 from units import (act, activities, activity, environments_of, folder, follows, item, items, named, one_act, part,
                    parts, play, service, services, sized, structure)
 
-ROOM = "environments.json /environments/0 not-in-profile"
-TOP = "activities.json /structures/0 not-in-profile"
 PART = "unit.json /method/plays/0/acts/0/role-parts/0 too-big"
 UNIT = "unit.json /method too-big"
 DONE = {"when-role-part-completed": ["rp0"]}
@@ -83,18 +81,18 @@ def structure_parts():
 def ends():
     """Each at the limit and one beyond."""
     for name, rest, make in [*environment_parts(), *activity_parts(), *structure_parts()]:
-        yield f"{name} of 20,000", ROOM, make(20_000 - rest)
+        yield f"{name} of 20,000", None, make(20_000 - rest)
         yield f"{name} of 20,001", PART, make(20_001 - rest)
 
 
 def twice():
     """An environment that a role-part reaches by several ways counts as often."""
-    for size, fault in [(9_998, ROOM), (9_999, PART)]:
+    for size, fault in [(9_998, None), (9_999, PART)]:
         # The role-part, the structure, the activity and its item, and twice the environment.
         yield f"twice an environment of {size}", fault, reaching(
             "s", sized("big", size), structures=[structure("s", "read", environments=["big"])],
             activities=[activity(environments=["big"], items=[item("i")])])
-    for size, fault in [(6_665, ROOM), (6_666, PART)]:
+    for size, fault in [(6_665, None), (6_666, PART)]:
         # The role-part, `top` and its service, the two that lead to the third, and thrice the third.
         yield f"thrice an environment of {size}", fault, reaching("top", [
             named("top", environments=["left", "big", "right"], services=services("v", 1)),
@@ -112,8 +110,8 @@ def which():
         environments=huge, plays=[play(acts=[act("b", [small]), act("c", [big])])])
     yield "a later play", f"{place}/1/acts/0/role-parts/0 too-big", folder(
         environments=huge, plays=[play(), play("q", [act("c", [big])])])
-    yield "no role-part", ROOM, folder(environments=sized("big", 1_000_000))
-    yield "an activity in no role-part", ROOM, folder(
+    yield "no role-part", None, folder(environments=sized("big", 1_000_000))
+    yield "an activity in no role-part", None, folder(
         environments=sized("big", 1_000_000), activities=[activity(), activity("x", environments=["big"])])
     yield "a role-part before the unit", f"{place}/0/acts/0/role-parts/11 too-big", folder(
         environments=sized("big", 19_999) + sized("more", 20_000),
@@ -135,16 +133,16 @@ def whole(last, fed=(), **given):
 def units():
     for name, rest in [("role-parts", 0), ("act", 1), ("play", 2), ("unit", 3), ("act play unit", 6)]:
         fed = name.split() if rest else ()
-        yield f"a unit of 200,000 with {name}", ROOM, whole(20_000 - rest, fed)
+        yield f"a unit of 200,000 with {name}", None, whole(20_000 - rest, fed)
         beyond = 20_001 - rest
         if beyond <= 20_000:
             yield f"a unit of 200,001 with {name}", UNIT, whole(beyond, fed)
-    yield "objectives of the unit", ROOM, whole(
+    yield "objectives of the unit", None, whole(
         20_000, learning_objectives=items("o", 50), prerequisites=items("q", 50))
     over = parts("rp", 10, ref="big") + [part("small")]
     yield "eleven role-parts", UNIT, folder(environments=sized("big", 19_999), plays=one_act(over))
     spread_out = [play(f"p{n}", [act(f"a{n}", [part(f"rp{n}", ref="big")])]) for n in range(11)]
-    yield "ten plays", ROOM, folder(environments=sized("big", 19_999), plays=spread_out[:10])
+    yield "ten plays", None, folder(environments=sized("big", 19_999), plays=spread_out[:10])
     yield "eleven plays", UNIT, folder(environments=sized("big", 19_999), plays=spread_out)
     many_acts = [play(acts=[act(f"a{n}", [part(f"rp{n}", ref="big")]) for n in range(11)])]
     yield "eleven acts", UNIT, folder(environments=sized("big", 19_999), plays=many_acts)
@@ -174,7 +172,7 @@ def quick():
             for n, leads in enumerate(deep)]
     yield "structures over environments", PART, reaching("s0", rooms, structures=tops)
     yield "many role-parts", PART, folder(environments=rooms, plays=one_act(parts("rp", 500, ref="e0")))
-    yield "a chain of all structures", TOP, reaching("s0", None, structures=[
+    yield "a chain of all structures", None, reaching("s0", None, structures=[
         structure(f"s{n}", f"s{n + 1}" if n < 398 else "read") for n in range(399)])
 
 

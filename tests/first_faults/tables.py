@@ -1,6 +1,6 @@
 """All tables of first faults, and their cases."""
+import accepted
 import bounds
-import built
 import cycles
 import datatypes
 import good
@@ -18,7 +18,7 @@ import uris
 
 
 TABLES = [good, order, names, uris, references, cycles, bounds, left_out, datatypes, limits, leaves, sizes,
-           built, shapes, parts, texts]
+           accepted, shapes, parts, texts]
 
 
 def all_cases(word=""):

@@ -2,7 +2,6 @@
 from units import folder, prop
 
 SECOND = "properties.json /properties/1 repeated-uri"
-BUILT = "properties.json /properties/0 not-in-profile"
 
 
 def uris():
@@ -19,10 +18,10 @@ def uris():
         prop("first", kind="glob", uri="urn:x"), prop("n", kind="glob", uri="urn:y"),
         prop("m", kind="glob", uri="urn:y"), prop("o", kind="glob", uri="urn:x")]
     yield "of two levels", SECOND, [prop("n", kind="glob", uri="u"), prop("m", kind="glob", uri="u")]
-    yield "differing in their case", BUILT, [prop("n", kind="glob", uri="urn:x"), prop("m", kind="glob", uri="urn:X")]
-    yield "one that begins with the other", BUILT, [
+    yield "differing in their case", None, [prop("n", kind="glob", uri="urn:x"), prop("m", kind="glob", uri="urn:X")]
+    yield "one that begins with the other", None, [
         prop("n", kind="glob", uri="urn:x"), prop("m", kind="glob", uri="urn:x/")]
-    yield "as an identifier", BUILT, [prop("n", kind="glob", uri="n"), prop("m", kind="glob", uri="u")]
+    yield "as an identifier", None, [prop("n", kind="glob", uri="n"), prop("m", kind="glob", uri="u")]
 
 
 def cases():
