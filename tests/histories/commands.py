@@ -1,7 +1,8 @@
 """The lines of an input and the command of each, after docs/COMMANDS.md."""
-import datetime
 import json
 import re
+
+from values import URI, moment_of
 
 LONGEST_LINE = 65_536
 
@@ -26,8 +27,6 @@ WORDS = {
 }
 
 IDENTIFIER = re.compile("[A-Za-z_][A-Za-z0-9_.-]{0,63}")
-URI = re.compile("[!-~]{1,4096}")
-MOMENT = re.compile("([0-9]{4})-([0-9]{2})-([0-9]{2})T([0-9]{2}):([0-9]{2}):([0-9]{2})Z")
 
 
 def lines_of(data):
@@ -58,27 +57,6 @@ def has_form(name, text):
     if name == "value" or name == "owner" and text == "":
         return True
     return is_identifier(text)
-
-
-def moment_of(text):
-    """A moment is 86,400 times the number of its day plus the second of the day; None where it is none."""
-    match = MOMENT.fullmatch(text)
-    if match is None:
-        return None
-    year, month, day, hour, minute, second = [int(digits) for digits in match.groups()]
-    if hour > 23 or minute > 59 or second > 59:
-        return None
-    try:
-        number = datetime.date(year, month, day).toordinal() - datetime.date(1970, 1, 1).toordinal()
-    except ValueError:
-        return None
-    return 86_400 * number + 3_600 * hour + 60 * minute + second
-
-
-def text_of_moment(number):
-    """The text of a moment, by its number."""
-    moment = datetime.datetime(1970, 1, 1) + datetime.timedelta(seconds=number)
-    return f"{moment.year:04}-{moment:%m-%dT%H:%M:%S}Z"
 
 
 def is_unicode(text):

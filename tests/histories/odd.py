@@ -3,8 +3,8 @@ import json
 
 # Words that are no identifiers, or no verbs.
 WORDS = [
-    "", "1a", "-a", ".a", "a b", " a", "a ", "a\n", "a\0", "é", "aé", "ａ", "٣", "a٣", "a/b", "a:b", "a*", "a" * 65,
-    "\ud800", "\x7f", "a\u200b", "9", "😀",
+    "", "1a", "-a", ".a", "a b", " a", "a ", "a\n", "a\0", "é", "aé", "ａ", "٣", "a٣", "a/b", "a:b", "a*",
+    "a" * 65, "\ud800", "\x7f", "a\u200b", "9", "😀",
 ]
 VERBS = ["finish", "Create", "START", "tree ", " tree", "creat", "enroll", "complete\n", "ok", "ｔree"]
 

@@ -21,15 +21,20 @@ import time
 
 import courses
 from commands import lines_of
+from counts import Counts
 from lines import History
-from model import answer
+from model import refused_of
+from moments import BEGINNINGS
 
 SEED = 1
 COUNT = 500
 LONGEST = 60
 SHOWN = 300
-# How often folders have a fault, so that none is published.
-FAULTY = 0.05
+# How often folders have a fault, so that none is published; how often a unit is at the shape of the limits, and how
+# often a run is filled.
+FAULTY = 0.03
+VAST = 1 / 150
+CROWDED = 1 / 80
 
 
 def write_folder(draw, path, documents):
@@ -103,6 +108,7 @@ def tell(seed, folders, lines, blocks, got):
     """Shows the first line whose reply differs, what came before it, and both replies."""
     status, written, said = got
     place = 0
+    blocks = [block.encode() for block in blocks]
     while place < len(blocks) and written.startswith(blocks[place]):
         written = written[len(blocks[place]):]
         place += 1
@@ -115,24 +121,18 @@ def tell(seed, folders, lines, blocks, got):
     print(f"the program: {shortened(written[:4 * SHOWN])}")
 
 
-def kinds_of(block):
-    """The words of a reply by which its kind is known."""
-    words = block.decode().split("\n")[0].split(" ")
-    if words[0] == "no":
-        return " ".join(words[:3])
-    if words[0] == "refused":
-        return f"{words[0]} {words[-1]}"
-    return " ".join(word for word in words if not word.startswith(("rejected", "sent", "lines")))
-
-
 def case_of(seed):
-    """What is drawn for a seed: the rest of the draw, the documents of the folders, and the input."""
+    """What is drawn for a seed: the rest of the draw, the documents of the folders, and the history."""
     draw = random.Random(seed)
-    folders = courses.folders_of(draw)
-    data = History(draw, folders).data()
+    era = draw.choice(BEGINNINGS)
+    is_vast = courses.happens(draw, VAST)
+    is_crowd = not is_vast and courses.happens(draw, CROWDED)
+    folders = courses.folders_of(draw, era, is_vast, is_crowd)
+    count = draw.choice([0, 1, 50, 100, 150, 200, 300])
+    history = History(draw, folders, era, is_crowd).grow(60 if is_vast else 360 if is_crowd else count)
     if courses.happens(draw, FAULTY):
         folders = courses.spoiled(draw, folders)
-    return draw, folders, data
+    return draw, folders, history
 
 
 def main():
@@ -140,21 +140,21 @@ def main():
     first = int(sys.argv[2]) if len(sys.argv) > 2 else SEED
     count = int(sys.argv[3]) if len(sys.argv) > 3 else COUNT
     agreed = compared = 0
-    kinds = collections.Counter()
+    counts = Counts()
     for seed in range(first, first + count):
-        draw, folders, data = case_of(seed)
-        lines = lines_of(data)
-        status, blocks, said = answer(folders, lines)
-        blocks = [block.encode() for block in blocks]
-        got = run_program(program, draw, folders, data)
-        if got != (status, b"".join(blocks), said.encode()):
-            tell(seed, folders, lines, blocks, got)
+        draw, folders, history = case_of(seed)
+        refused = refused_of(folders)
+        status, said = (0, b"") if refused is None else (4, b"ld: unit-refused\n")
+        blocks = history.blocks if refused is None else [refused]
+        got = run_program(program, draw, folders, history.data)
+        if got != (status, "".join(blocks).encode(), said):
+            tell(seed, folders, lines_of(history.data), blocks, got)
             break
         agreed += 1
-        compared += len(lines) if status == 0 else 0
-        kinds.update(kinds_of(block) for block in blocks)
-    for kind, number in sorted(kinds.items()):
-        print(f"{number} {kind or 'passed over'}")
+        compared += len(lines_of(history.data)) if status == 0 else 0
+        counts.add(folders, blocks, history.world.firings if status == 0 else {})
+    for line in counts.told():
+        print(line)
     print(f"{agreed} of {count} histories agreed, with {compared} lines")
     return 0 if agreed == count else 1
 

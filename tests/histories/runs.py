@@ -1,171 +1,106 @@
-"""A unit, the state of its run, and what fires in it, after docs/MEANING.md.
+"""The state of a run and what it says of persons and roles, after docs/MEANING.md, "The state of a run".
 
-A state is a dict that is never changed but replaced by another, and each question goes over whole lists
-again. A site is a kind of rule, the identifier of what the rule is about, and a person (or None where it is
-the run's).
+A cell is named by a tuple of its kind, what it is of, and its owner, who is a person or None for the run as a whole.
+A cell without a value has None.
 """
-TURNS = 64
+from values import first_value
+
+# The kinds of properties of which each person has one, and those that all runs share.
+PERSONAL = ["locpers", "globpers"]
+SHARED = ["glob", "globpers"]
+# The kinds of rules that have a site with each person.
+RULES_OF_PERSONS = ["activity", "structure", "condition"]
 
 
-# A unit, by its documents.
-
-def plays_of(documents):
-    """The plays of the unit's method, in document order."""
-    return documents["unit.json"]["method"]["plays"]
+def is_personal(declared):
+    """Whether each person has a property of this declaration."""
+    return declared["kind"] in PERSONAL
 
 
-def acts_of(documents):
-    """The acts of all plays, in document order."""
-    return [act for play in plays_of(documents) for act in play["acts"]]
+def is_shared(declared):
+    """Whether all runs share a property of this declaration."""
+    return declared["kind"] in SHARED
 
 
-def roles_of(documents):
-    """The roles, in document order."""
-    return documents["roles.json"]["roles"]
+def owner_of(declared, person):
+    """Whose property a person means: the person's own one or the run's."""
+    return person if is_personal(declared) else None
 
 
-def activities_of(documents):
-    """The activities, in document order."""
-    return documents["activities.json"].get("activities", [])
+class Run:
+    """A run: its unit, last moment, persons in the order of enrolment, who holds what, its notices and its cells."""
 
+    def __init__(self, unit, moment, store):
+        self.unit = unit
+        self.now = moment
+        self.persons = []
+        self.held = set()
+        self.outbox = []
+        self.cells = {"Started": None}
+        for act in unit.acts:
+            self.cells["ActOpened", act["identifier"]] = None
+        self.begin(None, store)
 
-def properties_of(documents):
-    """The properties, in document order; the file may be absent."""
-    return documents.get("properties.json", {}).get("properties", [])
+    def copy(self):
+        """The same state once more, so that a command that is refused leaves the first as it was."""
+        other = object.__new__(Run)
+        other.unit, other.now = self.unit, self.now
+        other.persons, other.held = list(self.persons), set(self.held)
+        other.outbox, other.cells = list(self.outbox), dict(self.cells)
+        return other
 
+    def begin(self, owner, store):
+        """The marks and properties of the run, or of a person, begin."""
+        for kind, name, _ in self.unit.rules:
+            if (kind in RULES_OF_PERSONS) == (owner is not None):
+                self.cells["Mark", name, owner] = None if kind == "condition" else False
+        for declared in self.unit.properties:
+            if is_personal(declared) == (owner is not None):
+                value = store.value(declared, owner) if is_shared(declared) else first_value(declared)
+                self.cells["Prop", declared["identifier"], owner] = value
 
-def has(things, identifier):
-    """Whether one of the things has the identifier."""
-    return any(thing["identifier"] == identifier for thing in things)
+    def join(self, person, store):
+        """A person joins without a role, last of all, and the person's cells begin."""
+        self.persons.append(person)
+        self.begin(person, store)
+        for thing in self.unit.visible:
+            self.cells["Vis", thing["identifier"], person] = thing.get("visible", True)
+        for activity in self.unit.activities:
+            self.cells["Chosen", activity["identifier"], person] = False
+            self.cells["Opened", activity["identifier"], person] = None
 
+    # Persons and roles.
 
-def with_identifier(things, identifier):
-    """The thing that has the identifier."""
-    return [thing for thing in things if thing["identifier"] == identifier][0]
+    def is_member(self, person, role):
+        """A person is a member of a role that the person holds, and of each within which that one stands."""
+        return any((person, each) in self.held for each in self.unit.within[role])
 
+    def members(self, role):
+        """The members of a role, each once, in the order of enrolment."""
+        return [person for person in self.persons if self.is_member(person, role)]
 
-# The state of a run.
+    # What cells say.
 
-def new_run(moment):
-    """A run begins with nobody in it, nothing said, opened or marked, and its moment is the line's.
+    def is_started(self):
+        """A run is started once it keeps the moment of its start."""
+        return self.cells["Started"] is not None
 
-    `opened` has the moment at which each act was opened, and `looked` that of a person's first opening of an activity.
-    """
-    return {"now": moment, "start": None, "persons": [], "held": frozenset(), "said": frozenset(), "looked": {},
-            "opened": {}, "marked": frozenset()}
+    def property(self, name, person):
+        """The value of a property for a person, or for the run (None)."""
+        return self.cells["Prop", name, owner_of(self.unit.property[name], person)]
 
+    def is_opened(self, act):
+        """Whether an act was opened."""
+        return self.cells["ActOpened", act] is not None
 
-def is_started(run):
-    """A run is started once it keeps the moment of its start."""
-    return run["start"] is not None
+    def is_done(self, name, owner=None):
+        """Whether the mark of the rule of this name says yes; what has no rule is never done."""
+        return self.cells.get(("Mark", name, owner)) is True
 
+    def is_done_for(self, name, person):
+        """Whether what an identifier names is done: of an activity or a structure, for the person."""
+        return self.is_done(name, person if name in self.unit.activity or name in self.unit.structure else None)
 
-def is_holder(run, person, role):
-    """Whether the person holds this very role."""
-    return (person, role) in run["held"]
-
-
-def is_member(run, person, role):
-    """A person is a member of a role that the person holds; no unit that is run today has roles within roles."""
-    return is_holder(run, person, role)
-
-
-def members_of(run, role):
-    """The members of a role, in the order of enrolment."""
-    return [person for person in run["persons"] if is_member(run, person, role)]
-
-
-def is_theirs(documents, run, activity, person):
-    """An activity is a person's where the person is a member of the role of a role-part that refers to it."""
-    parts = [part for act in acts_of(documents) for part in act["role-parts"]]
-    return any(part["ref"] == activity and is_member(run, person, part["role"]) for part in parts)
-
-
-def has_done(run, person, activity):
-    """A person has done an activity once its site with the person is marked."""
-    return ("activity", activity, person) in run["marked"]
-
-
-# Rules and sites.
-
-def rules_of(documents):
-    """The rules are each activity, and then per act its opening and its role-parts."""
-    rules = [("activity", activity["identifier"]) for activity in activities_of(documents)]
-    for act in acts_of(documents):
-        rules.append(("opening", act["identifier"]))
-        rules.extend(("part", part["identifier"]) for part in act["role-parts"])
-    return rules
-
-
-def sites_of(documents, run):
-    """The sites are each rule of an activity with each person, and any other rule with the run."""
-    sites = []
-    for kind, identifier in rules_of(documents):
-        persons = run["persons"] if kind == "activity" else [None]
-        sites.extend((kind, identifier, person) for person in persons)
-    return sites
-
-
-def test_of_activity(documents, run, activity, person):
-    """An activity is done where the person has said that it is completed and it is the person's."""
-    return (person, activity) in run["said"] and is_theirs(documents, run, activity, person)
-
-
-def test_of_opening(documents, act):
-    """An act is opened where it is the first of its play."""
-    return any(play["acts"][0]["identifier"] == act for play in plays_of(documents))
-
-
-def test_of_part(documents, run, identifier):
-    """A role-part is done where its act is opened, its role has a member, and every member has done its activity."""
-    act = [act for act in acts_of(documents) if has(act["role-parts"], identifier)][0]
-    part = with_identifier(act["role-parts"], identifier)
-    members = members_of(run, part["role"])
-    is_done = all(has_done(run, person, part["ref"]) for person in members)
-    return act["identifier"] in run["opened"] and members != [] and is_done
-
-
-def test_of(documents, run, site):
-    """Once its mark says yes, a site's test says yes for good; before, it is the test of its kind of rule."""
-    kind, identifier, person = site
-    if site in run["marked"]:
-        return True
-    if kind == "activity":
-        return test_of_activity(documents, run, identifier, person)
-    if kind == "opening":
-        return test_of_opening(documents, identifier)
-    return test_of_part(documents, run, identifier)
-
-
-# Firing, sweeping, settling.
-
-def fired(run, site):
-    """The mark takes the answer of the test, and an act that opens keeps the present moment."""
-    kind, identifier, _ = site
-    run = dict(run, marked=run["marked"] | {site})
-    if kind == "opening":
-        run = dict(run, opened={**run["opened"], identifier: run["now"]})
-    return run
-
-
-def sweep(documents, run):
-    """A sweep visits all sites in order, and a site fires where its test differs from its mark."""
-    firings = 0
-    for site in sites_of(documents, run):
-        if test_of(documents, run, site) != (site in run["marked"]):
-            run = fired(run, site)
-            firings += 1
-    return run, firings
-
-
-def settling(documents, run):
-    """A settling sweeps until a sweep fires nothing; the run is None where it passes its budget."""
-    turns = firings = 0
-    while True:
-        run, more = sweep(documents, run)
-        if more == 0:
-            return run, turns, firings
-        turns += 1
-        firings += more
-        if turns > documents["unit.json"].get("turns", TURNS):
-            return None, turns, firings
+    def is_visible(self, thing, person):
+        """Whether the person sees the thing."""
+        return self.cells["Vis", thing["identifier"], person]

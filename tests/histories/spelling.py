@@ -2,7 +2,7 @@
 import json
 
 from commands import LONGEST_LINE
-from courses import happens
+from names import happens
 
 
 def spelled(draw, words):
