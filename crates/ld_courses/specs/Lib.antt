@@ -26,3 +26,4 @@ pub mod TwoActs
 pub mod TwoOfThree
 pub mod UndoingConditions
 pub mod ValuesAreRead
+pub mod WhatIsMet

@@ -1,0 +1,5 @@
+mod SameRuns
+mod Meetings
+mod OtherLines
+mod OwnLines
+pub mod Histories
