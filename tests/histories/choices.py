@@ -53,7 +53,9 @@ def weights_after(draw, run, wish):
         "open": 2.5 if look else 0.2, "complete": 9 if complete else 0.2, "set": 0.1, "clear": 0.1, "get": 0.1,
         "tree": 3, "outbox": 1.5 if run.outbox else 0.3, "report": 1, "tick": 1.5,
     }
-    return {**weights, "set": 6, "clear": 0.8, "get": 1.2} if run.unit.properties else weights
+    if run.unit.properties:
+        weights.update(set=6, clear=0.8, get=4 if wish.interest.written else 1)
+    return weights
 
 
 def weights_of(draw, run, wish):
@@ -119,8 +121,8 @@ def to_do(draw, wish, run, verb):
 
 def to_set(draw, wish, run, verb):
     """A person and a property that the person may set, mostly one of which a test asks, or that a change writes."""
-    asked = wish.interest.triggers
-    names = draw.choice([wish.interest.written if verb == "get" else asked, asked, list(wish.interest.texts), []])
+    chief = wish.interest.written if verb == "get" else wish.interest.triggers
+    names = draw.choice([chief, chief, list(wish.interest.texts), []])
     declared = run.unit.property[draw.choice(names or list(run.unit.property))]
     members = run.members(declared["role"]) if "role" in declared and happens(draw, 0.8) else run.persons
     return draw.choice(members or run.persons or wish.pool), declared["identifier"]

@@ -17,7 +17,7 @@ def restrictions(draft, datatype):
         draft.with_some(made, 0.6, minInclusive=least, maxInclusive=greatest)
     if datatype in TEXTS:
         least, greatest = draw.choice([0, 1, 1, 2, 3]), draw.choice([0, 1, 2, 3, 3, 4_096])
-        draft.with_some(made, 0.4, minLength=least, maxLength=greatest)
+        draft.with_some(made, 0.6, minLength=least, maxLength=greatest)
     if draft.happens(0.4 if made else 0.8):
         made["enumeration"] = [sample(draw, datatype, era) for _ in range(draw.choice([1, 2, 2, 3, 3, 5, 8]))]
     return made
@@ -38,7 +38,7 @@ def some_value(draw, era, declared, tries=6):
 def contents(draft, datatype):
     """The datatype of a property, often its initial value, and sometimes its restrictions."""
     made = {"datatype": datatype}
-    if draft.happens(0.25):
+    if draft.happens(0.3):
         made["restrictions"] = restrictions(draft, datatype)
     initial = some_value(draft.draw, draft.era, made)
     if initial is not None and draft.happens(0.6):
@@ -84,16 +84,37 @@ def some_property(draft, shared):
     return {**made, "role": draft.draw.choice(draft.roles)} if kind == "locrole" else made
 
 
+def chained(draft, shared):
+    """The properties of a chain: numbers that are changed one after the other, all of one kind."""
+    kind = draft.draw.choice(["loc", "loc", "locpers", "glob"])
+    return [own(draft, shared, kind=kind, datatype="integer") for _ in range(draft.plan.chain)]
+
+
+def looped(draft, shared):
+    """The properties of a loop: one that sets it going, two that undo each other, and a count; of each person or not."""
+    if not draft.plan.loop:
+        return []
+    kind = draft.draw.choice(["loc", "locpers", "locpers"])
+    go = own(draft, shared, kind=draft.draw.choice(["loc", "loc", "glob"]), datatype="boolean", initial="false")
+    flags = [own(draft, shared, kind=kind, datatype="boolean", initial="false") for _ in range(2)]
+    return [go, *flags, own(draft, shared, kind=kind, datatype="integer", initial="0")]
+
+
+def own(draft, shared, **declared):
+    """A property with these members, and a uri that no unit has declared before, if it is a global one."""
+    if declared["kind"] == "glob":
+        declared["uri"] = f"urn:{len(shared)}"
+        shared.append(declared)
+    return draft.thing(**declared)
+
+
 def add_properties(draft, shared):
     """Properties by the plan and those of its chain, loop and workings; `shared` are the global ones of the call."""
     for _ in range(draft.plan.counts["properties"]):
         draft.properties.append(some_property(draft, shared))
-    kind = draft.draw.choice(["loc", "loc", "locpers"])
-    draft.chain = [draft.thing(kind=kind, datatype="integer") for _ in range(draft.plan.chain)]
-    flags = [draft.thing(kind="loc", datatype="boolean", initial="false") for _ in range(3 if draft.plan.loop else 0)]
-    draft.loop = flags + [draft.thing(kind="loc", datatype="integer", initial="0") for _ in flags[:1]]
     kinds = draft.draw.choices(["integer", "integer", "datetime", "duration", "duration"], k=draft.plan.workings)
     draft.workings = [draft.thing(kind=draft.draw.choice(["loc", "locpers"]), datatype=kind) for kind in kinds]
+    draft.chain, draft.loop = chained(draft, shared), looped(draft, shared)
     draft.properties += draft.chain + draft.loop + draft.workings
     draft.draw.shuffle(draft.properties)
     return draft.properties

@@ -1,6 +1,7 @@
 """Random methods: plays, acts and role-parts; and conditions."""
 from expressions import action, arithmetic, follows, quantified, simple_test, test, value_is_set
 from runs import is_personal
+from samples import moment
 from things import LONG_SPANS, SHORT_SPANS
 
 
@@ -119,7 +120,8 @@ def loop(draft):
     if not draft.loop:
         return []
     go, first, second, count = draft.loop
-    tests = [boolean_is(go, "true"), boolean_is(first, "false")]
+    now = {"greater-than": [{"current-datetime": True}, {"datetime": moment(draft.draw, draft.era)}]}
+    tests = [now if draft.happens(0.1) else boolean_is(go, "true"), boolean_is(first, "false")]
     if draft.happens(0.7):
         tests.append({"less-than": [{"property": count["identifier"]}, {"integer": str(draft.plan.loop)}]})
     more = {"sum": [{"property": count["identifier"]}, {"integer": "1"}]}

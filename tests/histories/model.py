@@ -1,8 +1,9 @@
 """What `ld replay` writes for units and the lines of an input, by the documents and nothing of the program.
 
-A plain and slow evaluation of all that docs/MEANING.md says. A unit is given as the dict of its documents by the
-names of their files. A world has the published units by their identifiers, the runs by their names, and the store of
-global values; it takes one line after the other.
+A plain and slow evaluation of all that docs/MEANING.md says. Its parts are values.py, unit.py, runs.py, store.py,
+terms.py, holding.py, sites.py, firing.py, tree.py, report.py, causes.py and commands.py; all other modules draw units
+and lines, or count. A unit is given as the dict of its documents by the names of their files. A world has the published
+units by their identifiers, the runs by their names, and the store of global values; it takes one line after the other.
 """
 import collections
 

@@ -16,7 +16,8 @@ class Plan:
         self.chain = self.loop = self.workings = 0
         # How deep a condition's test is at most, and how many items a list has at most.
         self.depth, self.items = 2, 3
-        self.is_vast = False
+        # Whether it is at the shape of the limits, and whether each environment and structure refers to the one before.
+        self.is_vast = self.is_deep = False
 
     def count(self, **counts):
         """Sets the counts of parts."""
@@ -47,8 +48,8 @@ def small(draw):
         acts=draw.choice([1, 2, 2, 3]), parts=draw.choice([1, 1, 2, 3]), conditions=draw.randint(0, 7))
     if plan.level != "A":
         plan.chain = draw.choice([0, 0, 0, 2, 3, 5])
-        plan.loop = draw.choice([0, 0, 0, 0, 1, 2, rounds(draw, plan)])
-        plan.workings = draw.choice([0, 0, 1, 2, 4])
+        plan.loop = draw.choice([0, 0, 0, 1, 2, rounds(draw, plan), rounds(draw, plan)])
+        plan.workings = draw.choice([0, 1, 2, 4])
     return plan
 
 
@@ -76,12 +77,13 @@ def vast(draw):
                             parts=4, conditions=110)
     plan.titled = 0.1
     plan.turns = None
-    plan.depth, plan.items = 5, 8
+    plan.depth = 5
     plan.left = {"items": 4_000, "inner things": 1_000, "leaves": 3_500, "quantified": 100}
     plan.sizes = draw.choice([
         {"environment": 200, "activity": 400, "structure": 1_500, "part": 4_000, "unit": 60_000},
         {"environment": 4_000, "activity": 6_000, "structure": 15_000, "part": 20_000, "unit": 199_000}])
-    plan.is_vast = True
+    plan.is_vast, plan.is_deep = True, draw.choice([True, False])
+    plan.items = 1 if plan.is_deep else 8
     if plan.level != "A":
         plan.chain, plan.loop, plan.workings = 4, 2, 4
     return plan

@@ -5,9 +5,9 @@
 
 The model (model.py) was written from the documents by somebody who had not read the program or its
 definitions. The units of a call and its history follow from a seed: the first from SEED, the next from the number
-after it. So `run.py PROGRAM SEED 1` runs one of them again. At the first difference it ends.
+after it. So `run.py PROGRAM SEED 1` runs one of them again. At the first difference it ends. What is printed counts
+what was covered. A line is drawn with an eye on the model's state of the runs, so that most of them do something.
 """
-import collections
 import fcntl
 import json
 import pathlib
@@ -27,13 +27,14 @@ from model import refused_of
 from moments import BEGINNINGS
 
 SEED = 1
-COUNT = 500
+COUNT = 400
 LONGEST = 60
 SHOWN = 300
+LONGEST_FOLDER = 20_000
 # How often folders have a fault, so that none is published; how often a unit is at the shape of the limits, and how
 # often a run is filled.
 FAULTY = 0.03
-VAST = 1 / 150
+VAST = 1 / 80
 CROWDED = 1 / 80
 
 
@@ -99,9 +100,9 @@ def run_program(program, draw, folders, data):
             return status, out.read(), err.read()
 
 
-def shortened(line):
+def shortened(line, longest=SHOWN):
     """A line as it is shown: the beginning of a long one."""
-    return repr(line) if len(line) <= SHOWN else f"{line[:SHOWN]!r}.. ({len(line)} bytes)"
+    return repr(line) if len(line) <= longest else f"{line[:longest]!r}.. ({len(line)} bytes)"
 
 
 def tell(seed, folders, lines, blocks, got):
@@ -114,11 +115,12 @@ def tell(seed, folders, lines, blocks, got):
         place += 1
     print(f"a difference, to be had again by `run.py PROGRAM {seed} 1`: status {status}, {said!r} is said")
     for documents in folders:
-        print(json.dumps(documents, indent=1))
+        text = json.dumps(documents)
+        print(text if len(text) <= LONGEST_FOLDER else f"{text[:SHOWN]}.. ({len(text)} characters)")
     for line in lines[:place + 1]:
         print(shortened(line))
-    print(f"the model: {blocks[place] if place < len(blocks) else b''!r}")
-    print(f"the program: {shortened(written[:4 * SHOWN])}")
+    print(f"the model: {shortened(blocks[place] if place < len(blocks) else b'', 4 * SHOWN)}")
+    print(f"the program: {shortened(written, 4 * SHOWN)}")
 
 
 def case_of(seed):

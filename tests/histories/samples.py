@@ -3,7 +3,7 @@ from names import TITLE, happens
 from values import DAY, FIRST_MOMENT, LAST_MOMENT, text_of_moment, value_of
 
 LONG = "n" * 4_096
-INTEGERS = ["0", "1", "1", "2", "2", "3", "4", "5", "7", "10", "-1", "-1", "-2", "-3", "-7", "-10"]
+INTEGERS = ["0", "1", "1", "2", "2", "3", "4", "5", "7", "7", "10", "-1", "-1", "-2", "-3", "-7", "-7", "-10"]
 FAR_INTEGERS = [str(2**63 - 1), str(-2**63), str(2**63 - 2), str(-2**63 + 1), str(2**62), "3037000500", "-4294967296"]
 WORDS = ["", "a", "a", "b", "yes", "no", "é", "漢字", "e\u0301", "😀", "A"]
 URIS = ["a", "b", "yes", "urn:a", "urn:b", "!", "~" * 20, "http://a.example/?q=%20"]

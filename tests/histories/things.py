@@ -51,14 +51,20 @@ def service(draft):
     return draft.visible_thing(is_chief=False, kind=draft.draw.choice(SERVICES if draft.has("B") else SERVICES[:3]))
 
 
+def some_before(draft, known, counts):
+    """Some of the environments or structures that are there, in a deep unit the last of them."""
+    if draft.plan.is_deep:
+        return known[-1:]
+    return draft.draw.sample(known, min(draft.draw.choice(counts), len(known)))
+
+
 def environment(draft, name):
     """An environment that refers to some of those that are there."""
     made = draft.visible_thing(name)
     things = [learning_object(draft) for _ in range(draft.take("inner things", draft.draw.choice([0, 1, 1, 2])))]
     services = [service(draft) for _ in range(draft.take("inner things", draft.draw.choice([0, 0, 1, 1, 2])))]
     size = 1 + len(services) + sum(1 + len(each.get("items", [])) for each in things)
-    known = list(draft.sizes)
-    wanted = draft.draw.sample(known, min(draft.draw.choice([0, 1, 1, 2]), len(known)))
+    wanted = some_before(draft, list(draft.sizes), [0, 1, 1, 2])
     references, draft.sizes[name] = draft.within("environment", size, wanted)
     for word, value in [("learning-objects", things), ("services", services), ("environments", references)]:
         if value or draft.happens(0.1):
@@ -126,7 +132,7 @@ def activities(draft):
 def children_of(draft, known):
     """Activities, and structures that are there."""
     names = draft.draw.sample(draft.activities, min(draft.draw.choice([1, 2, 2, 3, 4, 6]), len(draft.activities)))
-    names += draft.draw.sample(known, min(draft.draw.choice([0, 0, 1, 1, 2]), len(known)))
+    names += some_before(draft, known, [0, 0, 1, 1, 2])
     draft.draw.shuffle(names)
     return names
 
