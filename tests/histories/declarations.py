@@ -91,7 +91,7 @@ def chained(draft, shared):
 
 
 def looped(draft, shared):
-    """The properties of a loop: one that sets it going, two that undo each other, and a count; of each person or not."""
+    """The properties of a loop: one sets it going, two undo each other, one counts; of each person or of the run."""
     if not draft.plan.loop:
         return []
     kind = draft.draw.choice(["loc", "locpers", "locpers"])

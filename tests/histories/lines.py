@@ -14,6 +14,7 @@ from words import Author
 
 # A crowd has more persons than a run, since some of it are refused, and others come to a full run.
 CROWD = 215
+MOST_OVER_BUDGET = 20
 
 # The verbs of commands of which something may be amiss, by their weights.
 AMISS = {"create": 3, "enrol": 4, "assign": 6, "drop": 6, "start": 2, "open": 5, "complete": 6, "set": 6, "clear": 3,
@@ -33,6 +34,7 @@ class History:
         self.wishes = self.author.wishes
         self.wanted = 1 if is_crowd else draw.choice([1, 1, 1, 2, 2, 3])
         self.current = None
+        self.over_budget = 0
         self.data, self.blocks = b"", []
 
     # Commands.
@@ -143,12 +145,19 @@ class History:
                 self.wishes[name] = Wish(self.draw, interest, pool, wanted)
         if self.current is not None:
             wish = self.wishes[self.current]
-            wish.stuck = wish.stuck + 1 if self.blocks[-1].startswith("no 30") else 0
+            is_over = self.blocks[-1].startswith("no 30")
+            wish.stuck = wish.stuck + 1 if is_over else 0
+            self.over_budget += is_over
 
     def grow(self, count):
-        """The history grows by so many lines; the line feed of the last may be missing."""
+        """The history grows by so many lines, or by less where budgets refused many, over which the model takes long.
+
+        The line feed of the last line may be missing.
+        """
         return_chance = self.draw.choice([0, 0, 0, 0.1, 1])
         for _ in range(count):
+            if self.over_budget >= MOST_OVER_BUDGET:
+                break
             self.take(self.line() + (b"\r\n" if happens(self.draw, return_chance) else b"\n"))
         if happens(self.draw, 0.3):
             self.data = self.data[:-1]

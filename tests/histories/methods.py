@@ -122,7 +122,8 @@ def loop(draft):
     go, first, second, count = draft.loop
     now = {"greater-than": [{"current-datetime": True}, {"datetime": moment(draft.draw, draft.era)}]}
     tests = [now if draft.happens(0.1) else boolean_is(go, "true"), boolean_is(first, "false")]
-    if draft.happens(0.7):
+    is_endless = draft.happens(0.3 if (draft.plan.turns or 64) < 64 else 0.05)
+    if not is_endless:
         tests.append({"less-than": [{"property": count["identifier"]}, {"integer": str(draft.plan.loop)}]})
     more = {"sum": [{"property": count["identifier"]}, {"integer": "1"}]}
     echo = [{"if": boolean_is(second, "true"), "then": [{"show": draft.some(draft.chief)}]}] * draft.draw.randrange(2)

@@ -8,7 +8,7 @@ class Plan:
         self.level = draw.choice("AABBBCCC")
         self.hidden = draw.choice([0, 0, 0, 0.05, 0.15, 0.3])
         self.titled = draw.choice([0.1, 0.3, 0.6])
-        self.turns = draw.choice([None] * 5 + [256, 64, 8, 5, 4, 4, 3, 3, 2, 2, 1])
+        self.turns = draw.choice([None] * 6 + [256, 64, 8, 5, 4, 4, 3, 3, 2, 2, 1])
         # How many of these may be made at all.
         self.left = {"items": 60, "inner things": 12, "leaves": 150, "quantified": 40}
         # The greatest size of an environment, an activity, a structure, a role-part and the unit.

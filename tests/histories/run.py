@@ -27,7 +27,7 @@ from model import refused_of
 from moments import BEGINNINGS
 
 SEED = 1
-COUNT = 400
+COUNT = 450
 LONGEST = 60
 SHOWN = 300
 LONGEST_FOLDER = 20_000
