@@ -1,7 +1,7 @@
 pub mod Acts
-pub mod Fronts
 pub mod Fuel
 pub mod Indents
+pub mod Plain
 pub mod Statuses
 pub mod Told
 pub mod Words

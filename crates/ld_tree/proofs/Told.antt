@@ -1,11 +1,10 @@
 -- What all lines together make of those who take them.
-use Rattle.std.proofs.Common.{◌≡◌, ℕ, ◌+◌, List, [], ◌∷◌, ◌++◌, fold, length, map, take, Bool, ◌||◌, refl, sym, ap, ◌∙◌, append_assoc, arith}
-use Rattle.std.proofs.Math.Seq.{take-append_seam}
+use Rattle.std.proofs.Common.{◌≡◌, ◌+◌, List, [], ◌∷◌, ◌++◌, fold, length, map, ◌||◌, refl, sym, ◌∙◌, append_assoc, arith}
 use Rattle.std.proofs.lemmas.Grind.{common_steps}
 use Rattle.std.proofs.lemmas.List.{append-nil}
 use Rattle.std.specs.List.{list_any}
 use Rattle.ld_tree.specs.Lines.{TreeLine, line_text, lines_text}
-use Rattle.ld_tree.specs.Telling.{Printed, printed_after, Asked, asked_after, KeepsFront}
+use Rattle.ld_tree.specs.Telling.{Printed, printed_after, Asked, asked_after}
 use Rattle.ld_tree.specs.Tree.{tells_open}
 
 pub printed_bytes : (told : Printed) (lines : List TreeLine) → (fold printed_after told lines).bytes ≡ told.bytes ++ lines_text (map line_text lines)

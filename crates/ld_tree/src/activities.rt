@@ -32,8 +32,6 @@ impl<'a, V: View> Viewer<'a, V> {
             (activity_lines self.now.unit.now (seen_by (V.persons_of self.now.view.now)
             (V.cells_of self.now.view.now)) self.now.person.0 depth flag activity.now)) }
         ensures err { IsErr result → S.can_fail ≡ true }
-        ensures kept { S.kept lines.new ≡ S.kept lines.old }
-        ensures room { S.room lines.old ≤ S.room lines.new }
         ensures cost { steps.new ≤ steps.old + length (activity_looks self.now.unit.now
             self.now.person.0 activity.now) }
     {
@@ -74,8 +72,6 @@ impl<'a, V: View> Viewer<'a, V> {
             (V.persons_of self.now.view.now) (V.cells_of self.now.view.now)) self.now.person.0
             depth (feedback_of activity.now.on_completion))))) }
         ensures err { IsErr result → S.can_fail ≡ true }
-        ensures kept { S.kept lines.new ≡ S.kept lines.old }
-        ensures room { S.room lines.old ≤ S.room lines.new }
         ensures cost { steps.new ≤ steps.old + length (environments_looks self.now.unit.now
             self.now.person.0 activity.now.environments ++ (items_looks self.now.unit.now
             self.now.person.0 activity.now.items ++ feedback_looks self.now.unit.now
@@ -107,18 +103,19 @@ impl<'a, V: View> Viewer<'a, V> {
             left self.now.unit.now (seen_by (V.persons_of self.now.view.now)
             (V.cells_of self.now.view.now)) self.now.person.0 depth (flag, id.now))) }
         ensures err { IsErr result → S.can_fail ≡ true }
-        ensures kept { S.kept lines.new ≡ S.kept lines.old }
-        ensures room { S.room lines.old ≤ S.room lines.new }
         ensures cost { steps.new ≤ steps.old + length (target_looks left self.now.unit.now
             self.now.person.0 id.now) }
     {
-        if left == 0 || !self.is_visible(id, steps) {
+        if left == 0 {
             return Ok(());
         }
-        if let Some(activity) = self.activity(id) {
+        let Some(place) = self.visible_place(id, steps) else {
+            return Ok(());
+        };
+        if let Some(activity) = self.activity_at(place) {
             return self.put_activity(depth, flag, activity, lines, steps);
         }
-        if let Some(structure) = self.structure(id) {
+        if let Some(structure) = self.structure_at(place) {
             return self.put_structure(left - 1, depth, flag, structure, lines, steps);
         }
         let all = self.unit.environments.len() as u128;
@@ -147,8 +144,6 @@ impl<'a, V: View> Viewer<'a, V> {
             self.now.unit.now (seen_by (V.persons_of self.now.view.now)
             (V.cells_of self.now.view.now)) self.now.person.0 (depth + 1)) structure.now)) }
         ensures err { IsErr result → S.can_fail ≡ true }
-        ensures kept { S.kept lines.new ≡ S.kept lines.old }
-        ensures room { S.room lines.old ≤ S.room lines.new }
         ensures cost { steps.new ≤ steps.old + length (structure_looks self.now.unit.now
             self.now.person.0 (target_looks left self.now.unit.now self.now.person.0)
             structure.now) }
@@ -201,8 +196,6 @@ impl<'a, V: View> Viewer<'a, V> {
             (seen_by (V.persons_of self.now.view.now) (V.cells_of self.now.view.now))
             self.now.person.0 kind flag children.now))) }
         ensures err { IsErr result → S.can_fail ≡ true }
-        ensures kept { S.kept lines.new ≡ S.kept lines.old }
-        ensures room { S.room lines.old ≤ S.room lines.new }
         ensures cost { steps.new ≤ steps.old + length (flat_map (child_looks self.now.unit.now
             self.now.person.0 (target_looks left self.now.unit.now self.now.person.0))
             children.now) }

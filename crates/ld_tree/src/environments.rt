@@ -1,6 +1,7 @@
 //! The lines of items and environments.
-ghost use Rattle.std.specs.Prelude.{◌≡◌, ◌+◌, ◌≤◌, ◌<◌, ◌^◌, true, fold, flat_map, length, OnOk, IsErr};
+ghost use Rattle.std.specs.Prelude.{◌≡◌, ◌+◌, ◌≤◌, ◌<◌, ◌^◌, true, fold, flat_map, length, OnOk, IsErr, IfSome};
 ghost use Rattle.ld_expr.specs.Viewing.{HasCells, seen_by};
+ghost use Rattle.ld_tree.specs.Things.{IsThing};
 ghost use Rattle.ld_tree.specs.Tree.{all_environment_lines, all_item_lines, environment_lines, feedback_of, item_lines, object_lines, once_done, service_lines, service_word, status_by, within_lines};
 ghost use Rattle.ld_tree.specs.TreeLooks.{environment_looks, environments_looks, feedback_looks, item_looks, items_looks, object_looks, service_looks, within_looks};
 
@@ -8,34 +9,36 @@ use crate::line::{LineSink, TreeLine};
 use crate::viewer::Viewer;
 use ld_base::id::Id;
 use ld_base::memory::NoMemory;
+use ld_base::numbers::ThingNo;
 use ld_base::steps::Steps;
 use ld_model::completion::OnCompletion;
 use ld_model::environment::{Environment, LearningObject, Service, ServiceKind};
 use ld_model::item::Item;
 use ld_model::view::View;
+use ld_names::names::Named;
 use std::sync::ledger::Ledger;
 
 impl<'a, V: View> Viewer<'a, V> {
-    /// Puts the item, where it is visible.
+    /// Puts the item, where it is visible. Its number is looked for at the guess first.
     fn put_item<S: LineSink, L: Ledger>(
         &self,
         depth: u128,
         item: &Item,
+        guess: Option<ThingNo>,
         lines: &mut S,
         steps: &mut Steps<L>,
     ) -> Result<(), NoMemory>
-        requires { HasCells (V.has_cell self.now.view.now) (item_looks self.now.unit.now
+        requires guess { IfSome guess (IsThing self.now.unit.now) }
+        requires cells { HasCells (V.has_cell self.now.view.now) (item_looks self.now.unit.now
             self.now.person.0 item.now) }
         ensures ok { OnOk result (S.told lines.new ≡ fold S.after (S.told lines.old) (item_lines
             self.now.unit.now (seen_by (V.persons_of self.now.view.now)
             (V.cells_of self.now.view.now)) self.now.person.0 depth item.now)) }
         ensures err { IsErr result → S.can_fail ≡ true }
-        ensures kept { S.kept lines.new ≡ S.kept lines.old }
-        ensures room { S.room lines.old ≤ S.room lines.new }
         ensures cost { steps.new ≤ steps.old + length (item_looks self.now.unit.now
             self.now.person.0 item.now) }
     {
-        if !self.is_visible(&item.identifier, steps) {
+        if !self.is_visible_near(guess, &item.identifier, steps) {
             return Ok(());
         }
         lines.put(&TreeLine {
@@ -47,7 +50,8 @@ impl<'a, V: View> Viewer<'a, V> {
         })
     }
 
-    /// Puts the items that are visible.
+    /// Puts the items that are visible. Items side by side have numbers side by side, so all are
+    /// looked for just below the last one's number.
     pub(crate) fn put_items<S: LineSink, L: Ledger>(
         &self,
         depth: u128,
@@ -61,15 +65,36 @@ impl<'a, V: View> Viewer<'a, V> {
             (all_item_lines self.now.unit.now (seen_by (V.persons_of self.now.view.now)
             (V.cells_of self.now.view.now)) self.now.person.0 depth items.now)) }
         ensures err { IsErr result → S.can_fail ≡ true }
-        ensures kept { S.kept lines.new ≡ S.kept lines.old }
-        ensures room { S.room lines.old ≤ S.room lines.new }
         ensures cost { steps.new ≤ steps.old + length (items_looks self.now.unit.now
             self.now.person.0 items.now) }
     {
+        let last = self.last_number(items);
+        let mut behind = items.len();
         for item in items {
-            self.put_item(depth, item, lines, steps)?;
+            behind -= 1;
+            let guess = self.number_before(last, behind);
+            self.put_item(depth, item, guess, lines, steps)?;
         }
         Ok(())
+    }
+
+    /// The number of the last item, if it has one.
+    fn last_number(&self, items: &[Item]) -> Option<ThingNo>
+        ensures { IfSome result (IsThing self.now.unit.now) }
+    {
+        match self.names.number(&items.last()?.identifier)? {
+            Named::Thing(thing) => Some(thing),
+            Named::Role(_) | Named::Prop(_) | Named::Unit => None,
+        }
+    }
+
+    /// The number of a thing that is so many before the last one, if there is such a number.
+    fn number_before(&self, last: Option<ThingNo>, behind: usize) -> Option<ThingNo>
+        requires { IfSome last (IsThing self.now.unit.now) }
+        ensures { IfSome result (IsThing self.now.unit.now) }
+    {
+        let number = (last?.0 as usize).checked_sub(behind)?;
+        Some(ThingNo(number as u32))
     }
 
     /// Puts the feedback of a thing that is done.
@@ -88,8 +113,6 @@ impl<'a, V: View> Viewer<'a, V> {
             (V.persons_of self.now.view.now) (V.cells_of self.now.view.now)) self.now.person.0
             depth (feedback_of follows.now)))) }
         ensures err { IsErr result → S.can_fail ≡ true }
-        ensures kept { S.kept lines.new ≡ S.kept lines.old }
-        ensures room { S.room lines.old ≤ S.room lines.new }
         ensures cost { steps.new ≤ steps.old + length (feedback_looks self.now.unit.now
             self.now.person.0 follows.now) }
     {
@@ -119,8 +142,6 @@ impl<'a, V: View> Viewer<'a, V> {
             self.now.unit.now (seen_by (V.persons_of self.now.view.now)
             (V.cells_of self.now.view.now)) self.now.person.0 depth object.now)) }
         ensures err { IsErr result → S.can_fail ≡ true }
-        ensures kept { S.kept lines.new ≡ S.kept lines.old }
-        ensures room { S.room lines.old ≤ S.room lines.new }
         ensures cost { steps.new ≤ steps.old + length (object_looks self.now.unit.now
             self.now.person.0 object.now) }
     {
@@ -152,8 +173,6 @@ impl<'a, V: View> Viewer<'a, V> {
             (object_lines self.now.unit.now (seen_by (V.persons_of self.now.view.now)
             (V.cells_of self.now.view.now)) self.now.person.0 depth) objects.now)) }
         ensures err { IsErr result → S.can_fail ≡ true }
-        ensures kept { S.kept lines.new ≡ S.kept lines.old }
-        ensures room { S.room lines.old ≤ S.room lines.new }
         ensures cost { steps.new ≤ steps.old + length (flat_map (object_looks self.now.unit.now
             self.now.person.0) objects.now) }
     {
@@ -177,8 +196,6 @@ impl<'a, V: View> Viewer<'a, V> {
             self.now.unit.now (seen_by (V.persons_of self.now.view.now)
             (V.cells_of self.now.view.now)) self.now.person.0 depth service.now)) }
         ensures err { IsErr result → S.can_fail ≡ true }
-        ensures kept { S.kept lines.new ≡ S.kept lines.old }
-        ensures room { S.room lines.old ≤ S.room lines.new }
         ensures cost { steps.new ≤ steps.old + length (service_looks self.now.unit.now
             self.now.person.0 service.now) }
     {
@@ -208,8 +225,6 @@ impl<'a, V: View> Viewer<'a, V> {
             (service_lines self.now.unit.now (seen_by (V.persons_of self.now.view.now)
             (V.cells_of self.now.view.now)) self.now.person.0 depth) services.now)) }
         ensures err { IsErr result → S.can_fail ≡ true }
-        ensures kept { S.kept lines.new ≡ S.kept lines.old }
-        ensures room { S.room lines.old ≤ S.room lines.new }
         ensures cost { steps.new ≤ steps.old + length (flat_map (service_looks self.now.unit.now
             self.now.person.0) services.now) }
     {
@@ -238,15 +253,16 @@ impl<'a, V: View> Viewer<'a, V> {
             (environment_lines left self.now.unit.now (seen_by (V.persons_of self.now.view.now)
             (V.cells_of self.now.view.now)) self.now.person.0 depth id.now)) }
         ensures err { IsErr result → S.can_fail ≡ true }
-        ensures kept { S.kept lines.new ≡ S.kept lines.old }
-        ensures room { S.room lines.old ≤ S.room lines.new }
         ensures cost { steps.new ≤ steps.old + length (environment_looks left self.now.unit.now
             self.now.person.0 id.now) }
     {
-        if left == 0 || !self.is_visible(id, steps) {
+        if left == 0 {
             return Ok(());
         }
-        match self.environment(id) {
+        let Some(place) = self.visible_place(id, steps) else {
+            return Ok(());
+        };
+        match self.environment_at(place) {
             Some(environment) => self.put_within(left - 1, depth, id, environment, lines, steps),
             None => Ok(()),
         }
@@ -273,8 +289,6 @@ impl<'a, V: View> Viewer<'a, V> {
             self.now.unit.now (seen_by (V.persons_of self.now.view.now)
             (V.cells_of self.now.view.now)) self.now.person.0 (depth + 1)) id.now environment.now)) }
         ensures err { IsErr result → S.can_fail ≡ true }
-        ensures kept { S.kept lines.new ≡ S.kept lines.old }
-        ensures room { S.room lines.old ≤ S.room lines.new }
         ensures cost { steps.new ≤ steps.old + length (within_looks self.now.unit.now
             self.now.person.0 (environment_looks left self.now.unit.now self.now.person.0)
             environment.now) }
@@ -315,8 +329,6 @@ impl<'a, V: View> Viewer<'a, V> {
             (environment_lines left self.now.unit.now (seen_by (V.persons_of self.now.view.now)
             (V.cells_of self.now.view.now)) self.now.person.0 depth) ids.now)) }
         ensures err { IsErr result → S.can_fail ≡ true }
-        ensures kept { S.kept lines.new ≡ S.kept lines.old }
-        ensures room { S.room lines.old ≤ S.room lines.new }
         ensures cost { steps.new ≤ steps.old + length (flat_map (environment_looks left
             self.now.unit.now self.now.person.0) ids.now) }
     {
@@ -341,8 +353,6 @@ impl<'a, V: View> Viewer<'a, V> {
             (all_environment_lines self.now.unit.now (seen_by (V.persons_of self.now.view.now)
             (V.cells_of self.now.view.now)) self.now.person.0 depth ids.now)) }
         ensures err { IsErr result → S.can_fail ≡ true }
-        ensures kept { S.kept lines.new ≡ S.kept lines.old }
-        ensures room { S.room lines.old ≤ S.room lines.new }
         ensures cost { steps.new ≤ steps.old + length (environments_looks self.now.unit.now
             self.now.person.0 ids.now) }
     {

@@ -1,5 +1,5 @@
 //! Looking for an activity among the lines of a tree.
-ghost use Rattle.std.specs.Prelude.{◌≡◌, [], false};
+ghost use Rattle.std.specs.Prelude.{◌≡◌, false};
 ghost use Rattle.ld_tree.specs.LineView.{line_view};
 ghost use Rattle.ld_tree.specs.Telling.{Asked, asked_after};
 ghost use Rattle.ld_tree.specs.Tree.{tells_open};
@@ -21,10 +21,6 @@ impl LineSink for Finder<'_> {
     ghost told = { λ f. record { identifier = f.activity.now; found = f.found } };
 
     ghost after = { asked_after };
-
-    ghost kept = { λ f. [] };
-
-    ghost room = { λ f. 0 };
 
     ghost can_fail = { false };
 

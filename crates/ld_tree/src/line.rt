@@ -1,5 +1,5 @@
 //! A line of a tree, and what takes lines.
-ghost use Rattle.std.specs.Prelude.{◌≡◌, ◌≤◌, ℕ, Bool, true, List, OnOk, IsErr};
+ghost use Rattle.std.specs.Prelude.{◌≡◌, Bool, true, OnOk, IsErr};
 ghost use Rattle.ld_tree.specs.LineView.{line_view};
 ghost use Rattle.ld_tree.specs.Lines.{TreeLine as Line};
 
@@ -20,9 +20,8 @@ pub(crate) struct TreeLine<'a> {
     pub(crate) title: Option<&'a PlainText>,
 }
 
-/// Who is told the lines of a tree, one after another. It means what was told so far, and what that is
-/// after one more line; what every call keeps, even one that fails; a room, which never falls; and
-/// whether a call can fail at all, which is for want of memory alone.
+/// Who is told the lines of a tree, one after another. It means what was told so far, what that is
+/// after one more line, and whether a call can fail at all, which is for want of memory alone.
 pub(crate) trait LineSink {
     ghost Told: { Type 0 };
 
@@ -30,16 +29,10 @@ pub(crate) trait LineSink {
 
     ghost after: { Told → Line → Told };
 
-    ghost kept: { Self → List ℕ };
-
-    ghost room: { Self → ℕ };
-
     ghost can_fail: { Bool };
 
     /// Takes a line.
     fn put(&mut self, line: &TreeLine<'_>) -> Result<(), NoMemory>
         ensures ok { OnOk result (told self.new ≡ after (told self.old) (line_view line.now)) }
-        ensures err { IsErr result → can_fail ≡ true }
-        ensures kept { kept self.new ≡ kept self.old }
-        ensures room { room self.old ≤ room self.new };
+        ensures err { IsErr result → can_fail ≡ true };
 }

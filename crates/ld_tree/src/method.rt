@@ -32,8 +32,6 @@ impl<'a, V: View> Viewer<'a, V> {
             self.now.unit.now (seen_by (V.persons_of self.now.view.now)
             (V.cells_of self.now.view.now)) self.now.person.0 part.now)) }
         ensures err { IsErr result → S.can_fail ≡ true }
-        ensures kept { S.kept lines.new ≡ S.kept lines.old }
-        ensures room { S.room lines.old ≤ S.room lines.new }
         ensures cost { steps.new ≤ steps.old + length (part_looks self.now.unit.now
             self.now.person.0 part.now) }
     {
@@ -65,8 +63,6 @@ impl<'a, V: View> Viewer<'a, V> {
             (part_lines self.now.unit.now (seen_by (V.persons_of self.now.view.now)
             (V.cells_of self.now.view.now)) self.now.person.0) parts.now)) }
         ensures err { IsErr result → S.can_fail ≡ true }
-        ensures kept { S.kept lines.new ≡ S.kept lines.old }
-        ensures room { S.room lines.old ≤ S.room lines.new }
         ensures cost { steps.new ≤ steps.old + length (flat_map (part_looks self.now.unit.now
             self.now.person.0) parts.now) }
     {
@@ -89,8 +85,6 @@ impl<'a, V: View> Viewer<'a, V> {
             (done_act_lines self.now.unit.now (seen_by (V.persons_of self.now.view.now)
             (V.cells_of self.now.view.now)) self.now.person.0 act.now)) }
         ensures err { IsErr result → S.can_fail ≡ true }
-        ensures kept { S.kept lines.new ≡ S.kept lines.old }
-        ensures room { S.room lines.old ≤ S.room lines.new }
         ensures cost { steps.new ≤ steps.old + length (done_act_looks self.now.unit.now
             self.now.person.0 act.now) }
     {
@@ -120,8 +114,6 @@ impl<'a, V: View> Viewer<'a, V> {
             (done_act_lines self.now.unit.now (seen_by (V.persons_of self.now.view.now)
             (V.cells_of self.now.view.now)) self.now.person.0) acts.now)) }
         ensures err { IsErr result → S.can_fail ≡ true }
-        ensures kept { S.kept lines.new ≡ S.kept lines.old }
-        ensures room { S.room lines.old ≤ S.room lines.new }
         ensures cost { steps.new ≤ steps.old + length (flat_map (done_act_looks self.now.unit.now
             self.now.person.0) acts.now) }
     {
@@ -144,8 +136,6 @@ impl<'a, V: View> Viewer<'a, V> {
             (open_act_lines self.now.unit.now (seen_by (V.persons_of self.now.view.now)
             (V.cells_of self.now.view.now)) self.now.person.0 act.now)) }
         ensures err { IsErr result → S.can_fail ≡ true }
-        ensures kept { S.kept lines.new ≡ S.kept lines.old }
-        ensures room { S.room lines.old ≤ S.room lines.new }
         ensures cost { steps.new ≤ steps.old + length (open_act_looks self.now.unit.now
             self.now.person.0 act.now) }
     {
@@ -177,8 +167,6 @@ impl<'a, V: View> Viewer<'a, V> {
             self.now.unit.now (seen_by (V.persons_of self.now.view.now)
             (V.cells_of self.now.view.now)) self.now.person.0 act)) acts.now))) }
         ensures err { IsErr result → S.can_fail ≡ true }
-        ensures kept { S.kept lines.new ≡ S.kept lines.old }
-        ensures room { S.room lines.old ≤ S.room lines.new }
         ensures cost { steps.new ≤ steps.old + length (flat_map (act_looks self.now.unit.now
             self.now.person.0) acts.now) }
     {
@@ -203,8 +191,6 @@ impl<'a, V: View> Viewer<'a, V> {
             (current_act_lines self.now.unit.now (seen_by (V.persons_of self.now.view.now)
             (V.cells_of self.now.view.now)) self.now.person.0 play.now)) }
         ensures err { IsErr result → S.can_fail ≡ true }
-        ensures kept { S.kept lines.new ≡ S.kept lines.old }
-        ensures room { S.room lines.old ≤ S.room lines.new }
         ensures cost { steps.new ≤ steps.old + length (current_act_looks self.now.unit.now
             self.now.person.0 play.now) }
     {
@@ -228,8 +214,6 @@ impl<'a, V: View> Viewer<'a, V> {
             self.now.unit.now (seen_by (V.persons_of self.now.view.now)
             (V.cells_of self.now.view.now)) self.now.person.0 play.now)) }
         ensures err { IsErr result → S.can_fail ≡ true }
-        ensures kept { S.kept lines.new ≡ S.kept lines.old }
-        ensures room { S.room lines.old ≤ S.room lines.new }
         ensures cost { steps.new ≤ steps.old + length (play_looks self.now.unit.now
             self.now.person.0 play.now) }
     {
@@ -264,8 +248,6 @@ impl<'a, V: View> Viewer<'a, V> {
             self.now.unit.now (seen_by (V.persons_of self.now.view.now)
             (V.cells_of self.now.view.now)) self.now.person.0 play.now)) }
         ensures err { IsErr result → S.can_fail ≡ true }
-        ensures kept { S.kept lines.new ≡ S.kept lines.old }
-        ensures room { S.room lines.old ≤ S.room lines.new }
         ensures cost { steps.new ≤ steps.old + length (flat_map (done_act_looks self.now.unit.now
             self.now.person.0) play.now.acts ++ current_act_looks self.now.unit.now
             self.now.person.0 play.now) }
@@ -287,8 +269,6 @@ impl<'a, V: View> Viewer<'a, V> {
             (play_lines self.now.unit.now (seen_by (V.persons_of self.now.view.now)
             (V.cells_of self.now.view.now)) self.now.person.0) plays.now)) }
         ensures err { IsErr result → S.can_fail ≡ true }
-        ensures kept { S.kept lines.new ≡ S.kept lines.old }
-        ensures room { S.room lines.old ≤ S.room lines.new }
         ensures cost { steps.new ≤ steps.old + length (flat_map (play_looks self.now.unit.now
             self.now.person.0) plays.now) }
     {
@@ -311,8 +291,6 @@ impl<'a, V: View> Viewer<'a, V> {
             self.now.unit.now (seen_by (V.persons_of self.now.view.now)
             (V.cells_of self.now.view.now)) self.now.person.0)) }
         ensures err { IsErr result → S.can_fail ≡ true }
-        ensures kept { S.kept lines.new ≡ S.kept lines.old }
-        ensures room { S.room lines.old ≤ S.room lines.new }
         ensures cost { steps.new ≤ steps.old + length (tree_looks self.now.unit.now
             self.now.person.0) }
     {

@@ -1,9 +1,9 @@
 //! Printing the lines of a tree.
-ghost use Rattle.std.specs.Prelude.{◌≡◌, ◌≤◌, ◌++◌, ◌∷◌, true, length, take, OnOk, IsErr, option_copied};
-ghost use Rattle.ld_base.specs.Roomy.{KeepsRoom, room_of};
+ghost use Rattle.std.specs.Prelude.{◌≡◌, ◌++◌, ◌∷◌, [], true, OnOk, IfSome, IsErr, option_copied, string_bytes};
 ghost use Rattle.ld_tree.specs.LineView.{line_view, note_text};
 ghost use Rattle.ld_tree.specs.Lines.{indent, line_text, spaced, title_text};
-ghost use Rattle.ld_tree.specs.Telling.{KeepsFront, Printed, printed_after};
+ghost use Rattle.ld_tree.specs.Plain.{is_plain, is_plain_byte, plain_text};
+ghost use Rattle.ld_tree.specs.Telling.{Printed, printed_after};
 
 use crate::line::{LineSink, TreeLine};
 use ld_base::memory::NoMemory;
@@ -12,29 +12,23 @@ use ld_base::text::Text;
 use ld_json::print::print_text;
 use std::alloc::Global;
 
-/// Prints the lines into a text, and counts them.
+/// Prints the lines, and counts them.
 #[derive(Drop)]
 pub(crate) struct Printer {
     alloc: Global,
-    text: Text,
-    /// The length of the text before the first line.
-    start: usize,
+    text: String,
     lines: u32,
-    ghost within: { start ≤ length text.bytes },
 }
 
 impl Printer {
-    /// Prints behind what stands in the text.
-    pub(crate) fn behind(alloc: Global, text: Text) -> Printer
-        ensures text { result.text ≡ text }
-        ensures start { result.start ≡ length text.bytes }
+    /// A printer that has printed nothing.
+    pub(crate) fn new(alloc: Global) -> Printer
+        ensures text { string_bytes result.text ≡ [] }
         ensures lines { result.lines ≡ 0 }
     {
-        let start = text.as_str().len();
         Printer {
             alloc,
-            text,
-            start,
+            text: String::new(alloc),
             lines: 0,
         }
     }
@@ -46,24 +40,20 @@ impl Printer {
         self.lines
     }
 
-    /// The text with the lines.
-    pub(crate) fn into_text(self) -> Text
-        ensures { result ≡ self.text }
+    /// The lines, each behind the end of the line before it.
+    pub(crate) fn text(&self) -> &str
+        ensures { result.now ≡ string_bytes self.now.text }
     {
-        self.text
+        self.text.as_str()
     }
 }
 
 impl LineSink for Printer {
     ghost Told = { Printed };
 
-    ghost told = { λ p. record { bytes = p.text.bytes; count = p.lines } };
+    ghost told = { λ p. record { bytes = string_bytes p.text; count = p.lines } };
 
     ghost after = { printed_after };
-
-    ghost kept = { λ p. take p.start p.text.bytes };
-
-    ghost room = { λ p. room_of p.text };
 
     ghost can_fail = { true };
 
@@ -77,66 +67,123 @@ impl LineSink for Printer {
     }
 }
 
-/// Appends the line behind the end of the line before it. Where memory is wanting a beginning of it
-/// may stand there.
-fn push_line(alloc: Global, line: &TreeLine<'_>, out: &mut Text) -> Result<(), NoMemory>
-    ensures ok { OnOk result (out.new.bytes ≡ out.old.bytes ++ 10 ∷ line_text (line_view line.now)) }
-    ensures front { KeepsFront out.old.bytes out.new.bytes }
-    ensures room { KeepsRoom out.old out.new }
+/// Appends the line behind the end of the line before it.
+fn push_line(alloc: Global, line: &TreeLine<'_>, out: &mut String) -> Result<(), NoMemory>
+    ensures { OnOk result (string_bytes out.new
+        ≡ string_bytes out.old ++ 10 ∷ line_text (line_view line.now)) }
 {
-    out.push("\n")?;
-    push_indent(line.depth, out)?;
+    push_start(line.depth, out)?;
     push_words(line, out)?;
     push_title(alloc, line.title, out)
 }
 
-/// Appends the words of the line.
-#[tactic(auto, using(crate::proofs::Words::words_text))]
-fn push_words(line: &TreeLine<'_>, out: &mut Text) -> Result<(), NoMemory>
-    ensures ok { OnOk result (out.new.bytes ≡ out.old.bytes ++ spaced (line_view line.now).words) }
-    ensures front { KeepsFront out.old.bytes out.new.bytes }
-    ensures room { KeepsRoom out.old out.new }
+/// Appends the end of the line before, and two spaces for each step of depth.
+fn push_start(depth: u128, out: &mut String) -> Result<(), NoMemory>
+    ensures { OnOk result (string_bytes out.new ≡ string_bytes out.old ++ 10 ∷ indent depth) }
 {
-    out.push(line.word)?;
-    out.push(" ")?;
-    out.push(line.identifier.as_str())?;
-    push_note(line.note, out)
+    let Some(start) = start_of(depth) else {
+        out.push('\n')?;
+        return push_indent(depth, out);
+    };
+    out.push_str(start)?;
+    Ok(())
+}
+
+/// The text of `push_start`, for the depths at which most lines stand.
+fn start_of(depth: u128) -> Option<&'static str>
+    ensures { IfSome result (λ start. start.now ≡ 10 ∷ indent depth) }
+{
+    match depth {
+        0 => Some("\n"),
+        1 => Some("\n  "),
+        2 => Some("\n    "),
+        3 => Some("\n      "),
+        4 => Some("\n        "),
+        5 => Some("\n          "),
+        6 => Some("\n            "),
+        7 => Some("\n              "),
+        8 => Some("\n                "),
+        _ => None,
+    }
 }
 
 /// Appends two spaces for each step of depth.
-fn push_indent(depth: u128, out: &mut Text) -> Result<(), NoMemory>
-    ensures ok { OnOk result (out.new.bytes ≡ out.old.bytes ++ indent depth) }
-    ensures front { KeepsFront out.old.bytes out.new.bytes }
-    ensures room { KeepsRoom out.old out.new }
+fn push_indent(depth: u128, out: &mut String) -> Result<(), NoMemory>
+    ensures { OnOk result (string_bytes out.new ≡ string_bytes out.old ++ indent depth) }
 {
     for _step in 0..depth {
-        out.push("  ")?;
+        out.push_str("  ")?;
     }
     Ok(())
 }
 
+/// Appends the words of the line.
+#[tactic(auto, using(crate::proofs::Words::words_text))]
+fn push_words(line: &TreeLine<'_>, out: &mut String) -> Result<(), NoMemory>
+    ensures { OnOk result (string_bytes out.new
+        ≡ string_bytes out.old ++ spaced (line_view line.now).words) }
+{
+    out.push_str(line.word)?;
+    out.push(' ')?;
+    out.push_str(line.identifier.as_str())?;
+    push_note(line.note, out)
+}
+
 /// Appends what is noted behind the identifier, if there is something, behind a space.
-fn push_note(note: Option<&str>, out: &mut Text) -> Result<(), NoMemory>
-    ensures ok { OnOk result (out.new.bytes ≡ out.old.bytes ++ note_text (option_copied note.entry)) }
-    ensures front { KeepsFront out.old.bytes out.new.bytes }
-    ensures room { KeepsRoom out.old out.new }
+fn push_note(note: Option<&str>, out: &mut String) -> Result<(), NoMemory>
+    ensures { OnOk result (string_bytes out.new
+        ≡ string_bytes out.old ++ note_text (option_copied note.entry)) }
 {
     let Some(note) = note else {
         return Ok(());
     };
-    out.push(" ")?;
-    out.push(note)
+    out.push(' ')?;
+    out.push_str(note)?;
+    Ok(())
 }
 
 /// Appends a title, if there is one, behind a space.
-fn push_title(alloc: Global, title: Option<&PlainText>, out: &mut Text) -> Result<(), NoMemory>
-    ensures ok { OnOk result (out.new.bytes ≡ out.old.bytes ++ title_text (option_copied title.entry)) }
-    ensures front { KeepsFront out.old.bytes out.new.bytes }
-    ensures room { KeepsRoom out.old out.new }
+#[tactic(auto, using(crate::proofs::Plain::plain_title))]
+fn push_title(alloc: Global, title: Option<&PlainText>, out: &mut String) -> Result<(), NoMemory>
+    ensures { OnOk result (string_bytes out.new
+        ≡ string_bytes out.old ++ title_text (option_copied title.entry)) }
 {
     let Some(title) = title else {
         return Ok(());
     };
-    out.push(" ")?;
-    print_text(alloc, title.as_str(), out)
+    let title = title.as_str();
+    if is_plain(title.as_bytes()) {
+        return push_plain(title, out);
+    }
+    let mut printed = Text::new(alloc);
+    print_text(alloc, title, &mut printed)?;
+    out.push(' ')?;
+    out.push_str(printed.as_str())?;
+    Ok(())
+}
+
+/// Appends the text between quotes, behind a space.
+fn push_plain(text: &str, out: &mut String) -> Result<(), NoMemory>
+    ensures { OnOk result (string_bytes out.new ≡ string_bytes out.old ++ plain_text text.now) }
+{
+    out.push(' ')?;
+    out.push('"')?;
+    out.push_str(text)?;
+    out.push('"')?;
+    Ok(())
+}
+
+/// Whether the bytes need no escapes in a JSON text.
+fn is_plain(bytes: &[u8]) -> bool
+    ensures { result ≡ is_plain bytes.now }
+{
+    bytes.iter().all(|byte| is_plain_byte(*byte))
+}
+
+/// Whether the byte needs no escape in a JSON text: it is no quote, no backslash, and no control
+/// character.
+fn is_plain_byte(byte: u8) -> bool
+    ensures { result ≡ is_plain_byte byte }
+{
+    byte != b'"' && byte != b'\\' && byte >= 0x20
 }

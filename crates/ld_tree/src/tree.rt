@@ -20,7 +20,6 @@ use ld_model::unit::Unit;
 use ld_model::view::View;
 use ld_names::names::Names;
 use std::alloc::Global;
-use std::mem::replace;
 use std::sync::ledger::Ledger;
 
 /// Appends the lines of the person's tree, each behind the end of the line before it, and gives their
@@ -52,12 +51,10 @@ pub fn tree_text<'a, V: View, L: Ledger>(
         view,
         person,
     };
-    let mut printer = Printer::behind(alloc, replace(out, Text::new(alloc)));
-    let put = viewer.put_tree(&mut printer, steps);
-    let count = printer.count();
-    *out = printer.into_text();
-    put?;
-    Ok(count)
+    let mut printer = Printer::new(alloc);
+    viewer.put_tree(&mut printer, steps)?;
+    out.push(printer.text())?;
+    Ok(printer.count())
 }
 
 /// Whether the activity of this identifier is open for the person: whether a line of the person's tree

@@ -1,17 +1,18 @@
 //! What a person sees of a run.
-ghost use Rattle.std.specs.Prelude.{◌≡◌, ◌+◌, ◌≤◌, length, option_copied};
+ghost use Rattle.std.specs.Prelude.{◌≡◌, ◌+◌, ◌≤◌, length, option_copied, option_map, true, false, Some, IfSome, IfNone};
 ghost use Rattle.ld_expr.specs.Done.{is_done};
-ghost use Rattle.ld_expr.specs.Lookup.{activity_named, environment_named, place_named, structure_named};
+ghost use Rattle.ld_expr.specs.Lookup.{activity_at, environment_at, place_named, structure_at};
 ghost use Rattle.ld_expr.specs.Looks.{member_looks};
 ghost use Rattle.ld_expr.specs.Membership.{is_member_of};
 ghost use Rattle.ld_expr.specs.Owners.{of_person};
 ghost use Rattle.ld_expr.specs.Viewing.{HasCells, seen_by};
-ghost use Rattle.ld_names.specs.Names.{names_of};
+ghost use Rattle.ld_names.specs.Names.{names_of, thing_number};
+ghost use Rattle.ld_tree.specs.Things.{IsThing};
 ghost use Rattle.ld_tree.specs.Tree.{is_visible};
 ghost use Rattle.ld_tree.specs.TreeLooks.{visible_looks, own_done_looks};
 
 use ld_base::id::Id;
-use ld_base::numbers::PersonNo;
+use ld_base::numbers::{PersonNo, ThingNo};
 use ld_base::steps::Steps;
 use ld_expr::cells::{says_yes, thing_number};
 use ld_expr::done::is_done;
@@ -53,6 +54,44 @@ impl<'a, V: View> Viewer<'a, V> {
         }
     }
 
+    /// Whether the thing of this identifier is visible for the person, as `is_visible` says. Its number
+    /// is looked for at the guess first.
+    pub(crate) fn is_visible_near<L: Ledger>(
+        &self,
+        guess: Option<ThingNo>,
+        id: &Id,
+        steps: &mut Steps<L>,
+    ) -> bool
+        requires guess { IfSome guess (IsThing self.now.unit.now) }
+        requires cells { HasCells (V.has_cell self.now.view.now)
+            (visible_looks self.now.unit.now self.now.person.0 id.now) }
+        ensures value { result ≡ is_visible self.now.unit.now
+            (seen_by (V.persons_of self.now.view.now) (V.cells_of self.now.view.now))
+            self.now.person.0 id.now }
+        ensures cost { steps.new
+            ≤ steps.old + length (visible_looks self.now.unit.now self.now.person.0 id.now) }
+    {
+        match self.number_near(guess, id) {
+            Some(thing) => says_yes(self.view, CellName::Vis(thing, self.person), steps),
+            None => false,
+        }
+    }
+
+    /// The number of the thing of this identifier; None exactly where there is none. Where the guess is
+    /// right it is not looked up.
+    fn number_near(&self, guess: Option<ThingNo>, id: &Id) -> Option<ThingNo>
+        requires { IfSome guess (IsThing self.now.unit.now) }
+        ensures { option_map (λ thing. thing.0) result ≡ thing_number self.now.unit.now id.now }
+    {
+        let Some(thing) = guess else {
+            return thing_number(self.unit, self.names, id);
+        };
+        if *self.names.id(Named::Thing(thing)) == *id {
+            return Some(thing);
+        }
+        thing_number(self.unit, self.names, id)
+    }
+
     /// Whether the thing of this identifier is done for the person.
     pub(crate) fn is_done<L: Ledger>(&self, id: &Id, steps: &mut Steps<L>) -> bool
         requires { HasCells (V.has_cell self.now.view.now)
@@ -82,42 +121,55 @@ impl<'a, V: View> Viewer<'a, V> {
         is_member_of(self.unit, self.names, self.view, role, self.person, steps)
     }
 
-    /// Where the thing of this identifier stands in the unit; None exactly where there is none.
-    pub(crate) fn place(&self, id: &Id) -> Option<Place>
-        ensures { result ≡ place_named self.now.unit.now id.now }
+    /// Where the thing of this identifier stands in the unit, if it is visible for the person.
+    pub(crate) fn visible_place<L: Ledger>(&self, id: &Id, steps: &mut Steps<L>) -> Option<Place>
+        requires { HasCells (V.has_cell self.now.view.now)
+            (visible_looks self.now.unit.now self.now.person.0 id.now) }
+        ensures shown { IfSome result (λ place. is_visible self.now.unit.now
+            (seen_by (V.persons_of self.now.view.now) (V.cells_of self.now.view.now))
+            self.now.person.0 id.now ≡ true) }
+        ensures place { IfSome result (λ place. place_named self.now.unit.now id.now ≡ Some place) }
+        ensures hidden { IfNone result (is_visible self.now.unit.now
+            (seen_by (V.persons_of self.now.view.now) (V.cells_of self.now.view.now))
+            self.now.person.0 id.now ≡ false) }
+        ensures cost { steps.new
+            ≤ steps.old + length (visible_looks self.now.unit.now self.now.person.0 id.now) }
     {
         let Named::Thing(thing) = self.names.number(id)? else {
             return None;
         };
+        if !says_yes(self.view, CellName::Vis(thing, self.person), steps) {
+            return None;
+        }
         Some(self.names.place(thing))
     }
 
-    /// The environment that the identifier names; None exactly where it names none.
-    pub(crate) fn environment(&self, id: &Id) -> Option<&'a Environment>
-        ensures { option_copied result ≡ environment_named self.now.unit.now id.now }
+    /// The activity at the place; None exactly where there is none.
+    pub(crate) fn activity_at(&self, place: Place) -> Option<&'a Activity>
+        ensures { option_copied result ≡ activity_at self.now.unit.now place }
     {
-        match self.place(id)? {
-            Place::Environment(e) => self.unit.environments.get(e as usize),
-            _ => None,
-        }
-    }
-
-    /// The activity that the identifier names; None exactly where it names none.
-    pub(crate) fn activity(&self, id: &Id) -> Option<&'a Activity>
-        ensures { option_copied result ≡ activity_named self.now.unit.now id.now }
-    {
-        match self.place(id)? {
+        match place {
             Place::Activity(a) => self.unit.activities.get(a as usize),
             _ => None,
         }
     }
 
-    /// The structure that the identifier names; None exactly where it names none.
-    pub(crate) fn structure(&self, id: &Id) -> Option<&'a Structure>
-        ensures { option_copied result ≡ structure_named self.now.unit.now id.now }
+    /// The structure at the place; None exactly where there is none.
+    pub(crate) fn structure_at(&self, place: Place) -> Option<&'a Structure>
+        ensures { option_copied result ≡ structure_at self.now.unit.now place }
     {
-        match self.place(id)? {
+        match place {
             Place::Structure(s) => self.unit.structures.get(s as usize),
+            _ => None,
+        }
+    }
+
+    /// The environment at the place; None exactly where there is none.
+    pub(crate) fn environment_at(&self, place: Place) -> Option<&'a Environment>
+        ensures { option_copied result ≡ environment_at self.now.unit.now place }
+    {
+        match place {
+            Place::Environment(e) => self.unit.environments.get(e as usize),
             _ => None,
         }
     }

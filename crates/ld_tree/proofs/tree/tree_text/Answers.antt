@@ -1,4 +1,4 @@
-use Rattle.std.proofs.Common.{◌∙◌, ap, refl, zero-add}
+use Rattle.std.proofs.Common.{◌∙◌, ap, refl, string_bytes, zero-add}
 use Rattle.ld_expr.specs.Viewing.{seen_by}
 use Rattle.ld_tree.proofs.Told.{printed_bytes, printed_count}
 use Rattle.ld_tree.specs.Telling.{Printed}
@@ -7,14 +7,14 @@ use Rattle.ld_tree.proofs.tree.tree_text.Goals as goal
 
 pub returns-clause-text : goal.returns-clause-text
 returns-clause-text g c =
-    let first : Printed = record { bytes = c.behind-printer.result.text.bytes; count = c.behind-printer.result.lines } in
+    let first : Printed = record { bytes = string_bytes c.new-printer.result.text; count = c.new-printer.result.lines } in
     let lines = tree_lines c.args.unit.now (seen_by (g.V.View.persons_of c.args.view.now) (g.V.View.cells_of c.args.view.now)) c.args.person.0 in
-    let printed = ap (λ (a : Printed). a.bytes) c.in_ok-put.ensures.ok ∙ printed_bytes first lines in
-    rw (c.into_text.ensures, printed, c.behind-printer.ensures.text, c.replace.ensures.value) refl
+    let printed = ap (λ (a : Printed). a.bytes) c.in_ok-put_tree.ensures.ok ∙ printed_bytes first lines in
+    rw (c.in_ok-push.ensures.ok, c.text.ensures, printed, c.new-printer.ensures.text) refl
 
 pub returns-clause-count : goal.returns-clause-count
 returns-clause-count g c =
-    let first : Printed = record { bytes = c.behind-printer.result.text.bytes; count = c.behind-printer.result.lines } in
+    let first : Printed = record { bytes = string_bytes c.new-printer.result.text; count = c.new-printer.result.lines } in
     let lines = tree_lines c.args.unit.now (seen_by (g.V.View.persons_of c.args.view.now) (g.V.View.cells_of c.args.view.now)) c.args.person.0 in
-    let printed = ap (λ (a : Printed). a.count) c.in_ok-put.ensures.ok ∙ printed_count first lines in
-    rw (c.count-count.ensures, printed, c.behind-printer.ensures.lines) (zero-add _)
+    let printed = ap (λ (a : Printed). a.count) c.in_ok-put_tree.ensures.ok ∙ printed_count first lines in
+    rw (c.count.ensures, printed, c.new-printer.ensures.lines) (zero-add _)

@@ -18,7 +18,5 @@ abbrev pub invariant-put_further-loop-id : goal.invariant-put_further-loop-id
 invariant-put_further-loop-id g l = record {
   cells : HasCells (g.V.View.has_cell l.self.view.now) (flat_map (environment_looks l.left l.self.unit.now l.self.person.0) (drop l.id-index l.ids));
   told : fold g.S.LineSink.after (g.S.LineSink.told l.lines) (flat_map (environment_lines l.left l.self.unit.now (seen_by (g.V.View.persons_of l.self.view.now) (g.V.View.cells_of l.self.view.now)) l.self.person.0 l.depth) (drop l.id-index l.ids)) ≡ fold g.S.LineSink.after (g.S.LineSink.told l.fn.lines) (flat_map (environment_lines l.left l.self.unit.now (seen_by (g.V.View.persons_of l.self.view.now) (g.V.View.cells_of l.self.view.now)) l.self.person.0 l.depth) l.ids);
-  kept : g.S.LineSink.kept l.lines ≡ g.S.LineSink.kept l.fn.lines;
-  room : g.S.LineSink.room l.fn.lines ≤ g.S.LineSink.room l.lines;
   cost : l.steps + length (flat_map (environment_looks l.left l.self.unit.now l.self.person.0) (drop l.id-index l.ids)) ≤ l.fn.steps + length (flat_map (environment_looks l.left l.self.unit.now l.self.person.0) l.ids);
 }

@@ -1,7 +1,8 @@
-use Rattle.std.proofs.Common.{◌≡◌, ◌&&◌, ◌<◌, true, false, codes, not, sym, arith}
+use Rattle.std.proofs.Common.{◌≡◌, ◌&&◌, ◌<◌, true, false, Some, codes, not, sym, arith}
 use Rattle.ld_expr.specs.Done.{is_done}
+use Rattle.ld_expr.specs.Lookup.{activity_named, structure_named}
 use Rattle.ld_expr.specs.Owners.{of_person}
-use Rattle.ld_tree.specs.Tree.{is_visible, status_by, status_line}
+use Rattle.ld_tree.specs.Tree.{status_by, status_line}
 use Rattle.ld_expr.specs.Viewing.{seen_by}
 use Rattle.ld_tree.proofs.Fuel.{has_activity, target_is_activity, target_is_structure}
 use Rattle.ld_tree.proofs.Statuses.{closed_line, told_shown}
@@ -24,17 +25,19 @@ pub put_target-put_activity-requires-clause-cells :
     goal.put_target-put_activity-requires-clause-cells
 put_target-put_activity-requires-clause-cells g t c =
     let some : 0 < c.args.left = omega arith in
-    has_activity _ _ _ _ _ _ some (sym c.in-Some.ensures) c.requires.cells
+    let named : activity_named c.args.self.now.unit.now c.args.id.now ≡ Some c.in-Some-activity_at.activity.now = rw c.in-Some.ensures.place (sym c.in-Some-activity_at.ensures) in
+    has_activity _ _ _ _ _ _ some named c.requires.cells
 
-pub put_target-returns-in-Some-clause-ok : goal.put_target-returns-in-Some-clause-ok
-put_target-returns-in-Some-clause-ok g t c =
+pub put_target-returns-in-Some-activity_at-clause-ok :
+    goal.put_target-returns-in-Some-activity_at-clause-ok
+put_target-returns-in-Some-activity_at-clause-ok g t c =
     let some : 0 < c.args.left = omega arith in
-    let visible : is_visible c.args.self.now.unit.now (seen_by (g.V.View.persons_of c.args.self.now.view.now) (g.V.View.cells_of c.args.self.now.view.now)) c.args.self.now.person.0 c.args.id.now ≡ true = cc in
-    rw (target_is_activity c.args.left c.args.self.now.unit.now (seen_by (g.V.View.persons_of c.args.self.now.view.now) (g.V.View.cells_of c.args.self.now.view.now)) c.args.self.now.person.0 c.args.depth c.args.flag c.args.id.now _ some visible (sym c.in-Some.ensures)) c.put_activity.ensures.ok
+    let named : activity_named c.args.self.now.unit.now c.args.id.now ≡ Some c.in-Some-activity_at.activity.now = rw c.in-Some.ensures.place (sym c.in-Some-activity_at.ensures) in
+    rw (target_is_activity c.args.left c.args.self.now.unit.now (seen_by (g.V.View.persons_of c.args.self.now.view.now) (g.V.View.cells_of c.args.self.now.view.now)) c.args.self.now.person.0 c.args.depth c.args.flag c.args.id.now _ some c.in-Some.ensures.shown named) c.put_activity.ensures.ok
 
-pub put_target-returns-in-Some-structure-clause-ok :
-    goal.put_target-returns-in-Some-structure-clause-ok
-put_target-returns-in-Some-structure-clause-ok g t c =
+pub put_target-returns-in-Some-structure_at-clause-ok :
+    goal.put_target-returns-in-Some-structure_at-clause-ok
+put_target-returns-in-Some-structure_at-clause-ok g t c =
     let some : 0 < c.args.left = omega arith in
-    let visible : is_visible c.args.self.now.unit.now (seen_by (g.V.View.persons_of c.args.self.now.view.now) (g.V.View.cells_of c.args.self.now.view.now)) c.args.self.now.person.0 c.args.id.now ≡ true = cc in
-    rw (target_is_structure c.args.left c.args.self.now.unit.now (seen_by (g.V.View.persons_of c.args.self.now.view.now) (g.V.View.cells_of c.args.self.now.view.now)) c.args.self.now.person.0 c.args.depth c.args.flag c.args.id.now _ some visible (sym c.in-Some-structure.ensures)) c.put_structure.ensures.ok
+    let named : structure_named c.args.self.now.unit.now c.args.id.now ≡ Some c.in-Some-structure_at.structure.now = rw c.in-Some.ensures.place (sym c.in-Some-structure_at.ensures) in
+    rw (target_is_structure c.args.left c.args.self.now.unit.now (seen_by (g.V.View.persons_of c.args.self.now.view.now) (g.V.View.cells_of c.args.self.now.view.now)) c.args.self.now.person.0 c.args.depth c.args.flag c.args.id.now _ some c.in-Some.ensures.shown named) c.put_structure.ensures.ok

@@ -18,7 +18,5 @@ abbrev pub invariant-put_children-loop-child : goal.invariant-put_children-loop-
 invariant-put_children-loop-child g l = record {
   cells : HasCells (g.V.View.has_cell l.self.view.now) (flat_map (child_looks l.self.unit.now l.self.person.0 (target_looks l.left l.self.unit.now l.self.person.0)) (drop l.child-index l.children));
   told : fold g.S.LineSink.after (g.S.LineSink.told l.lines) (flat_map (target_lines l.left l.self.unit.now (seen_by (g.V.View.persons_of l.self.view.now) (g.V.View.cells_of l.self.view.now)) l.self.person.0 l.depth) (flagged l.self.unit.now (seen_by (g.V.View.persons_of l.self.view.now) (g.V.View.cells_of l.self.view.now)) l.self.person.0 l.kind l.flag (drop l.child-index l.children))) ≡ fold g.S.LineSink.after (g.S.LineSink.told l.fn.lines) (flat_map (target_lines l.left l.self.unit.now (seen_by (g.V.View.persons_of l.self.view.now) (g.V.View.cells_of l.self.view.now)) l.self.person.0 l.depth) (flagged l.self.unit.now (seen_by (g.V.View.persons_of l.self.view.now) (g.V.View.cells_of l.self.view.now)) l.self.person.0 l.kind l.fn.flag l.children));
-  kept : g.S.LineSink.kept l.lines ≡ g.S.LineSink.kept l.fn.lines;
-  room : g.S.LineSink.room l.fn.lines ≤ g.S.LineSink.room l.lines;
   cost : l.steps + length (flat_map (child_looks l.self.unit.now l.self.person.0 (target_looks l.left l.self.unit.now l.self.person.0)) (drop l.child-index l.children)) ≤ l.fn.steps + length (flat_map (child_looks l.self.unit.now l.self.person.0 (target_looks l.left l.self.unit.now l.self.person.0)) l.children);
 }

@@ -1,8 +1,7 @@
-use Rattle.std.proofs.Common.{◌≡◌, ◌+◌, ◌≤◌, drop, find, fold, length, not}
+use Rattle.std.proofs.Common.{◌≡◌, ◌+◌, ◌≤◌, drop, find, length, not}
 use Rattle.std.specs.List.{flat_map}
-use Rattle.ld_expr.specs.Lookup.{list_from}
 use Rattle.ld_expr.specs.Viewing.{HasCells, seen_by}
-use Rattle.ld_tree.specs.Tree.{is_act_done, open_act_lines}
+use Rattle.ld_tree.specs.Tree.{is_act_done}
 use Rattle.ld_tree.specs.TreeLooks.{act_looks}
 use Rattle.ld_tree.proofs.viewer.Viewer.put_first_undone.Given as goal
 
