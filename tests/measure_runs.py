@@ -15,6 +15,8 @@ processor of each, and how many times as long `ld` takes. The loads, of which LE
     e  240 conditions in a chain against the order of a sweep, so that each set takes 240 turns
     f  200,000 lines that only read, in a run of a small unit: `get` and `tick` in turn
     g  200,000 lines of which one in three asks for a small tree, one names nobody, and one is no command
+    h  the unit of a: 99 persons join a started run, and are given the role
+    i  the like with 50 persons, and 100 completions that are refused, since the activity is not open
 
 With --keep, the folders and the inputs are left in FOLDER, each below its letter.
 """
@@ -104,11 +106,18 @@ def started_run(persons):
 
 # The loads: each the documents of a folder, and the words of its lines.
 
-def load_a():
+def scoring(count):
+    """Conditions that count the first so many activities of by_choice that a person has completed."""
+    return [{"if": {"complete": f"a{number}"}, "then": [change("score", one_more("score"))]} for number in range(count)]
+
+
+def many_rules():
     """300 activities in a structure, and a condition for each of the first 297: 600 rules with the act's two."""
-    conditions = [{"if": {"complete": f"a{number}"}, "then": [change("score", one_more("score"))]}
-                  for number in range(297)]
-    unit = learner_unit("B", "all")
+    return documents(learner_unit("B", "all"), by_choice(300), [all_of(300)], [integer("score")], scoring(297))
+
+
+def load_a():
+    """The 600 rules, and commands of all sorts."""
     persons = persons_of(200)
 
     def words():
@@ -123,7 +132,7 @@ def load_a():
             else:
                 yield ["tick", "r"]
 
-    return documents(unit, by_choice(300), [all_of(300)], [integer("score")], conditions), words()
+    return many_rules(), words()
 
 
 def load_b():
@@ -139,8 +148,7 @@ def load_b():
 
 def load_c():
     """Scores that count what is completed, and a condition on the scores of all members."""
-    conditions = [{"if": {"complete": f"a{number}"}, "then": [change("score", one_more("score"))]}
-                  for number in range(30)]
+    conditions = scoring(30)
     is_high = {"greater-than": [{"property": "score"}, {"integer": "29"}]}
     conditions.append({"if": {"users-in-role": {"role": "learner", "expression": is_high}},
                        "then": [{"notify": {"roles": ["learner"]}}]})
@@ -205,7 +213,26 @@ def load_g():
     return documents(learner_unit("A", "a0"), by_choice(1)), words
 
 
-LOADS = {"a": load_a, "b": load_b, "c": load_c, "d": load_d, "e": load_e, "f": load_f, "g": load_g}
+def load_h():
+    """One person starts the run, and the others join it."""
+    first, *others = persons_of(100)
+    words = [*started_run([first]),
+             *(word for person in others for word in (["enrol", "r", person], ["assign", "r", person, "learner"]))]
+    return many_rules(), words
+
+
+def load_i():
+    """An activity of a second act, which is not open while the first one is not done."""
+    persons = persons_of(50)
+    unit = learner_unit("B", "all")
+    part = {"identifier": "later", "role": "learner", "ref": "last"}
+    unit["method"]["plays"][0]["acts"].append({"identifier": "second", "role-parts": [part]})
+    activities = [*by_choice(300), {"identifier": "last", "complete": {"user-choice": True}}]
+    words = [*started_run(persons), *(["complete", "r", persons[number % 50], "last"] for number in range(100))]
+    return documents(unit, activities, [all_of(300)], [integer("score")], scoring(290)), words
+
+
+LOADS = {"a": load_a, "b": load_b, "c": load_c, "d": load_d, "e": load_e, "f": load_f, "g": load_g, "h": load_h, "i": load_i}
 
 
 def write_load(place, load):

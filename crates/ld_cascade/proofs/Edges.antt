@@ -3,7 +3,7 @@ use Rattle.std.proofs.lemmas.Bool.{cases_eq, cases_Bool}
 use Rattle.ld_graph.specs.Table.{has}
 use Rattle.ld_graph.specs.Edges.{Edges, IsLinked, edge_room}
 use Rattle.ld_cascade.specs.System.{System, fires, due, MayFire, Lawful, IsSeenAlike}
-use Rattle.ld_cascade.specs.Wiring.{Wiring, IsWithout, HasSameRow, EdgesAre, Follows, slot_count}
+use Rattle.ld_cascade.specs.Wiring.{Wiring, IsWithout, HasSameRow, EdgesAre, Follows}
 use Rattle.ld_cascade.specs.Tidy.{IsClean, IsTidy, Tidy, Covers}
 use Rattle.ld_cascade.specs.Rooms.{read_count, HasRoomOutside}
 use Rattle.ld_cascade.proofs.Sweeps.{no_site}
@@ -105,7 +105,7 @@ edges_before {y} {s} {w} {linked} {cleared} {later} {m} v marks i out = elim (ca
   | inr ne ↦ edges_stay (v.link.others i ne) (v.tidy i (was_out v.clear later marks.keeps i out ne)).edges_are
 ]
 
-apart_outside : {y : System} {s : y.Situation} {w : Wiring} {linked : Edges} {cleared later : List Bool} {m : ℕ} → Visiting y s w linked cleared m
+pub apart_outside : {y : System} {s : y.Situation} {w : Wiring} {linked : Edges} {cleared later : List Bool} {m : ℕ} → Visiting y s w linked cleared m
     → Marks y s m linked cleared later → (i : ℕ) → has later i ≡ false → Apart y s m i
 apart_outside v marks i out k reads changes =
     let is_in = marks.readers k changes i ((edges_before v marks i out).linked k reads) in
@@ -131,20 +131,6 @@ rooms_cleared y s {table} {cleared} {m} room room' clear own more rooms i out = 
   | inl e ↦ subst (λ (n : ℕ). read_count y s n ≤ room') (sym e) own
   | inr ne ↦ let a = rooms i (sym (clear.others i ne) ∙ out) in omega arith
 ]
-
--- the room after a firing: sites outside the table read what they read before
-pub rooms_fired : {y : System} → Lawful y → {s : y.Situation} {m : ℕ} → MayFire y s m → {w : Wiring} {linked : Edges} {cleared later : List Bool} (room room' : ℕ)
-    → Visiting y s w linked cleared m → Marks y s m linked cleared later
-    → read_count y s m ≤ room' → room ≤ room' → (t : y.Situation) → t ≡ y.after s m
-    → HasRoomOutside y s w.dirty room → HasRoomOutside y t later room'
-rooms_fired {y} law {s} {m} may {w} {linked} {cleared} {later} room room' v marks own more t e rooms i out =
-    let apart = apart_outside v marks i out in
-    let before : read_count y s i ≤ room' = elim (cases_eq i m) [
-      | inl f ↦ subst (λ (n : ℕ). read_count y s n ≤ room') (sym f) own
-      | inr ne ↦ let a = rooms i (was_out v.clear later marks.keeps i out ne) in omega arith
-    ] in
-    let after : read_count y (y.after s m) i ≤ room' = subst (λ (x : List ℕ). slot_count x ≤ room') (apart_reads y law s m i may apart) before in
-    subst (λ (u : y.Situation). read_count y u i ≤ room') (sym e) after
 
 pub covers_fired : {y : System} → Lawful y → {s : y.Situation} {m : ℕ} → MayFire y s m → {w w' : Wiring}
     → Covers y s w → w'.sites ≡ w.sites → w.edges.slots ≤ w'.edges.slots → (t : y.Situation) → t ≡ y.after s m → Covers y t w'

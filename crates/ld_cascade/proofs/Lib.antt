@@ -6,8 +6,9 @@ mod Weights
 mod Goings
 mod Visits
 mod Linking
+mod Binding
 mod Sweeping
 mod Turns
-mod Restoring
-mod Touching
+pub mod Restoring
+pub mod Touching
 mod Walking

@@ -112,6 +112,10 @@ restoring_first y s w0 w room steps r u = record {
   ticks = omega arith;
 }
 
+pub restoring_sound : {y : System} {s0 s : y.Situation} {w0 w : Wiring} {room0 steps0 room steps n : ℕ}
+    → Restoring y s0 w0 room0 steps0 s w room steps n → y.IsSound s0 → y.IsSound s
+restoring_sound {y} v sound = subst (λ (u : y.Situation). y.IsSound u) (sym v.same) sound
+
 -- there is room for the next site
 pub restoring_spare : {y : System} {s0 s : y.Situation} {w0 w : Wiring} {room0 steps0 room steps n : ℕ} → Lawful y → y.IsSound s0 → Restorable y s0 w0
     → Restoring y s0 w0 room0 steps0 s w room steps n → (m : ℕ) → n ≤ m → has w.relinked m ≡ true → read_count y s m ≤ w.edges.spare

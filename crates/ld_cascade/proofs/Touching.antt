@@ -1,9 +1,11 @@
-use Rattle.std.proofs.Common.{◌≡◌, ℕ, false, List, sym, ◌∙◌, subst, inl, inr}
+use Rattle.std.proofs.Common.{◌≡◌, ℕ, ◌<◌, ◌≤◌, true, false, List, [], get_or, Contains, refl, sym, ◌∙◌, subst, arith, inl, inr}
 use Rattle.std.proofs.lemmas.Bool.{cases_Bool}
 use Rattle.ld_graph.specs.Table.{has}
+use Rattle.ld_graph.specs.Edges.{Edges}
 use Rattle.ld_cascade.specs.System.{System, Lawful, IsSeenAlike}
-use Rattle.ld_cascade.specs.Wiring.{Wiring, EdgesAre}
-use Rattle.ld_cascade.specs.Tidy.{Tidy, Changes, Touched}
+use Rattle.ld_cascade.specs.Wiring.{Wiring, IsSameTable, EdgesAre, slot_count}
+use Rattle.ld_cascade.specs.Tidy.{Tidy, Bound, Changes, Touched}
+use Rattle.ld_cascade.specs.Rooms.{HasRoomOutside}
 use Rattle.ld_cascade.proofs.Sweeps.{no_site}
 use Rattle.ld_cascade.proofs.Edges.{edges_stay}
 
@@ -39,3 +41,68 @@ tidy_touched y w s t slots old now tidy ch touched i out =
         }
       ]
     ]
+
+-- a site that reads nothing and has no edge has its reads as edges
+edges_none : (edges : Edges) (i : ℕ) (slots : List ℕ) → get_or edges.rows i [] ≡ [] → slots ≡ [] → EdgesAre edges i slots
+edges_none edges i slots row none = record {
+  named = λ k h. let a : Contains [] k = rw row at h in absurd (let lt = a.1 in omega arith);
+  linked = λ k h. let a : Contains [] k = rw none at h in absurd (let lt = a.1 in omega arith);
+  once = rw (row, none) refl;
+}
+
+-- no site has an edge and every site is dirty
+pub tidy_anew : (y : System) → Lawful y → (s : y.Situation) (wiring : Wiring) → y.IsSound s
+    → ((i : ℕ) → i < y.count s → has wiring.dirty i ≡ true) → ((i : ℕ) → get_or wiring.edges.rows i [] ≡ []) → Tidy y s wiring
+tidy_anew y law s wiring sound dirty none i out = elim (cases_Bool (y.is_site s i)) [
+  | inl there ↦ absurd (let is_in = dirty i (law.within s i sound there) in cc)
+  | inr no_site_here ↦ record {
+    marked = no_site y law s i sound no_site_here;
+    edges_are = edges_none wiring.edges i (y.reads s i) (none i) (law.no_reads s i sound no_site_here);
+  }
+]
+
+-- what is not loose after such writes was not loose, and reads what it read
+reads_touched : (y : System) → Lawful y → (s t : y.Situation) (slots : List ℕ) (old now : Wiring)
+    → Changes y s t slots → Touched y s t slots old now → (i : ℕ) → has now.loose i ≡ false → (has old.loose i ≡ false) × (y.reads s i ≡ y.reads t i)
+reads_touched y law s t slots old now ch touched i out =
+    let was_out : has old.loose i ≡ false = elim (cases_Bool (has old.loose i)) [
+      | inl is_in ↦ absurd (let still = touched.keeps_loose i is_in in cc)
+      | inr is_out ↦ is_out
+    ] in
+    let reads : y.reads s i ≡ y.reads t i = elim (cases_Bool (y.is_site s i)) [
+      | inl there ↦ law.reads_by_mark s t i ch.sound_before ch.sound_after ch.same_course there (ch.keeps_sites i there) (sym (ch.same_marks i there))
+      | inr no_site_before ↦ elim (cases_Bool (y.is_site t i)) [
+        | inl new_site ↦ absurd (let is_in = touched.fresh_loose i no_site_before new_site in cc)
+        | inr no_site_after ↦ law.no_reads s i ch.sound_before no_site_before ∙ sym (law.no_reads t i ch.sound_after no_site_after)
+      ]
+    ] in
+    (was_out, reads)
+
+-- so they leave the links bound
+pub bound_touched : (y : System) → Lawful y → (s t : y.Situation) (slots : List ℕ) (old now : Wiring)
+    → Bound y s old → Changes y s t slots → Touched y s t slots old now → Bound y t now
+bound_touched y law s t slots old now bound ch touched = record {
+  edges_are = λ i out.
+      let was = reads_touched y law s t slots old now ch touched i out in
+      edges_stay (touched.same_rows i) (subst (λ (x : List ℕ). EdgesAre old.edges i x) was.1 (bound.edges_are i was.0));
+  dirty = λ i is_in. elim (touched.only_loose i is_in) [
+    | inl was ↦ touched.keeps i (bound.dirty i was)
+    | inr is_dirty ↦ is_dirty
+  ];
+}
+
+-- and the room that there was
+pub rooms_touched : (y : System) → Lawful y → (s t : y.Situation) (slots : List ℕ) (old now : Wiring) (room : ℕ)
+    → HasRoomOutside y s old.loose room → Changes y s t slots → Touched y s t slots old now → HasRoomOutside y t now.loose room
+rooms_touched y law s t slots old now room rooms ch touched i out =
+    let was = reads_touched y law s t slots old now ch touched i out in
+    subst (λ (x : List ℕ). slot_count x ≤ room) was.1 (rooms i was.0)
+
+-- no site has an edge, every site is dirty, and the dirty sites are the loose ones
+pub bound_anew : (y : System) → Lawful y → (s : y.Situation) (wiring : Wiring) → y.IsSound s
+    → ((i : ℕ) → i < y.count s → has wiring.dirty i ≡ true) → IsSameTable wiring.dirty wiring.loose
+    → ((i : ℕ) → get_or wiring.edges.rows i [] ≡ []) → Bound y s wiring
+bound_anew y law s wiring sound dirty same none = record {
+  edges_are = λ i out. (tidy_anew y law s wiring sound dirty none i (sym (same i) ∙ out)).edges_are;
+  dirty = λ i is_in. sym (same i) ∙ is_in;
+}

@@ -6,13 +6,14 @@ use Rattle.ld_graph.specs.Edges.{Edges, edge_room}
 use Rattle.ld_cascade.specs.System.{System, fires, MayFire, Lawful}
 use Rattle.ld_cascade.specs.Settling.{Firing, fired, Sums, sums_of, plus}
 use Rattle.ld_cascade.specs.Wiring.{Wiring, IsWithout, Follows, HasSameRow, EdgesAre}
-use Rattle.ld_cascade.specs.Tidy.{Tidy, Covers}
+use Rattle.ld_cascade.specs.Tidy.{Tidy, Bound, Covers}
 use Rattle.ld_cascade.specs.Work.{weight, weight_of, visits, visits_weight, work, IsVisited, Stirs}
-use Rattle.ld_cascade.specs.Rooms.{read_count}
+use Rattle.ld_cascade.specs.Rooms.{read_count, HasRoomOutside}
 use Rattle.ld_cascade.specs.Standing.{Standing, Goes, Arrives, steps_due}
-use Rattle.ld_cascade.proofs.Edges.{Visiting, Marks, tidy_cleared, tidy_fired, rooms_cleared, rooms_fired, covers_fired, follows_same, follows_then}
+use Rattle.ld_cascade.proofs.Edges.{Visiting, Marks, tidy_cleared, tidy_fired, rooms_cleared, covers_fired, follows_same, follows_then}
 use Rattle.ld_cascade.proofs.Weights.{weight_cleared, weight_fired, weight_after, marked_reads, work_due}
 use Rattle.ld_cascade.proofs.Goings.{plus_none}
+use Rattle.ld_cascade.proofs.Binding.{Binding, Loosened, bound_cleared, bound_fired, rooms_fired}
 
 pub fired_quiet : (y : System) (s : y.Situation) (i : ℕ) → fires y s i ≡ false → fired y s i ≡ []
 fired_quiet y s i quiet = rw quiet refl
@@ -74,16 +75,17 @@ looked_goes {y} {p} {q} {m} l fs = record {
 
 -- where the site does not fire
 pub quiet_arrives : {y : System} {p q : Standing y} {m : ℕ} → Looked y p q m
-    → Visiting y p.situation p.wiring q.wiring.edges q.wiring.dirty m → fires y p.situation m ≡ false
-    → Covers y p.situation p.wiring → read_count y p.situation m ≤ q.room
+    → Binding y p.situation p.wiring q.wiring m → fires y p.situation m ≡ false
+    → Covers y p.situation p.wiring → (HasRoomOutside y p.situation p.wiring.loose p.room → read_count y p.situation m ≤ q.room)
     → Arrives y (fired y p.situation m) p q
-quiet_arrives {y} {p} {q} {m} l v quiet covers own =
+quiet_arrives {y} {p} {q} {m} l b quiet covers own =
     let none = fired_quiet y p.situation m quiet in
-    let here : Tidy y p.situation q.wiring = tidy_cleared v quiet q.wiring refl refl in
+    let here : Tidy y p.situation q.wiring = tidy_cleared b.visiting quiet q.wiring refl refl in
     record {
       goes = looked_goes l (fired y p.situation m);
       sums = l.sums ∙ (plus_none p.sums ∙ ap (λ (fs : List (Firing y)). plus p.sums (sums_of y fs)) (sym none));
       tidy = subst (λ (u : y.Situation). Tidy y u q.wiring) (sym l.same) here;
+      bound = subst (λ (u : y.Situation). Bound y u q.wiring) (sym l.same) (bound_cleared b);
       covers = record {
         sites = let a : y.count q.situation ≡ y.count p.situation = ap (λ (u : y.Situation). y.count u) l.same in
             let b = covers.sites in let c = l.same_sites in omega arith;
@@ -95,16 +97,17 @@ quiet_arrives {y} {p} {q} {m} l v quiet covers own =
           let b : weight_of y q.situation q.wiring.sites q.wiring.dirty ≡ weight_of y p.situation p.wiring.sites q.wiring.dirty =
           ap (λ (u : y.Situation). weight_of y u q.wiring.sites q.wiring.dirty) l.same ∙ ap (λ (n : ℕ). weight_of y p.situation n q.wiring.dirty) l.same_sites in
           omega arith;
-      rooms = λ rooms. rooms_cleared y q.situation p.room q.room l.clear
-          (subst (λ (u : y.Situation). read_count y u m ≤ q.room) (sym l.same) own) l.room
-          (subst (λ (u : y.Situation). (i : ℕ) → has p.wiring.dirty i ≡ false → read_count y u i ≤ p.room) (sym l.same) rooms);
+      rooms = λ rooms. subst (λ (u : y.Situation). HasRoomOutside y u q.wiring.loose q.room) (sym l.same)
+          (rooms_cleared y p.situation p.room q.room b.tight (own rooms) l.room rooms);
     }
 
--- the site fired in this situation, and the readers of what it changed were marked
+-- the site fired in this situation, the readers of what it changed were marked, and where it is one of
+-- them, it is loose
 pub record HasFired (y : System) (s : y.Situation) (q r : Standing y) (m : ℕ) : Type 0 where
   pub after : r.situation ≡ y.after s m
   pub sums : r.sums ≡ plus q.sums (record { fired = 1; rejected = y.rejected s m; sent = y.sent s m })
   pub marks : Marks y s m q.wiring.edges q.wiring.dirty r.wiring.dirty
+  pub loosened : Loosened q.wiring r.wiring m
   pub same_edges : r.wiring.edges ≡ q.wiring.edges
   pub same_relinked : r.wiring.relinked ≡ q.wiring.relinked
   pub same_sites : r.wiring.sites ≡ q.wiring.sites
@@ -132,15 +135,15 @@ failed_goes {y} {p} {q} {m} l is_due r course same room steps = record {
 }
 
 pub fired_arrives : {y : System} → Lawful y → {p q r : Standing y} {m : ℕ} → MayFire y p.situation m → Looked y p q m
-    → Visiting y p.situation p.wiring q.wiring.edges q.wiring.dirty m → HasFired y p.situation q r m
-    → Covers y p.situation p.wiring → read_count y p.situation m ≤ q.room
+    → Binding y p.situation p.wiring q.wiring m → HasFired y p.situation q r m
+    → Covers y p.situation p.wiring → (HasRoomOutside y p.situation p.wiring.loose p.room → read_count y p.situation m ≤ q.room)
     → Arrives y (fired y p.situation m) p r
-fired_arrives {y} law {p} {q} {r} {m} may l v f covers own =
+fired_arrives {y} law {p} {q} {r} {m} may l b f covers own =
     let s = p.situation in
     let fs = fired y s m in
     let is_due = may.due_now in
     let one = fired_due y s m is_due in
-    let marked = marked_reads v f.marks in
+    let marked = marked_reads b.visiting f.marks in
     let same_sites : r.wiring.sites ≡ p.wiring.sites = f.same_sites ∙ l.same_sites in
     let grows : p.wiring.edges.slots ≤ r.wiring.edges.slots =
     let a = l.follows.slots in let b : r.wiring.edges.slots ≡ q.wiring.edges.slots = ap (λ (es : Edges). es.slots) f.same_edges in omega arith in
@@ -177,10 +180,12 @@ fired_arrives {y} law {p} {q} {r} {m} may l v f covers own =
       };
       sums = f.sums ∙ (ap (λ (x : Sums). plus x (record { fired = 1; rejected = y.rejected s m; sent = y.sent s m })) l.sums
           ∙ (one_more y p.sums s m ∙ ap (λ (gs : List (Firing y)). plus p.sums (sums_of y gs)) (sym one)));
-      tidy = tidy_fired law may v f.marks r.situation f.after r.wiring f.same_edges refl;
+      tidy = tidy_fired law may b.visiting f.marks r.situation f.after r.wiring f.same_edges refl;
+      bound = bound_fired law may b f.marks f.loosened f.same_edges r.situation f.after;
       covers = covers_fired law may covers same_sites grows r.situation f.after;
       steps = steps;
-      rooms = λ rooms. rooms_fired law may p.room r.room v f.marks (let a = f.room in omega arith) (let a = l.room in let b = f.room in omega arith) r.situation f.after rooms;
+      rooms = λ rooms. rooms_fired law may p.room r.room b f.marks f.loosened (let a = own rooms in let z = f.room in omega arith)
+          (let a = l.room in let z = f.room in omega arith) r.situation f.after rooms;
     }
 
 -- a site is dirty no more

@@ -3,7 +3,7 @@ use Rattle.ld_cascade.specs.System.{System}
 use Rattle.ld_cascade.specs.Settling.{Firing, Sums, sums_of, plus}
 use Rattle.ld_cascade.specs.Work.{weight_of, work, Stirs}
 use Rattle.ld_cascade.specs.Wiring.{Wiring, Follows}
-use Rattle.ld_cascade.specs.Tidy.{Tidy, Covers}
+use Rattle.ld_cascade.specs.Tidy.{Tidy, Bound, Covers}
 use Rattle.ld_cascade.specs.Rooms.{HasRoomOutside}
 
 -- where a settling stands: the situation, the links, the sums of its firings so far, the room of the
@@ -38,6 +38,7 @@ pub record Arrives (y : System) (fs : List (Firing y)) (p q : Standing y) : Type
   pub goes : Goes y fs p q
   pub sums : q.sums ≡ plus p.sums (sums_of y fs)
   pub tidy : Tidy y q.situation q.wiring
+  pub bound : Bound y q.situation q.wiring
   pub covers : Covers y q.situation q.wiring
   pub steps : steps_due y q ≤ steps_due y p + work y fs
-  pub rooms : HasRoomOutside y p.situation p.wiring.dirty p.room → HasRoomOutside y q.situation q.wiring.dirty q.room
+  pub rooms : HasRoomOutside y p.situation p.wiring.loose p.room → HasRoomOutside y q.situation q.wiring.loose q.room

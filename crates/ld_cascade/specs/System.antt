@@ -62,6 +62,9 @@ pub record Lawful (y : System) : Type 0 where
   -- a site's test and reads follow from what stands in the slots that it reads
   pub same_test : (s t : y.Situation) (i : ℕ) → IsSeenAlike y s t i → y.test s i ≡ y.test t i
   pub same_reads : (s t : y.Situation) (i : ℕ) → IsSeenAlike y s t i → y.reads s i ≡ y.reads t i
+  -- what a site reads follows from the course and its mark
+  pub reads_by_mark : (s t : y.Situation) (i : ℕ) → y.IsSound s → y.IsSound t → y.course s ≡ y.course t
+      → y.is_site s i ≡ true → y.is_site t i ≡ true → y.mark s i ≡ y.mark t i → y.reads s i ≡ y.reads t i
   -- a firing leaves the same sites, slots and sizes, sets its own mark alone, and tells what it changes
   pub keeps_sound : (s : y.Situation) (i : ℕ) → MayFire y s i → y.IsSound (y.after s i)
   pub keeps_course : (s : y.Situation) (i : ℕ) → MayFire y s i → y.course (y.after s i) ≡ y.course s

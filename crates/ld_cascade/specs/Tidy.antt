@@ -1,4 +1,4 @@
-use Rattle.std.specs.Prelude.{◌≡◌, ℕ, ◌≤◌, Bool, true, false, List, Contains}
+use Rattle.std.specs.Prelude.{◌≡◌, ℕ, ◌≤◌, ◌⊎◌, Bool, true, false, List, Contains}
 use Rattle.ld_graph.specs.Table.{has}
 use Rattle.ld_graph.specs.Edges.{Edges, IsLinked}
 use Rattle.ld_cascade.specs.System.{System, fires}
@@ -17,6 +17,11 @@ pub record IsTidy (y : System) (s : y.Situation) (edges : Edges) (i : ℕ) : Typ
 abbrev pub Tidy : (y : System) → y.Situation → Wiring → Type 0
 Tidy y s wiring = (i : ℕ) → has wiring.dirty i ≡ false → IsTidy y s wiring.edges i
 
+-- the edges of each site that is not loose are its reads, and a loose site is dirty
+pub record Bound (y : System) (s : y.Situation) (wiring : Wiring) : Type 0 where
+  pub edges_are : (i : ℕ) → has wiring.loose i ≡ false → EdgesAre wiring.edges i (y.reads s i)
+  pub dirty : (i : ℕ) → has wiring.loose i ≡ true → has wiring.dirty i ≡ true
+
 -- all sites and all slots of the situation are in range of the links
 pub record Covers (y : System) (s : y.Situation) (wiring : Wiring) : Type 0 where
   pub sites : y.count s ≤ wiring.sites
@@ -32,9 +37,13 @@ pub record Changes (y : System) (s t : y.Situation) (slots : List ℕ) : Type 0 
   pub same_marks : (i : ℕ) → y.is_site s i ≡ true → y.mark t i ≡ y.mark s i
   pub others : (k : ℕ) → (Contains slots k → ⊥) → y.content s k ≡ y.content t k
 
--- the edges stay, what was dirty is dirty, the readers of these slots are, and the new sites are
+-- the edges stay, what was dirty or loose is so, the readers of these slots are dirty, the new sites
+-- are dirty and loose, and a site that became loose is dirty
 pub record Touched (y : System) (s t : y.Situation) (slots : List ℕ) (old now : Wiring) : Type 0 where
   pub same_rows : (i : ℕ) → HasSameRow old.edges now.edges i
   pub keeps : (i : ℕ) → has old.dirty i ≡ true → has now.dirty i ≡ true
   pub readers : (k : ℕ) → Contains slots k → (i : ℕ) → IsLinked old.edges k i → has now.dirty i ≡ true
   pub fresh : (i : ℕ) → y.is_site s i ≡ false → y.is_site t i ≡ true → has now.dirty i ≡ true
+  pub keeps_loose : (i : ℕ) → has old.loose i ≡ true → has now.loose i ≡ true
+  pub fresh_loose : (i : ℕ) → y.is_site s i ≡ false → y.is_site t i ≡ true → has now.loose i ≡ true
+  pub only_loose : (i : ℕ) → has now.loose i ≡ true → (has old.loose i ≡ true) ⊎ (has now.dirty i ≡ true)

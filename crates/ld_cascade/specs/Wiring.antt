@@ -3,17 +3,18 @@ use Rattle.std.specs.Set.{distinct_count}
 use Rattle.ld_graph.specs.Table.{has}
 use Rattle.ld_graph.specs.Edges.{Edges, IsLinked, edge_room}
 
--- the links of a run: the edges, the dirty sites, the sites linked anew since the state was marked,
--- and how many sites are in range
+-- the links of a run: the edges, the dirty sites, the loose ones, whose edges may differ from their
+-- reads, the sites linked anew since the state was marked, and how many sites are in range
 pub record Wiring : Type 0 where
   pub edges : Edges
   pub dirty : List Bool
+  pub loose : List Bool
   pub relinked : List Bool
   pub sites : ℕ
 
 -- links by their parts
-abbrev pub wired : Edges → List Bool → List Bool → ℕ → Wiring
-wired edges dirty relinked sites = record { edges = edges; dirty = dirty; relinked = relinked; sites = sites }
+abbrev pub wired : Edges → List Bool → List Bool → List Bool → ℕ → Wiring
+wired edges dirty loose relinked sites = record { edges = edges; dirty = dirty; loose = loose; relinked = relinked; sites = sites }
 
 -- the table has no site
 abbrev pub IsEmpty : List Bool → Type 0
@@ -55,11 +56,13 @@ pub record Follows (old now : Wiring) : Type 0 where
   pub was_out : (i : ℕ) → has now.relinked i ≡ false → has old.relinked i ≡ false
   pub rows : (i : ℕ) → has now.relinked i ≡ false → HasSameRow old.edges now.edges i
 
--- sites beyond the range have no edges, are not dirty and were not linked anew
+-- sites beyond the range have no edges, are neither dirty nor loose and were not linked anew
 pub record IsInRange (wiring : Wiring) : Type 0 where
   pub rows : wiring.sites ≤ length wiring.edges.rows
   pub dirty : wiring.sites ≤ length wiring.dirty
+  pub loose : wiring.sites ≤ length wiring.loose
   pub relinked : wiring.sites ≤ length wiring.relinked
   pub no_edges : (i : ℕ) → wiring.sites ≤ i → get_or wiring.edges.rows i [] ≡ []
   pub no_dirty : (i : ℕ) → wiring.sites ≤ i → has wiring.dirty i ≡ false
+  pub no_loose : (i : ℕ) → wiring.sites ≤ i → has wiring.loose i ≡ false
   pub no_relinked : (i : ℕ) → wiring.sites ≤ i → has wiring.relinked i ≡ false

@@ -1,5 +1,5 @@
-//! The links of a state's sites: what each reads, which are to be judged, and which were linked
-//! anew.
+//! The links of a state's sites: what each reads, which are to be judged, of which the reads are to
+//! be asked, and which were linked anew.
 ghost use Rattle.std.specs.Prelude.{◌≡◌, ℕ, ◌+◌, ◌^◌, ◌<◌, ◌≤◌, ◌⊎◌, Bool, true, false, List, [], get_or, length, IfOk, IfSome, IfNone, Contains, max};
 ghost use Rattle.ld_graph.specs.Table.{has};
 ghost use Rattle.ld_graph.specs.Edges.{Edges, IsLinked, edge_room};
@@ -12,12 +12,13 @@ use ld_graph::slots::SlotList;
 use std::alloc::Global;
 use std::marker::Model;
 
-/// The edges between sites and the slots that they read, the dirty sites, and the table of the
-/// sites linked anew since `begin`.
+/// The edges between sites and the slots that they read, the dirty sites, the loose ones, whose
+/// edges may differ from their reads, and the table of the sites linked anew since `begin`.
 #[derive(Drop)]
 pub struct Links {
     graph: Graph,
     dirty_sites: Dirty,
+    loose_sites: Dirty,
     relinked_sites: Dirty,
     site_count: u32,
 }
@@ -27,23 +28,28 @@ impl Model for Links {
 
     ghost Value = { Wiring };
 
-    ghost view = { λ l. wired l.graph l.dirty_sites l.relinked_sites l.site_count };
+    ghost view = { λ l.
+        wired l.graph l.dirty_sites l.loose_sites l.relinked_sites l.site_count };
 
     ghost invariant = { λ l.
-        IsInRange (wired l.graph l.dirty_sites l.relinked_sites l.site_count) };
+        IsInRange (wired l.graph l.dirty_sites l.loose_sites l.relinked_sites l.site_count) };
 }
 
 impl Links {
-    /// No site and no slot in range, and so no edge, no dirty site and an empty table.
+    /// No site and no slot in range, and so no edge, no dirty or loose site and an empty table.
     pub fn new(alloc: Global) -> Links
         ensures sites { result.sites ≡ 0 }
         ensures slots { result.edges.slots ≡ 0 }
         ensures edges { (i : ℕ) → get_or result.edges.rows i [] ≡ [] }
         ensures dirty { IsEmpty result.dirty }
+        ensures loose { IsEmpty result.loose }
         ensures relinked { IsEmpty result.relinked }
     {
         let graph = Graph::new(alloc);
         let Ok(dirty_sites) = Dirty::new(alloc, 0) else {
+            unreachable!()
+        };
+        let Ok(loose_sites) = Dirty::new(alloc, 0) else {
             unreachable!()
         };
         let Ok(relinked_sites) = Dirty::new(alloc, 0) else {
@@ -52,6 +58,7 @@ impl Links {
         Links {
             graph,
             dirty_sites,
+            loose_sites,
             relinked_sites,
             site_count: 0,
         }
@@ -64,6 +71,7 @@ impl Links {
         ensures sites { IfOk result (λ _. sites ≤ self.new.sites) }
         ensures edges { (i : ℕ) → HasSameRow self.old.edges self.new.edges i }
         ensures dirty { IsSameTable self.old.dirty self.new.dirty }
+        ensures loose { IsSameTable self.old.loose self.new.loose }
         ensures relinked { IsSameTable self.old.relinked self.new.relinked }
         ensures follows { Follows self.old self.new }
     {
@@ -71,6 +79,9 @@ impl Links {
             return Err(NoMemory)
         };
         let Ok(()) = self.dirty_sites.grow(sites) else {
+            return Err(NoMemory)
+        };
+        let Ok(()) = self.loose_sites.grow(sites) else {
             return Err(NoMemory)
         };
         let Ok(()) = self.relinked_sites.grow(sites) else {
@@ -89,6 +100,7 @@ impl Links {
         ensures readers { (i : ℕ) → IsLinked self.old.edges slot i → has self.new.dirty i ≡ true }
         ensures only { (i : ℕ) → has self.new.dirty i ≡ true → (has self.old.dirty i ≡ true)
             ⊎ IsLinked self.old.edges slot i }
+        ensures loose { self.new.loose ≡ self.old.loose }
         ensures edges { self.new.edges ≡ self.old.edges }
         ensures relinked { self.new.relinked ≡ self.old.relinked }
         ensures sites { self.new.sites ≡ self.old.sites }
@@ -97,16 +109,38 @@ impl Links {
         self.graph.set_readers(slot, &mut self.dirty_sites);
     }
 
-    /// Sets the site dirty.
+    /// Marks the readers of each slot of the list.
+    pub fn touch_all(&mut self, slots: &[u32])
+        requires slots { (k : ℕ) → Contains slots.now k → k < self.old.edges.slots }
+        ensures keeps { (i : ℕ) → has self.old.dirty i ≡ true → has self.new.dirty i ≡ true }
+        ensures readers { (k : ℕ) → Contains slots.now k → (i : ℕ)
+            → IsLinked self.old.edges k i → has self.new.dirty i ≡ true }
+        ensures only { (i : ℕ) → has self.new.dirty i ≡ true
+            → (has self.old.dirty i ≡ true)
+            ⊎ ((k : ℕ) × Contains slots.now k × IsLinked self.old.edges k i) }
+        ensures loose { self.new.loose ≡ self.old.loose }
+        ensures edges { self.new.edges ≡ self.old.edges }
+        ensures relinked { self.new.relinked ≡ self.old.relinked }
+        ensures sites { self.new.sites ≡ self.old.sites }
+        ensures follows { Follows self.old self.new }
+    {
+        for slot in slots {
+            self.touch(*slot);
+        }
+    }
+
+    /// Sets the site dirty, and loose: its reads are asked when it is judged.
     pub fn fresh(&mut self, site: u32)
         requires site { site < self.old.sites }
         ensures dirty { IsWith self.old.dirty self.new.dirty site }
+        ensures loose { IsWith self.old.loose self.new.loose site }
         ensures edges { self.new.edges ≡ self.old.edges }
         ensures relinked { self.new.relinked ≡ self.old.relinked }
         ensures sites { self.new.sites ≡ self.old.sites }
         ensures follows { Follows self.old self.new }
     {
         self.dirty_sites.set(site);
+        self.loose_sites.set(site);
     }
 
     /// Empties the table of sites linked anew: call it where the state is marked.
@@ -114,15 +148,17 @@ impl Links {
         ensures relinked { IsEmpty self.new.relinked }
         ensures edges { self.new.edges ≡ self.old.edges }
         ensures dirty { self.new.dirty ≡ self.old.dirty }
+        ensures loose { self.new.loose ≡ self.old.loose }
         ensures sites { self.new.sites ≡ self.old.sites }
     {
         self.relinked_sites.empty();
     }
 
-    /// Leaves no edge, no dirty site and an empty table. What is in range stays.
+    /// Leaves no edge, no dirty or loose site and an empty table. What is in range stays.
     pub fn clear(&mut self)
         ensures edges { (i : ℕ) → get_or self.new.edges.rows i [] ≡ [] }
         ensures dirty { IsEmpty self.new.dirty }
+        ensures loose { IsEmpty self.new.loose }
         ensures relinked { IsEmpty self.new.relinked }
         ensures sites { self.new.sites ≡ self.old.sites }
         ensures slots { self.new.edges.slots ≡ self.old.edges.slots }
@@ -130,7 +166,26 @@ impl Links {
     {
         self.graph.clear();
         self.dirty_sites.empty();
+        self.loose_sites.empty();
         self.relinked_sites.empty();
+    }
+
+    /// Takes all edges away, and sets every site below this number dirty and loose.
+    pub fn renew(&mut self, sites: u32)
+        requires { sites ≤ self.old.sites }
+        ensures edges { (i : ℕ) → get_or self.new.edges.rows i [] ≡ [] }
+        ensures dirty { (i : ℕ) → i < sites → has self.new.dirty i ≡ true }
+        ensures others { (i : ℕ) → sites ≤ i → has self.new.dirty i ≡ false }
+        ensures loose { IsSameTable self.new.dirty self.new.loose }
+        ensures relinked { IsEmpty self.new.relinked }
+        ensures sites { self.new.sites ≡ self.old.sites }
+        ensures slots { self.new.edges.slots ≡ self.old.edges.slots }
+        ensures room { edge_room self.old.edges ≤ edge_room self.new.edges }
+    {
+        self.clear();
+        for site in 0..sites {
+            self.fresh(site);
+        }
     }
 
     /// The least dirty site that is at least this one.
@@ -159,12 +214,36 @@ impl Links {
         self.relinked_sites.next_from(site)
     }
 
+    /// Whether the site is loose.
+    pub(crate) fn is_loose(&self, site: u32) -> bool
+        ensures { result ≡ has self.now.loose site }
+    {
+        has_site(&self.loose_sites, site)
+    }
+
+    /// Sets the site loose where it is dirty.
+    pub(crate) fn loosen(&mut self, site: u32)
+        requires site { site < self.old.sites }
+        ensures again { has self.old.dirty site ≡ true → IsWith self.old.loose self.new.loose site }
+        ensures quiet { has self.old.dirty site ≡ false → self.new.loose ≡ self.old.loose }
+        ensures edges { self.new.edges ≡ self.old.edges }
+        ensures dirty { self.new.dirty ≡ self.old.dirty }
+        ensures relinked { self.new.relinked ≡ self.old.relinked }
+        ensures sites { self.new.sites ≡ self.old.sites }
+    {
+        if !has_site(&self.dirty_sites, site) {
+            return;
+        }
+        self.loose_sites.set(site);
+    }
+
     /// Takes a site out of the dirty ones.
     pub(crate) fn clear_dirty(&mut self, site: u32)
         requires site { site < self.old.sites }
         ensures dirty { IsWithout self.old.dirty self.new.dirty site }
         ensures edges { self.new.edges ≡ self.old.edges }
         ensures relinked { self.new.relinked ≡ self.old.relinked }
+        ensures loose { self.new.loose ≡ self.old.loose }
         ensures sites { self.new.sites ≡ self.old.sites }
     {
         self.dirty_sites.clear(site);
@@ -178,12 +257,14 @@ impl Links {
         ensures edge_room { edge_room self.old.edges ≤ edge_room self.new.edges }
         ensures dirty { self.new.dirty ≡ self.old.dirty }
         ensures relinked { self.new.relinked ≡ self.old.relinked }
+        ensures loose { self.new.loose ≡ self.old.loose }
         ensures sites { self.new.sites ≡ self.old.sites }
     {
         self.graph.reserve(0, 0, edges)
     }
 
-    /// Makes the slots the edges of the site, and enters it in the table of sites linked anew.
+    /// Makes the slots the edges of the site, which is loose no more, and enters it in the table of
+    /// sites linked anew.
     pub(crate) fn relink(&mut self, site: u32, slots: &SlotList)
         requires site { site < self.old.sites }
         requires slots { (k : ℕ) → Contains slots.now.items k → k < self.old.edges.slots }
@@ -195,11 +276,13 @@ impl Links {
         ensures others { (i : ℕ) → (i ≡ site → ⊥) → HasSameRow self.old.edges self.new.edges i }
         ensures slot_range { self.new.edges.slots ≡ self.old.edges.slots }
         ensures edge_room { edge_room self.new.edges ≡ edge_room self.old.edges }
+        ensures loose { IsWithout self.old.loose self.new.loose site }
         ensures relinked { IsWith self.old.relinked self.new.relinked site }
         ensures dirty { self.new.dirty ≡ self.old.dirty }
         ensures sites { self.new.sites ≡ self.old.sites }
     {
         self.graph.relink(site, slots);
+        self.loose_sites.clear(site);
         self.relinked_sites.set(site);
     }
 
@@ -212,19 +295,32 @@ impl Links {
         ensures edge_room { edge_room self.new.edges ≡ edge_room self.old.edges }
         ensures relinked { self.new.relinked ≡ self.old.relinked }
         ensures dirty { self.new.dirty ≡ self.old.dirty }
+        ensures loose { self.new.loose ≡ self.old.loose }
         ensures sites { self.new.sites ≡ self.old.sites }
     {
         self.graph.unlink(site);
     }
 
-    /// Leaves no dirty site, and no site in the table of sites linked anew.
+    /// Leaves no dirty and no loose site, and no site in the table of sites linked anew.
     pub(crate) fn empty_tables(&mut self)
         ensures dirty { IsEmpty self.new.dirty }
+        ensures loose { IsEmpty self.new.loose }
         ensures relinked { IsEmpty self.new.relinked }
         ensures edges { self.new.edges ≡ self.old.edges }
         ensures sites { self.new.sites ≡ self.old.sites }
     {
         self.dirty_sites.empty();
+        self.loose_sites.empty();
         self.relinked_sites.empty();
     }
+}
+
+/// Whether the set has the site.
+fn has_site(sites: &Dirty, site: u32) -> bool
+    ensures { result ≡ has sites.now site }
+{
+    let Some(next) = sites.next_from(site) else {
+        return false;
+    };
+    next == site
 }

@@ -20,6 +20,7 @@ fn visit<G: Sites, L: Ledger>(
     may_fire: bool,
     steps: &mut Steps<L>,
 ) -> Result<(), Stop>
+    requires sound { G.system.IsSound (G.now sites.old) }
     requires few { walk.old.totals.fired < 2 ^ 31 - 1 }
     ensures state { IfOk result (λ _. G.now sites.new ≡ step G.system (G.now sites.old) site) }
     ensures course { G.system.course (G.now sites.new) ≡ G.system.course (G.now sites.old) }
@@ -53,6 +54,7 @@ fn sweep<G: Sites, L: Ledger>(
     may_fire: bool,
     steps: &mut Steps<L>,
 ) -> Result<bool, Stop>
+    requires sound { G.system.IsSound (G.now sites.old) }
     requires range { G.system.count (G.now sites.old) ≤ count }
     requires few { walk.old.totals.fired + G.system.count (G.now sites.old) < 2 ^ 31 - 1 }
     ensures state { IfOk result (λ _. G.now sites.new ≡ swept G.system (G.now sites.old)) }
@@ -78,7 +80,7 @@ fn sweep<G: Sites, L: Ledger>(
 
 /// Settles the sites by plain sweeps: every site below `count` is visited in every sweep. It gives
 /// what `settle` gives, and needs no links. After a refusal the state may be any of the same
-/// course.
+/// course, sound or not.
 pub fn settle_plainly<G: Sites, L: Ledger>(
     alloc: Global,
     sites: &mut G,
@@ -86,12 +88,14 @@ pub fn settle_plainly<G: Sites, L: Ledger>(
     turns: u32,
     steps: &mut Steps<L>,
 ) -> Result<Settled, Stop>
+    requires sound { G.system.IsSound (G.now sites.old) }
     requires range { G.system.count (G.now sites.old) ≤ count }
     requires few { G.system.count (G.now sites.old) ≤ 4000000 }
     requires turns { turns ≤ 256 }
     ensures settled { IfOk result (λ r. IsSettled G.system (G.now sites.old) turns r) }
     ensures state { IfOk result (λ r.
         G.now sites.new ≡ after_sweeps G.system (G.now sites.old) r.turns) }
+    ensures sound { IfOk result (λ _. G.system.IsSound (G.now sites.new)) }
     ensures budget { result ≡ Err Stop.TurnBudget → PassesBudget G.system (G.now sites.old) turns }
     ensures course { G.system.course (G.now sites.new) ≡ G.system.course (G.now sites.old) }
 {

@@ -3,7 +3,7 @@ ghost use Rattle.std.specs.Prelude.{◌≡◌, ℕ, ◌+◌, ◌<◌, ◌≤◌,
 ghost use Rattle.ld_graph.specs.Table.{has};
 ghost use Rattle.ld_graph.specs.Edges.{edge_room};
 ghost use Rattle.ld_cascade.specs.Wiring.{Wiring, IsEmpty, IsWith, HasSameRow, EdgesAre};
-ghost use Rattle.ld_cascade.specs.Tidy.{Covers};
+ghost use Rattle.ld_cascade.specs.Tidy.{Bound, Covers};
 ghost use Rattle.ld_cascade.specs.Work.{weight, weight_of};
 ghost use Rattle.ld_cascade.specs.Rooms.{read_count, HasRoom, Restorable};
 
@@ -37,6 +37,7 @@ fn link_in_room<G: Sites, L: Ledger>(
     site: u32,
     steps: &mut Steps<L>,
 )
+    requires sound { G.system.IsSound (G.now sites.old) }
     requires site { site < links.old.sites }
     requires slots { G.system.slots (G.now sites.old) ≤ links.old.edges.slots }
     requires room { read_count G.system (G.now sites.old) site ≤ G.room sites.old }
@@ -58,18 +59,20 @@ fn link_in_room<G: Sites, L: Ledger>(
     links.relink(site, slots);
 }
 
-/// Makes all edges equal to the reads of the present state, and leaves no site dirty and an empty
-/// table. It takes no memory.
+/// Makes all edges equal to the reads of the present state, and leaves no site dirty or loose and
+/// an empty table. It takes no memory.
 ///
 /// Call it where the state has been taken back to what it was at `begin`, when all edges were its
 /// reads: what it needs holds then (`begins_restorable`), and stays through every call that follows
 /// the old links (`stays_restorable`).
 pub fn restore<G: Sites, L: Ledger>(sites: &mut G, links: &mut Links, steps: &mut Steps<L>)
+    requires sound { G.system.IsSound (G.now sites.old) }
     requires begun { Restorable G.system (G.now sites.old) links.old }
     requires room { HasRoom G.system (G.now sites.old) (G.room sites.old) }
     ensures state { G.now sites.new ≡ G.now sites.old }
     ensures edges { (i : ℕ) → EdgesAre links.new.edges i (G.system.reads (G.now sites.old) i) }
     ensures dirty { IsEmpty links.new.dirty }
+    ensures bound { Bound G.system (G.now sites.new) links.new }
     ensures relinked { IsEmpty links.new.relinked }
     ensures covers { Covers G.system (G.now sites.new) links.new }
     ensures room { G.room sites.old ≤ G.room sites.new }

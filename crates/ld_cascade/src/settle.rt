@@ -1,12 +1,12 @@
 //! Settling: sweeps over the dirty sites until one fires nothing.
 ghost use Rattle.std.specs.Prelude.{◌≡◌, ℕ, ◌+◌, ◌*◌, ◌^◌, ◌<◌, ◌≤◌, ◌⊎◌, Bool, true, false, List, [], ◌++◌, ◌-◌, get_or, length, IfOk, IfErr, IsOk, Contains};
 ghost use Rattle.ld_graph.specs.Table.{has};
-ghost use Rattle.ld_graph.specs.Edges.{IsLinked, edge_room};
+ghost use Rattle.ld_graph.specs.Edges.{edge_room};
 ghost use Rattle.ld_cascade.specs.System.{System, Lawful, MayFire, due, fires};
 ghost use Rattle.ld_cascade.specs.Settling.{Firing, Sums, sums_of, plus, no_sums, step, fired, fired_below, swept, sweep_firings, Moves, after_sweeps, all_firings, firings_to, PassesBudget, Settles, rejections, notices};
 ghost use Rattle.ld_cascade.specs.Outcome.{IsSettled};
 ghost use Rattle.ld_cascade.specs.Wiring.{Wiring, IsEmpty, IsWith, IsWithout, HasSameRow, EdgesAre, Follows};
-ghost use Rattle.ld_cascade.specs.Tidy.{IsTidy, Tidy, Covers};
+ghost use Rattle.ld_cascade.specs.Tidy.{IsTidy, Tidy, Bound, Covers};
 ghost use Rattle.ld_cascade.specs.Work.{weight, weight_of, work, Stirs, Costs, Spends, SpendsInPart};
 ghost use Rattle.ld_cascade.specs.Rooms.{read_count, HasRoom, HasRoomOutside};
 ghost use Rattle.ld_cascade.specs.Standing.{Standing, standing, steps_due, Goes, Arrives};
@@ -21,48 +21,38 @@ use ld_base::steps::Steps;
 use std::alloc::Global;
 use std::sync::ledger::Ledger;
 
-/// Marks the readers of each slot of the list.
-fn touch_all(links: &mut Links, slots: &[u32])
-    requires slots { (k : ℕ) → Contains slots.now k → k < links.old.edges.slots }
-    ensures keeps { (i : ℕ) → has links.old.dirty i ≡ true → has links.new.dirty i ≡ true }
-    ensures readers { (k : ℕ) → Contains slots.now k → (i : ℕ) → IsLinked links.old.edges k i
-        → has links.new.dirty i ≡ true }
-    ensures only { (i : ℕ) → has links.new.dirty i ≡ true
-        → (has links.old.dirty i ≡ true)
-        ⊎ ((k : ℕ) × Contains slots.now k × IsLinked links.old.edges k i) }
-    ensures edges { links.new.edges ≡ links.old.edges }
-    ensures relinked { links.new.relinked ≡ links.old.relinked }
-    ensures sites { links.new.sites ≡ links.old.sites }
-{
-    for slot in slots {
-        links.touch(*slot);
-    }
-}
-
-/// Makes the edges of the site equal to its reads. Room for them is made first, so want of memory
-/// leaves the site with the edges that it had.
+/// Makes the edges of the site equal to its reads: those of a site that is not loose are. Room for
+/// the others is made first, so want of memory leaves the site with the edges that it had.
 fn link<G: Sites, L: Ledger>(
     sites: &mut G,
     links: &mut Links,
     site: u32,
     steps: &mut Steps<L>,
 ) -> Result<(), NoMemory>
+    requires sound { G.system.IsSound (G.now sites.old) }
     requires site { site < links.old.sites }
     requires slots { G.system.slots (G.now sites.old) ≤ links.old.edges.slots }
+    requires bound { has links.old.loose site ≡ false
+        → EdgesAre links.old.edges site (G.system.reads (G.now sites.old) site) }
     ensures state { G.now sites.new ≡ G.now sites.old }
     ensures room { G.room sites.old ≤ G.room sites.new }
     ensures own_room { IfOk result (λ _.
-        read_count G.system (G.now sites.old) site ≤ G.room sites.new) }
+        HasRoomOutside G.system (G.now sites.old) links.old.loose (G.room sites.old)
+        → read_count G.system (G.now sites.old) site ≤ G.room sites.new) }
     ensures own { IfOk result (λ _.
         EdgesAre links.new.edges site (G.system.reads (G.now sites.old) site)) }
     ensures others { (i : ℕ) → (i ≡ site → ⊥) → HasSameRow links.old.edges links.new.edges i }
     ensures follows { Follows links.old links.new }
     ensures relinked { (i : ℕ) → has links.new.relinked i ≡ true → (has links.old.relinked i ≡ true)
         ⊎ (i ≡ site) }
+    ensures loose { IfOk result (λ _. IsWithout links.old.loose links.new.loose site) }
     ensures dirty { links.new.dirty ≡ links.old.dirty }
     ensures sites { links.new.sites ≡ links.old.sites }
     ensures ticks { steps.new ≤ steps.old + weight G.system (G.now sites.old) site }
 {
+    if !links.is_loose(site) {
+        return Ok(());
+    }
     let Ok(slots) = sites.reads(site, steps) else {
         return Err(NoMemory);
     };
@@ -76,8 +66,9 @@ fn link<G: Sites, L: Ledger>(
     Ok(())
 }
 
-/// Visits one site: it is judged and linked anew, and where it is due, it fires, and the readers of
-/// what it changed are dirty.
+/// Visits one site: it is judged, and linked anew where it is loose. Where it is due, it fires, and
+/// the readers of what it changed are dirty; where it is itself one of them, it is loose again,
+/// since its own mark may have changed what it reads.
 fn visit<G: Sites, L: Ledger>(
     sites: &mut G,
     links: &mut Links,
@@ -86,7 +77,9 @@ fn visit<G: Sites, L: Ledger>(
     may_fire: bool,
     steps: &mut Steps<L>,
 ) -> Result<(), Stop>
+    requires sound { G.system.IsSound (G.now sites.old) }
     requires tidy { Tidy G.system (G.now sites.old) links.old }
+    requires bound { Bound G.system (G.now sites.old) links.old }
     requires covers { Covers G.system (G.now sites.old) links.old }
     requires site { site < links.old.sites }
     requires marked { has links.old.dirty site ≡ true }
@@ -126,8 +119,9 @@ fn visit<G: Sites, L: Ledger>(
     let Ok(fired) = sites.fire(site, judged.test, &mut walk.changed, steps) else {
         return Err(Stop::NoMemory);
     };
-    touch_all(links, &walk.changed);
+    links.touch_all(&walk.changed);
     walk.totals.add(fired);
+    links.loosen(site);
     Ok(())
 }
 
@@ -139,7 +133,9 @@ fn sweep<G: Sites, L: Ledger>(
     may_fire: bool,
     steps: &mut Steps<L>,
 ) -> Result<bool, Stop>
+    requires sound { G.system.IsSound (G.now sites.old) }
     requires tidy { Tidy G.system (G.now sites.old) links.old }
+    requires bound { Bound G.system (G.now sites.old) links.old }
     requires covers { Covers G.system (G.now sites.old) links.old }
     requires few { walk.old.totals.fired + G.system.count (G.now sites.old) < 2 ^ 31 - 1 }
     ensures state { IfOk result (λ _. G.now sites.new ≡ swept G.system (G.now sites.old)) }
@@ -178,11 +174,12 @@ fn sweep<G: Sites, L: Ledger>(
 }
 
 /// Settles the sites: sweeps over them in order until one fires nothing. It judges only dirty
-/// sites, and those that a firing may concern.
+/// sites, and those that a firing may concern, and asks only loose ones for their reads.
 ///
 /// It answers `TurnBudget` exactly where one sweep more than `turns` fires, and `NoMemory` only
-/// where some site is dirty. After either the state may be any of the same course, and the links
-/// follow the old ones: take the state back to where `begin` was called, and then call `restore`.
+/// where some site is dirty. After either the state may be any of the same course, sound or not,
+/// and the links follow the old ones: take the state back to where `begin` was called, and then
+/// call `restore`.
 pub fn settle<G: Sites, L: Ledger>(
     alloc: Global,
     sites: &mut G,
@@ -190,21 +187,25 @@ pub fn settle<G: Sites, L: Ledger>(
     turns: u32,
     steps: &mut Steps<L>,
 ) -> Result<Settled, Stop>
+    requires sound { G.system.IsSound (G.now sites.old) }
     requires tidy { Tidy G.system (G.now sites.old) links.old }
+    requires bound { Bound G.system (G.now sites.old) links.old }
     requires covers { Covers G.system (G.now sites.old) links.old }
     requires few { G.system.count (G.now sites.old) ≤ 4000000 }
     requires turns { turns ≤ 256 }
     ensures settled { IfOk result (λ r. IsSettled G.system (G.now sites.old) turns r) }
     ensures state { IfOk result (λ r.
         G.now sites.new ≡ after_sweeps G.system (G.now sites.old) r.turns) }
+    ensures sound { IfOk result (λ _. G.system.IsSound (G.now sites.new)) }
     ensures budget { result ≡ Err Stop.TurnBudget → PassesBudget G.system (G.now sites.old) turns }
     ensures idle { IsEmpty links.old.dirty → IsOk result }
     ensures none { IfOk result (λ _. IsEmpty links.new.dirty) }
     ensures tidy { IfOk result (λ _.
         (i : ℕ) → IsTidy G.system (G.now sites.new) links.new.edges i) }
+    ensures bound { IfOk result (λ _. Bound G.system (G.now sites.new) links.new) }
     ensures covers { IfOk result (λ _. Covers G.system (G.now sites.new) links.new) }
     ensures rooms { IfOk result (λ _.
-        HasRoomOutside G.system (G.now sites.old) links.old.dirty (G.room sites.old)
+        HasRoomOutside G.system (G.now sites.old) links.old.loose (G.room sites.old)
         → HasRoom G.system (G.now sites.new) (G.room sites.new)) }
     ensures course { G.system.course (G.now sites.new) ≡ G.system.course (G.now sites.old) }
     ensures room { G.room sites.old ≤ G.room sites.new }

@@ -17,6 +17,9 @@ use std::sync::ledger::Ledger;
 /// A state with sites. It means a system, a situation of that system, whose course no call changes,
 /// and a room, which never falls: how many slots the list that `reads` lends can hold without new
 /// memory. The sites are some of the numbers below the system's count, in their order.
+///
+/// Each call needs a sound situation, and a firing leaves one. After want of memory in a firing the
+/// situation may be unsound: ask nothing of the sites until it was taken back.
 pub trait Sites {
     ghost system: { System };
 
@@ -26,6 +29,7 @@ pub trait Sites {
 
     /// The site's test and its mark. It takes as many steps as the site's size, and one, at most.
     fn judge<L: Ledger>(&self, site: u32, steps: &mut Steps<L>) -> Judged
+        requires sound { system.IsSound (now self.now) }
         ensures test { result.test ≡ system.test (now self.now) site }
         ensures mark { result.mark ≡ system.mark (now self.now) site }
         ensures ticks { steps.new ≤ steps.old + weight system (now self.now) site };
@@ -33,6 +37,7 @@ pub trait Sites {
     /// The slots that the site reads, each once. The state stays as it is, whatever is answered; no
     /// memory is wanted where the room is at least the number of these slots.
     fn reads<L: Ledger>(&mut self, site: u32, steps: &mut Steps<L>) -> Result<&SlotList, NoMemory>
+        requires sound { system.IsSound (now self.old) }
         ensures named { IfOk result (λ r.
             (k : ℕ) → Contains r.now.items k → Contains (system.reads (now self.old) site) k) }
         ensures all { IfOk result (λ r.
@@ -45,7 +50,7 @@ pub trait Sites {
 
     /// Fires the site: its mark becomes the verdict, and its effect is applied. The slots that it
     /// changes are appended to `changed`. After want of memory the state may be any of the same
-    /// course.
+    /// course, sound or not.
     fn fire<L: Ledger>(
         &mut self,
         site: u32,
@@ -65,6 +70,4 @@ pub trait Sites {
         ensures ticks { steps.new ≤ steps.old + system.cost (now self.old) site };
 
     ghost lawful: { Lawful system };
-
-    ghost sound: { (x : Self) → system.IsSound (now x) };
 }

@@ -65,6 +65,7 @@ pub is_lawful : Lawful lamps
 is_lawful = record {
   same_test = λ s t i a. a.agree i (rw a.there (Contains-push [] i));
   same_reads = λ s t i a. ap (λ (n : ℕ). cond (nat_lt i n) (i ∷ []) []) a.same_course;
+  reads_by_mark = λ s t i _ _ same _ _ _. ap (λ (n : ℕ). cond (nat_lt i n) (i ∷ []) []) same;
   keeps_sound = λ s i m. length-set s.lit (i - 1) (get_or s.lit i false) ∙ (m.sound ∙ sym (length-set s.marks i (get_or s.lit i false)));
   keeps_course = λ s i m. length-set s.lit (i - 1) (get_or s.lit i false);
   keeps_sites = λ s i j m. ap (λ (n : ℕ). nat_lt j n) (length-set s.lit (i - 1) (get_or s.lit i false));

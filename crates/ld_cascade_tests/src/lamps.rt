@@ -11,13 +11,15 @@ use std::alloc::Global;
 use std::cell::Cell;
 use std::sync::ledger::Ledger;
 
-/// Lamps, the marks of their sites, the list that lends a site's reads, and how often a site was judged.
+/// Lamps, the marks of their sites, the list that lends a site's reads, and how often a site was
+/// judged and asked for its reads.
 #[derive(Drop)]
 pub struct Lamps {
     pub lit: Vec<bool>,
     pub marks: Vec<bool>,
     list: SlotList,
     judged: Cell<u32>,
+    asked: u32,
     ghost even: { length lit.items ≡ length marks.items },
     ghost small: { length lit.items < 2 ^ 32 },
     ghost spacious: { 0 < list.room },
@@ -48,12 +50,18 @@ impl Lamps {
             marks,
             list,
             judged: Cell::new(0),
+            asked: 0,
         })
     }
 
     /// How often a site was judged.
     pub fn judged(&self) -> u32 {
         self.judged.get()
+    }
+
+    /// How often a site was asked for its reads.
+    pub fn asked(&self) -> u32 {
+        self.asked
     }
 
     /// Switches a lamp off.
@@ -78,7 +86,7 @@ impl Lamps {
 }
 
 impl Sites for Lamps {
-    ghost use Rattle.ld_cascade_tests.specs.Lamps.{lamps, lamps_of, is_lawful, is_sound};
+    ghost use Rattle.ld_cascade_tests.specs.Lamps.{lamps, lamps_of, is_lawful};
 
     ghost system = { lamps };
 
@@ -103,6 +111,7 @@ impl Sites for Lamps {
 
     fn reads<L: Ledger>(&mut self, site: u32, steps: &mut Steps<L>) -> Result<&SlotList, NoMemory> {
         steps.tick();
+        self.asked = self.asked.wrapping_add(1);
         self.list.clear();
         if (site as usize) < self.lit.len() {
             self.list.put(site);
@@ -131,6 +140,4 @@ impl Sites for Lamps {
     }
 
     ghost lawful = { is_lawful };
-
-    ghost sound = { is_sound };
 }

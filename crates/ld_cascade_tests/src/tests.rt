@@ -1,12 +1,14 @@
 ghost use Rattle.std.specs.Prelude.{◌≡◌, ℕ, ◌<◌, ◌≤◌, length, IfOk};
 ghost use Rattle.ld_cascade.specs.Rooms.{Restorable};
-ghost use Rattle.ld_cascade.specs.Tidy.{IsTidy, Tidy, Covers};
+ghost use Rattle.ld_cascade.specs.Tidy.{IsTidy, Tidy, Bound, Covers};
 ghost use Rattle.ld_cascade_tests.specs.Lamps.{lamps, lamps_of};
 ghost use Rattle.ld_cascade_tests.specs.Row.{Row};
 
 use crate::lamps::Lamps;
 use ld_base::steps::Steps;
-use ld_cascade::laws::{begins_restorable, stays_restorable, stays_tidy};
+use ld_cascade::laws::{
+    begins_bound, begins_restorable, begins_tidy, stays_bound, stays_restorable, stays_tidy,
+};
 use ld_cascade::links::Links;
 use ld_cascade::plain::settle_plainly;
 use ld_cascade::restore::restore;
@@ -48,6 +50,41 @@ fn judgements<L: Ledger>(
     let _first = settle(alloc, row, &mut links, 256, &mut steps)?;
     let before = row.judged();
     links.fresh(site);
+    let _second = settle(alloc, row, &mut links, 256, &mut steps)?;
+    Ok(row.judged().wrapping_sub(before))
+}
+
+/// 1,000 lamps are off, and settled. A slot is touched, so that its site is judged again; each site
+/// has been asked for its reads once.
+#[test]
+fn reads_are_asked_once(rt: HostRuntime) -> Result<(), Fail> {
+    let alloc = rt.alloc();
+    let mut row = Lamps::new(alloc, 1000)?;
+    row.switch_off(999);
+    let judged = judgements_of_touched::<Brand>(alloc, &mut row, 500, Blank::new(1))?;
+    assert!(rt; judged >= 1, "no site was judged");
+    assert_eq!(rt; row.asked(), 1000);
+    Ok(())
+}
+
+/// How often a site is judged when settled lamps are settled again, one of which was touched.
+fn judgements_of_touched<L: Ledger>(
+    alloc: Global,
+    row: &mut Lamps,
+    lamp: u32,
+    blank: Blank,
+) -> Result<u32, Fail>
+    requires name { blank.name ≡ L.name }
+    requires parts { blank.parts ≡ L.parts }
+    requires enough { 0 < L.parts }
+    requires lamp { lamp < length row.old.lit.items }
+    requires few { length row.old.lit.items ≤ 4000000 }
+{
+    let mut steps = Steps::<L>::new(blank);
+    let mut links = link_lamps(alloc, row)?;
+    let _first = settle(alloc, row, &mut links, 256, &mut steps)?;
+    let before = row.judged();
+    links.touch(lamp);
     let _second = settle(alloc, row, &mut links, 256, &mut steps)?;
     Ok(row.judged().wrapping_sub(before))
 }
@@ -95,14 +132,15 @@ fn both_settlings_give_the_same(rt: HostRuntime) -> Result<(), Fail> {
 /// Links for the lamps, each of whose sites is new.
 fn link_lamps(alloc: Global, row: &Lamps) -> Result<Links, Fail>
     ensures tidy { IfOk result (λ l. Tidy lamps (lamps_of row.now) l) }
+    ensures bound { IfOk result (λ l. Bound lamps (lamps_of row.now) l) }
     ensures covers { IfOk result (λ l. Covers lamps (lamps_of row.now) l) }
 {
     let mut links = Links::new(alloc);
     let count = row.lit.len() as u32;
     links.grow(count, count)?;
-    for site in 0..count {
-        links.fresh(site);
-    }
+    links.renew(count);
+    begins_tidy(row);
+    begins_bound(row);
     Ok(links)
 }
 
@@ -198,6 +236,7 @@ fn switch_last_off<L: Ledger>(
     steps: &mut Steps<L>,
 ) -> Result<Settled, Stop>
     requires tidy { (i : ℕ) → IsTidy lamps (lamps_of row.old) links.old.edges i }
+    requires bound { Bound lamps (lamps_of row.old) links.old }
     requires covers { Covers lamps (lamps_of row.old) links.old }
     requires some { 0 < length row.old.lit.items }
     requires few { length row.old.lit.items ≤ 4000000 }
@@ -207,6 +246,7 @@ fn switch_last_off<L: Ledger>(
 {
     let last = row.lit.len() as u32 - 1;
     stays_tidy(row);
+    stays_bound(row);
     stays_restorable(row);
     row.switch_off(last);
     links.touch(last);

@@ -12,7 +12,7 @@ use Rattle.ld_names.specs.Rules.{Site}
 use Rattle.ld_expr.specs.Seen.{mark_cell}
 use Rattle.ld_firing.specs.Actions.{Doing, nothing_done, differs, with_write, site_firing}
 use Rattle.ld_state.specs.RunCells.{cell_if, suits_cell}
-use Rattle.ld_state.specs.RunState.{RunState, seen_in}
+use Rattle.ld_state.specs.RunState.{RunState, seen_in, with_cell}
 use Rattle.ld_rules.specs.SiteTests.{site_test, site_mark, rule_of}
 use Rattle.ld_state.proofs.Elements.{IsIn, in_left, in_right}
 use Rattle.ld_state.proofs.SameCells.{one_cell, one_value, same_cell_itself}
@@ -108,6 +108,12 @@ told_by s doing cell c value true false is old (inr stays) =
     equal : (b : Bool) → not b ≡ false → b ≡ true
     equal true is = refl
     equal false is = absurd (cc)
+
+-- A write tells of the cell, or leaves what it had.
+pub write_told : (s : RunState) (cell : CellName) (value : Option Datum) (c : CellName)
+    → IsIn (cell_if (differs (s.cells cell) value) cell) c ⊎ ((with_cell s cell value).cells c ≡ s.cells c)
+write_told s cell value c =
+    told_by s (nothing_done s) cell c value (same_cell c cell) (differs (s.cells cell) value) refl refl (inr refl)
 
 tells_write : (s : RunState) (doing : Doing) (cell : CellName) (value : Option Datum) → IsTold s doing
     → IsTold s (with_write doing cell value)

@@ -18,6 +18,7 @@ use Rattle.ld_firing.proofs.ChecksMet.{checks_met}
 use Rattle.ld_state.proofs.Elements.{IsIn, contains_from_in, stands_in}
 use Rattle.ld_firing.proofs.Found.{in_filter_map}
 use Rattle.ld_firing.proofs.Laws.{enrolment_seats, enrolment_persons, matched_by, keeps_course, keeps_sites, keeps_count, keeps_slots, keeps_size, keeps_sound, within, no_test, no_mark, no_reads, no_size, reads_below, changes_below, own_mark, other_marks, reported}
+use Rattle.ld_firing.proofs.ReadsByMark.{reads_by_mark}
 use Rattle.ld_firing.proofs.RulesThere.{site_looks_there}
 use Rattle.ld_firing.proofs.Sites.{site_found, some_of, said_of, same_site_at}
 use Rattle.ld_rules.proofs.SitesAlike.{same_site_test, same_site_looks}
@@ -85,6 +86,7 @@ pub run_is_lawful : (unit : Course) → Lawful (run_system unit)
 run_is_lawful unit = record {
   same_test = same_test unit;
   same_reads = same_reads unit;
+  reads_by_mark = reads_by_mark unit;
   keeps_sound = keeps_sound unit;
   keeps_course = keeps_course unit;
   keeps_sites = keeps_sites unit;

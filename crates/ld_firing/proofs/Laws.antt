@@ -132,7 +132,7 @@ module _ (unit : Course) where
 
   -- ---- slots
 
-  slots_below : (s : RunState) (cells : List CellName) (k : ℕ) → Contains (slots_named unit s cells) k
+  pub slots_below : (s : RunState) (cells : List CellName) (k : ℕ) → Contains (slots_named unit s cells) k
       → k < length (all_cells unit (length s.persons))
   slots_below s cells k there =
       let by = given_by (slot_of unit (length s.persons)) cells k (in_from_contains (slots_named unit s cells) k there) in

@@ -22,6 +22,7 @@ pub mod Named
 pub mod NewValues
 pub mod OnlyShown
 pub mod Progressing
+pub mod ReadsByMark
 pub mod RulesThere
 pub mod Seats
 pub mod SeatsAscent
@@ -31,7 +32,7 @@ pub mod SeatsSweep
 pub mod SeenInStates
 pub mod Sites
 pub mod SitesNumbered
-pub mod Turning
+pub mod Told
 pub mod Turns
 pub mod TurnsFew
 pub mod Walks

@@ -130,7 +130,8 @@ same_value_itself None = refl
 same_value_itself (Some d) = same_datum_itself d
 
 module _ (unit : Course) (s t : StateView) (told after : List ℕ) (cell : CellName) (value : Option Datum) where
-  told_where : (b : Bool) → option_eq same_datum ((run_of s).cells cell) value ≡ b → IsStateOf unit s
+  -- The slots that are told of it.
+  pub told_where : (b : Bool) → option_eq same_datum ((run_of s).cells cell) value ≡ b → IsStateOf unit s
       → ((run_of s).cells cell ≡ value → after ≡ told)
       → (((run_of s).cells cell ≡ value → ⊥) → Some after ≡ option_map (λ slot. told ++ slot ∷ []) (slot_in s.layout (length s.rows) cell))
       → after ≡ told ++ filter_map (slot_of unit (length s.rows)) (cell_if (not b) cell)

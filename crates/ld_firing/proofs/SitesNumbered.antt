@@ -1,16 +1,12 @@
 -- The sites of a run: each has the number that it is found by, and the run has the cells at which it looks.
 use Rattle.std.proofs.Common.{◌≡◌, refl, sym, ap, subst, ◌∙◌, ℕ, ◌+◌, ◌*◌, ◌<◌, ◌≤◌, inl, inr, List, [], ◌∷◌, length, map, slice_get, Some, Bool, true, is_some, Contains, arith}
-use Rattle.std.proofs.lemmas.List.{length-append, length-map}
-use Rattle.std.proofs.lemmas.List.FromFn.{length-range_with_len}
 use Rattle.std.proofs.lemmas.Bool.{eq-eqb, ne_eqb, and_from}
 use Rattle.std.specs.List.{list_all}
-use Rattle.ld_cascade.specs.System.{MayFire, fires}
-use Rattle.ld_model.specs.Counting.{each_numbered_from, numbers_below}
+use Rattle.ld_model.specs.Counting.{numbers_below}
 use Rattle.ld_model.specs.declared.cell.CellName.{CellName}
 use Rattle.ld_model.specs.declared.cell.Owner.TheVariants.{Run}
 use Rattle.ld_model.specs.declared.unit.Unit.{Unit as Course}
 use Rattle.ld_names.specs.declared.rule.Rule.{Rule}
-use Rattle.ld_names.specs.declared.rule.RuleKind.{RuleKind}
 use Rattle.ld_names.specs.declared.rule.RuleKind.TheVariants.{Person as OfPerson, Run as OfRun}
 use Rattle.ld_names.specs.Rules.{Site, kind_of, person_site, rules_of, sites_by_kind, sites_of, sites_of_rule}
 use Rattle.ld_expr.specs.Viewing.{HasCells, seen_by}
@@ -21,19 +17,17 @@ use Rattle.ld_state.specs.StateView.{StateView, IsStateOf, cells_seen, has_cell,
 use Rattle.ld_state.proofs.Cells.{slot_stands}
 use Rattle.ld_state.proofs.Elements.{IsIn, contains_from_in, in_below, in_each, in_from_contains, in_map, stands_in}
 use Rattle.ld_state.proofs.Laid.{slot_laid}
-use Rattle.ld_firing.specs.Actions.{nothing_done, site_firing}
-use Rattle.ld_firing.specs.RunSystem.{IsSoundRun, run_system, site_at, site_number}
+use Rattle.ld_firing.specs.RunSystem.{IsSoundRun, site_at, site_number}
 use Rattle.ld_rules.specs.SiteLooks.{site_looks}
 use Rattle.ld_rules.specs.SiteTests.{site_mark}
-use Rattle.ld_firing.specs.SiteWalk.{HasSeats, all_sites, is_due}
+use Rattle.ld_firing.specs.SiteWalk.{HasSeats}
 use Rattle.ld_firing.proofs.CellsThere.{mark_there}
 use Rattle.ld_firing.proofs.ChecksMet.{checks_met}
-use Rattle.ld_firing.proofs.Lawful.{run_is_lawful}
 use Rattle.ld_firing.proofs.RulesThere.{site_looks_there}
 use Rattle.ld_firing.proofs.SeatsAscent.{Ascends, numbered}
 use Rattle.ld_firing.proofs.SeatsNumbers.{rules_ascend}
 use Rattle.ld_firing.proofs.SeenInStates.{persons_counted, seen_same}
-use Rattle.ld_firing.proofs.Sites.{HasSite, said_of, site_found}
+use Rattle.ld_firing.proofs.Sites.{HasSite, site_found}
 
 -- ---- numbers
 
@@ -56,23 +50,6 @@ site_numbered unit s site seats there =
     (found_by_number (site_number s.seats) (0 * s.seats) ((0 + length (rules_of unit)) * s.seats) (sites_of unit (length s.persons)) site
     (rules_ascend s.seats (length s.persons) 0 (rules_of unit) seats.seat seats.seated)
     (in_from_contains (sites_of unit (length s.persons)) site there)).1
-
--- After the firing of a site that is due the run is sound.
-pub firing_is_sound : (unit : Course) (s : RunState) (site : Site) → IsSoundRun unit s → Contains (sites_of unit (length s.persons)) site
-    → is_due unit s site ≡ true → IsSoundRun unit (site_firing unit s site).state
-firing_is_sound unit s site sound there due =
-    let number = site_number s.seats site in
-    let at = site_numbered unit s site (seats_of unit s sound) there in
-    let may : MayFire (run_system unit) s number = record {
-      sound = sound;
-      there = ap is_some at;
-      due_now = due_at number at;
-    } in
-    subst (λ doing. IsSoundRun unit doing.state) (said_of unit s number site (site_firing unit s) (nothing_done s) at)
-    ((run_is_lawful unit).keeps_sound s number may)
-  where
-    due_at : (number : ℕ) → site_at unit s number ≡ Some site → fires (run_system unit) s number ≡ true
-    due_at number at = rw at due
 
 -- ---- cells
 
@@ -113,10 +90,6 @@ module _ (unit : Course) (s : StateView) (own : IsStateOf unit s) (sound : IsSou
       has_there unit s own (site_mark site)
       (mark_there unit (length (run_of s).persons) site.rule found.rule site.owner found.ruled _ refl found.owned)
 
-  -- After its firing, where it is due, the run is sound.
-  pub fired_is_sound : is_due unit (run_of s) site ≡ true → IsSoundRun unit (site_firing unit (run_of s) site).state
-  fired_is_sound = firing_is_sound unit (run_of s) site sound there_in_run
-
 -- ---- which sites there are
 
 -- A site of a rule is one of the run.
@@ -126,35 +99,11 @@ site_of_rule_there unit persons number rule site at inside =
     contains_from_in (sites_of unit persons) site
     (in_each (sites_of_rule persons) (rules_of unit) number rule site at inside)
 
--- ---- how many sites there are
-
-few_of_kind : (persons number : ℕ) (kind : RuleKind) → persons ≤ 200 → length (sites_by_kind persons number kind) ≤ 200
-few_of_kind persons number OfPerson most =
-    omega (arith, length-map (numbers_below persons) (person_site number), length-range_with_len 0 persons, most)
-few_of_kind persons number OfRun most = omega arith
-
-few_of_rules : (persons n : ℕ) (rules : List Rule) → persons ≤ 200
-    → length (each_numbered_from (sites_of_rule persons) n rules) ≤ length rules * 200
-few_of_rules persons n [] most = omega arith
-few_of_rules persons n (rule ∷ rules) most = omega (
-  arith,
-  length-append (sites_of_rule persons n rule) (each_numbered_from (sites_of_rule persons) (n + 1) rules),
-  few_of_kind persons n (kind_of rule) most,
-  few_of_rules persons (n + 1) rules most,
-)
+-- ---- how many persons there are
 
 -- A run has at most 200 persons, since it has as many seats.
 pub persons_few : (unit : Course) (s : StateView) → IsSoundRun unit (run_of s) → length s.rows ≤ 200
 persons_few unit s sound = omega (arith, sound.seated, persons_counted s)
-
-pub few_sites : (unit : Course) (persons : ℕ) → persons ≤ 200 → length (rules_of unit) ≤ 600 → length (sites_of unit persons) ≤ 120000
-few_sites unit persons most few = omega (arith, few_of_rules persons 0 (rules_of unit) most, few)
-
--- All sites of a state, of whose unit these are the rules.
-pub all_sites_few : (unit : Course) (s : StateView) (rules : List Rule) → IsSoundRun unit (run_of s) → rules ≡ rules_of unit → length rules ≤ 600
-    → length (all_sites unit (run_of s)) ≤ 120000
-all_sites_few unit s rules sound are few =
-    few_sites unit (length (run_of s).persons) (omega (arith, sound.seated)) (subst (λ some. length some ≤ 600) are few)
 
 -- ---- the sites of a rule
 

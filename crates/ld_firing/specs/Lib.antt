@@ -7,4 +7,4 @@ pub mod RunSystem
 pub mod Seating
 pub mod SettledView
 pub mod SiteWalk
-pub mod Sweeping
+pub mod Telling

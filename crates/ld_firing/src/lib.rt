@@ -1,4 +1,4 @@
-//! What follows when the rules of a unit fire, and how a run settles.
+//! What follows when the rules of a unit fire, and what the settling of a run means.
 #![tactic(auto)]
 
 mod actions;
@@ -6,6 +6,3 @@ mod actor;
 mod changes;
 pub mod firing;
 mod notices;
-pub mod settling;
-mod sweep;
-mod totals;

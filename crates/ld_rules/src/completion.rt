@@ -28,13 +28,14 @@ use ld_value::value::Value;
 use std::sync::ledger::Ledger;
 
 /// For whom something is to be completed, the cells that say whether it was chosen and when it
-/// began, and which act is the last in it.
+/// began, and which act is the last in it: what its completion rule speaks of. (docs/MEANING.md,
+/// "Rules and sites")
 #[derive(Clone, Copy)]
-pub(crate) struct Completing<'a> {
-    pub(crate) owner: Owner,
-    pub(crate) chosen: Option<CellName>,
-    pub(crate) start: Option<CellName>,
-    pub(crate) last_act: Option<&'a Id>,
+pub struct Completing<'a> {
+    pub owner: Owner,
+    pub chosen: Option<CellName>,
+    pub start: Option<CellName>,
+    pub last_act: Option<&'a Id>,
 }
 
 /// Whether there is a completion rule, and it holds.

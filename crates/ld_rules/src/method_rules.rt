@@ -172,8 +172,9 @@ fn judge_play<V: View, L: Ledger>(
     rule_holds(unit, names, about, &play.complete, view, steps)
 }
 
-/// What the completion rule of the play speaks of: it begins when the run is started.
-fn completing_play(play: &Play) -> Completing<'_>
+/// What the completion rule of the play speaks of: it begins when the run is started. It takes no
+/// memory.
+pub fn completing_play(play: &Play) -> Completing<'_>
     ensures { completing_of result ≡ play_completing play.now }
 {
     Completing {
@@ -240,8 +241,9 @@ fn is_opened<V: View, L: Ledger>(
     }
 }
 
-/// The cell that says when the act was opened.
-fn opening_cell(unit: &Unit, names: &Names, act: &Act) -> Option<CellName>
+/// The cell that says when the act was opened; None exactly where the act's identifier names no
+/// thing. It takes no memory.
+pub fn opening_cell(unit: &Unit, names: &Names, act: &Act) -> Option<CellName>
     requires { names.now ≡ names_of unit.now }
     ensures { result ≡ opening_cell unit.now act.now }
 {
@@ -256,8 +258,8 @@ pub fn act_at(unit: &Unit, play: usize, act: usize) -> Option<&Act>
     unit.method.plays.get(play)?.acts.get(act)
 }
 
-/// Whether the identifier names an environment.
-fn is_environment(unit: &Unit, names: &Names, id: &Id) -> bool
+/// Whether the identifier names an environment. It takes no memory.
+pub fn is_environment(unit: &Unit, names: &Names, id: &Id) -> bool
     requires { names.now ≡ names_of unit.now }
     ensures { result ≡ is_some (environment_named unit.now id.now) }
 {

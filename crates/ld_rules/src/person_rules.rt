@@ -188,8 +188,9 @@ fn is_completed<V: View, L: Ledger>(
     }
 }
 
-/// What the completion rule of the activity speaks of: it begins when the person first opens it.
-fn completing_activity<'a>(
+/// What the completion rule of the activity speaks of: it begins when the person first opens it. It
+/// takes no memory.
+pub fn completing_activity<'a>(
     unit: &Unit,
     names: &Names,
     activity: &Activity,

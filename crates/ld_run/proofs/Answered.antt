@@ -57,10 +57,9 @@ module _ (unit : Course) (s : RunState) (store : GlobalValues) (moment : ℤ) (a
   )
 
   pub answered_refused : (refusal : RefusalOf) → RefusesWith (run_step unit s store moment asked) refusal → new ≡ s
-      → left ≡ store → (text ≡ refusal_text (refusal_of refusal) ++ 10 ∷ []) ⊎ (text ≡ refusal_text NoMemory ++ 10 ∷ [])
+      → left ≡ store → text ≡ refusal_text (refusal_of refusal) ++ 10 ∷ []
       → AnswersCommand unit s store moment asked text new left
-  answered_refused refusal refuses back untouched (inr wanting) = inr (wanting, back, untouched)
-  answered_refused refusal refuses back untouched (inl told) = by (refusal_or_memory (run_step unit s store moment asked) refusal refuses)
+  answered_refused refusal refuses back untouched told = by (refusal_or_memory (run_step unit s store moment asked) refusal refuses)
     where
       by : (run_step unit s store moment asked ≡ Err (refusal_of refusal)) ⊎ (refusal_of refusal ≡ NoMemory)
           → AnswersCommand unit s store moment asked text new left

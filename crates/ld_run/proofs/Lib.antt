@@ -22,6 +22,7 @@ pub mod LawsStart
 pub mod LawsTree
 pub mod LawsUnmoved
 pub mod LawsUnstarted
+pub mod LinkedRuns
 pub mod Listed
 pub mod NamedParts
 pub mod NoticesTold
@@ -37,6 +38,7 @@ pub mod SeatsOfReplies
 pub mod SeatsOfStages
 pub mod SeatsOfSteps
 pub mod SeenInRuns
+pub mod ShortNames
 pub mod SoundRuns
 pub mod StateSeen
 pub mod StepStages

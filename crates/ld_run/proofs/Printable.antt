@@ -1,5 +1,6 @@
 -- That each refusal of a check has a text.
 use Rattle.std.proofs.Common.{◌≡◌, refl, subst, ℤ, pos, length, Option, Some, None, Result, Ok, Err, ok_or, Bool, true, false, unwrap_or}
+use Rattle.ld_formats.specs.Units.{is_well_formed}
 use Rattle.ld_value.specs.Calendar.{IsMoment}
 use Rattle.ld_value.specs.Datum.{Datum, text_datum, truth_datum, number_datum, moment_datum, span_datum}
 use Rattle.ld_value.proofs.Laws.{IsMoment-from}
@@ -18,6 +19,7 @@ use Rattle.ld_run.specs.Checks.{admitted, fitting_value, in_time, last_moment, n
 use Rattle.ld_run.specs.Printing.{IsPrintable}
 use Rattle.ld_run.specs.Refusals.{Refusal, MomentBack, NotStarted, StartedAlready, UnknownPerson, PersonExists, RunFull, UnknownRole, HoldsAlready, NotHeld, RoleFull, RoleExclusive, UnknownActivity, NotByChoice, UnknownProperty, BadValue, NotAllowed, ◌>>=◌, ◌>>◌, refuse_if}
 use Rattle.ld_run.proofs.SeenInRuns.{suits_printable}
+use Rattle.ld_run.proofs.ShortNames.{role_identifiers_short}
 
 -- What is refused, if something is, has a text.
 record Prints {A : Type 0} (answer : Result A Refusal) : Type 0 where
@@ -50,9 +52,9 @@ finds : {A : Type 0} → (o : Option A) (refusal : Refusal) → IsPrintable refu
 finds (Some x) refusal printable = passes x
 finds None refusal printable = fails refusal printable
 
-shortage : (unit : Course) (short : Option Shortage) → Prints (none_short unit short)
-shortage unit None = passes tt
-shortage unit (Some short) = fails _ tt
+shortage : (unit : Course) (short : Option Shortage) → is_well_formed unit ≡ true → Prints (none_short unit short)
+shortage unit None formed = passes tt
+shortage unit (Some short) formed = fails _ (role_identifiers_short unit short.role formed)
 
 -- The last moment of a sound run has a text.
 moment_told : (unit : Course) (value : Option Datum) → suits_cell unit Now value ≡ true
@@ -71,7 +73,7 @@ last_is_moment unit s sound =
     (sound.seen.values Now
     (contains_from_in (all_cells unit (length s.persons)) Now (now_there unit (length s.persons))))
 
-module _ (unit : Course) (s : RunState) (dated : IsMoment (last_moment s)) (moment : ℤ) where
+module _ (unit : Course) (s : RunState) (formed : is_well_formed unit ≡ true) (dated : IsMoment (last_moment s)) (moment : ℤ) where
   timely : Prints (in_time s moment)
   timely = refuses _ (MomentBack (last_moment s)) dated
 
@@ -84,9 +86,9 @@ module _ (unit : Course) (s : RunState) (dated : IsMoment (last_moment s)) (mome
       and_then _ _ (refuses _ HoldsAlready tt) (and_then _ _ (refuses _ RoleFull tt) (and_then _ _ (refuses _ RoleExclusive tt) (passes _))))))
   prints (Drop person role) =
       and_then _ _ timely (with_it (the_person s person) _ (finds _ UnknownPerson tt) (λ p. with_it (the_role unit role) _ (finds _ UnknownRole tt) (λ r.
-      and_then _ _ (refuses _ NotHeld tt) (and_then _ _ (shortage unit _) (passes _)))))
+      and_then _ _ (refuses _ NotHeld tt) (and_then _ _ (shortage unit _ formed) (passes _)))))
   prints Start =
-      and_then _ _ timely (and_then _ _ (refuses _ StartedAlready tt) (and_then _ _ (shortage unit _) (passes _)))
+      and_then _ _ timely (and_then _ _ (refuses _ StartedAlready tt) (and_then _ _ (shortage unit _ formed) (passes _)))
   prints (Open person activity) =
       and_then _ _ timely (and_then _ _ (refuses _ NotStarted tt) (with_it (the_person s person) _ (finds _ UnknownPerson tt) (λ p.
       with_it (the_activity unit activity) _ (finds _ UnknownActivity tt) (λ thing. passes _))))
@@ -114,4 +116,4 @@ module _ (unit : Course) (s : RunState) (dated : IsMoment (last_moment s)) (mome
 pub refused_printable : (unit : Course) (s : RunState) (moment : ℤ) (command : RunCommand) (refusal : Refusal)
     → IsSoundRun unit s → admitted unit s moment command ≡ Err refusal → IsPrintable refusal
 refused_printable unit s moment command refusal sound is =
-    (prints unit s (last_is_moment unit s sound) moment command).each refusal is
+    (prints unit s sound.valid.formed (last_is_moment unit s sound) moment command).each refusal is

@@ -28,3 +28,12 @@ has_change (shows_outbox _) = false
 has_change reports = false
 has_change ticks = false
 has_change _ = true
+
+-- The command changes the persons or their roles, or starts the run: which sites there are, or what
+-- they read, may be another matter then.
+abbrev pub renews_sites : Admitted → Bool
+renews_sites (enrols _) = true
+renews_sites (assigns _ _) = true
+renews_sites (drops _ _) = true
+renews_sites starts = true
+renews_sites _ = false

@@ -5,6 +5,7 @@ pub mod CheckStages
 pub mod Checks
 pub mod Commands
 pub mod LineWords
+pub mod Linked
 pub mod Printed
 pub mod Printing
 pub mod Reached

@@ -11,15 +11,11 @@ use Rattle.ld_expr.specs.Seen.{moment_of_value}
 use Rattle.ld_state.specs.RunState.{NoticeState}
 use Rattle.ld_run.specs.Refusals.{Refusal, MomentBack, RoleShort}
 
--- The moment that the refusal tells lies in the years 1 to 9999.
+-- The moment that the refusal tells lies in the years 1 to 9999, and the identifier has at most 64 bytes.
 abbrev pub IsPrintable : Refusal → Type 0
 IsPrintable (MomentBack last) = IsMoment last
+IsPrintable (RoleShort role _ _) = length role ≤ 64
 IsPrintable _ = Unit {0}
-
--- The identifier that the refusal tells has at most 64 bytes.
-abbrev pub TellsShortly : Refusal → Type 0
-TellsShortly (RoleShort role _ _) = length role ≤ 64
-TellsShortly _ = Unit {0}
 
 -- A moment in a cell that there is lies in the years 1 to 9999.
 abbrev pub HasMoments : (CellName → Bool) → CellMap → Type 0

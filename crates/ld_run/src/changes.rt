@@ -1,5 +1,5 @@
 //! What a command changes directly.
-ghost use Rattle.std.specs.Prelude.{◌≡◌, None, OnOk, Some};
+ghost use Rattle.std.specs.Prelude.{◌≡◌, None, OnOk, Some, false};
 ghost use Rattle.ld_value.specs.Datum.{moment_datum};
 ghost use Rattle.ld_expr.specs.Owners.{of_person};
 ghost use Rattle.ld_expr.specs.Seen.{opened_cell};
@@ -9,10 +9,12 @@ ghost use Rattle.ld_roles.specs.declared.limit.TheConstants.{SEATS};
 ghost use Rattle.ld_state.specs.RunState.{joined};
 ghost use Rattle.ld_state.specs.StateView.{HasMarkedPersons, IsStateOf, run_of};
 ghost use Rattle.ld_firing.specs.RunSystem.{IsSoundRun};
+ghost use Rattle.ld_firing.specs.Telling.{Tells};
 ghost use Rattle.ld_sharing.specs.Fitting.{BeginsFitting};
 ghost use Rattle.ld_sharing.specs.StoreView.{Serves, values_of};
 ghost use Rattle.ld_run.specs.AdmittedView.{HasPersonAndActivity, IsPossible, JoinsFitting, admitted_of};
 ghost use Rattle.ld_run.specs.Changes.{directly_changed, with_first};
+ghost use Rattle.ld_run.specs.Commands.{renews_sites};
 
 use crate::admitted::Admitted;
 use ld_base::id::Id;
@@ -39,6 +41,7 @@ pub(crate) fn change_directly<L: Ledger>(
     globals: &Globals,
     moment: Moment,
     command: &Admitted<'_>,
+    changed: &mut Vec<u32>,
     steps: &mut Steps<L>,
 ) -> Result<(), NoMemory>
     requires own { IsStateOf unit.now state.old }
@@ -52,9 +55,10 @@ pub(crate) fn change_directly<L: Ledger>(
         (JoinsFitting unit.now (values_of globals.now) (admitted_of command.now)) }
     ensures own { IsStateOf unit.now state.new }
     ensures kept { state.new.kept ≡ state.old.kept }
+    ensures told { OnOk result (renews_sites (admitted_of command.now) ≡ false
+        → Tells unit.now (run_of state.old) (run_of state.new)
+        changed.old.items changed.new.items) }
 {
-    let mut changed = Vec::new(alloc);
-    let changed = &mut changed;
     match command {
         Admitted::Enrols(name) => {
             enrol(alloc, unit, state, globals, moment, *name, changed, steps)
@@ -124,6 +128,8 @@ fn open_first<L: Ledger>(
     ensures own { IsStateOf unit.now state.new }
     ensures rows { state.new.rows ≡ state.old.rows }
     ensures kept { state.new.kept ≡ state.old.kept }
+    ensures told { OnOk result (Tells unit.now (run_of state.old) (run_of state.new)
+        changed.old.items changed.new.items) }
 {
     let cell = CellName::Opened(thing, Owner::Person(person));
     if let Some(_) = state.get(cell, steps) {

@@ -2,11 +2,14 @@
 ghost use Rattle.std.specs.Prelude.{◌≡◌, Err, IfErr, IfOk, Ok, OnOk, false, true};
 ghost use Rattle.ld_state.specs.StateView.{HasMarkedPersons, IsStateOf, run_of};
 ghost use Rattle.ld_firing.specs.RunSystem.{IsSoundRun};
+ghost use Rattle.ld_firing.specs.Telling.{Tells};
+ghost use Rattle.ld_settling.specs.RunLinking.{Widens};
 ghost use Rattle.ld_value.specs.Calendar.{IsMoment};
 ghost use Rattle.ld_sharing.specs.Fitting.{HasFittingGlobals, TakesFitting};
 ghost use Rattle.ld_sharing.specs.Globals.{taking_in};
 ghost use Rattle.ld_sharing.specs.StoreView.{Serves, values_of};
 ghost use Rattle.ld_run.specs.AdmittedView.{HasPersonAndActivity, IsPossible, IsTellable, WritesFitting, admitted_of};
+ghost use Rattle.ld_run.specs.Linked.{HasLinks};
 ghost use Rattle.ld_run.specs.Printing.{AreNoticesOf, IsPrintable};
 ghost use Rattle.ld_run.specs.RefusalView.{RefusesWith, refusal_of};
 ghost use Rattle.ld_run.specs.Refusals.{NotOpen};
@@ -16,7 +19,7 @@ ghost use Rattle.ld_run.specs.StageView.{done_with};
 use crate::admitted::Admitted;
 use crate::changes::change_directly;
 use crate::refusal::Refusal;
-use crate::settling::{both, is_started, settle_if, settles_after};
+use crate::settling::{both, is_started, renews_sites, settle_if, settles_after};
 use ld_base::memory::NoMemory;
 use ld_base::numbers::{PersonNo, ThingNo};
 use ld_base::steps::Steps;
@@ -25,6 +28,7 @@ use ld_globals::globals::Globals;
 use ld_model::cell::CellName;
 use ld_names::names::Named;
 use ld_rules::prepared::PreparedUnit;
+use ld_settling::links::RunLinks;
 use ld_sharing::taking::take_in;
 use ld_state::state::State;
 use ld_tree::tree::is_open;
@@ -38,6 +42,7 @@ pub(crate) fn do_admitted<L: Ledger>(
     alloc: Global,
     unit: &PreparedUnit,
     state: &mut State,
+    links: &mut RunLinks,
     globals: &Globals,
     moment: Moment,
     command: &Admitted<'_>,
@@ -45,6 +50,7 @@ pub(crate) fn do_admitted<L: Ledger>(
 ) -> Result<Settled, Refusal<'static>>
     requires own { IsStateOf unit.now state.old }
     requires sound { IsSoundRun unit.now (run_of state.old) }
+    requires linked { HasLinks unit.now (run_of state.old) links.old }
     requires fitting { HasFittingGlobals unit.now (run_of state.old) }
     requires serves { Serves globals.now unit.now }
     requires notices { AreNoticesOf unit.now state.old.outbox }
@@ -66,22 +72,37 @@ pub(crate) fn do_admitted<L: Ledger>(
         (IsTellable unit.now (run_of state.new) (admitted_of command.now)) }
     ensures own { IsStateOf unit.now state.new }
     ensures kept { state.new.kept ≡ state.old.kept }
+    ensures linked { OnOk result (HasLinks unit.now (run_of state.new) links.new) }
+    ensures widens { Widens links.old links.new }
 {
-    if let Err(_) = refresh(alloc, unit, state, globals, moment, steps) {
+    let mut refreshed = Vec::new(alloc);
+    if let Err(_) = refresh(alloc, unit, state, globals, moment, &mut refreshed, steps) {
         return Err(Refusal::NoMemory);
     }
-    let first = match settle_if(alloc, is_started(unit, state, steps), unit, state, steps) {
+    let started = is_started(unit, state, steps);
+    let first = match settle_if(alloc, started, false, unit, state, links, &refreshed, steps) {
         Ok(settled) => settled,
         Err(refusal) => return Err(refusal),
     };
     if !is_open_for(unit, state, command, steps) {
         return Err(Refusal::NotOpen);
     }
-    if let Err(_) = change_directly(alloc, unit, state, globals, moment, command, steps) {
+    let mut changed = Vec::new(alloc);
+    if let Err(_) = change_directly(
+        alloc,
+        unit,
+        state,
+        globals,
+        moment,
+        command,
+        &mut changed,
+        steps,
+    ) {
         return Err(Refusal::NoMemory);
     }
     let settles = settles_after(unit, state, command, steps);
-    let second = match settle_if(alloc, settles, unit, state, steps) {
+    let renews = renews_sites(command);
+    let second = match settle_if(alloc, settles, renews, unit, state, links, &changed, steps) {
         Ok(settled) => settled,
         Err(refusal) => return Err(refusal),
     };
@@ -98,6 +119,7 @@ fn refresh<L: Ledger>(
     state: &mut State,
     globals: &Globals,
     moment: Moment,
+    changed: &mut Vec<u32>,
     steps: &mut Steps<L>,
 ) -> Result<(), NoMemory>
     requires own { IsStateOf unit.now state.old }
@@ -111,17 +133,19 @@ fn refresh<L: Ledger>(
     ensures own { IsStateOf unit.now state.new }
     ensures rows { state.new.rows ≡ state.old.rows }
     ensures kept { state.new.kept ≡ state.old.kept }
+    ensures told { OnOk result (Tells unit.now (run_of state.old) (run_of state.new)
+        changed.old.items changed.new.items) }
 {
-    set_moment(alloc, unit, state, moment)?;
-    take_in(alloc, unit, state, globals, steps)
+    set_moment(unit, state, moment, changed)?;
+    take_in(alloc, unit, state, globals, changed, steps)
 }
 
 /// Keeps the moment as the run's last one.
 fn set_moment(
-    alloc: Global,
     unit: &PreparedUnit,
     state: &mut State,
     moment: Moment,
+    changed: &mut Vec<u32>,
 ) -> Result<(), NoMemory>
     requires own { IsStateOf unit.now state.old }
     requires sound { IsSoundRun unit.now (run_of state.old) }
@@ -131,10 +155,10 @@ fn set_moment(
     ensures own { IsStateOf unit.now state.new }
     ensures rows { state.new.rows ≡ state.old.rows }
     ensures kept { state.new.kept ≡ state.old.kept }
+    ensures told { OnOk result (Tells unit.now (run_of state.old) (run_of state.new)
+        changed.old.items changed.new.items) }
 {
-    let mut changed = Vec::new(alloc);
-    state.set(CellName::Now, Some(Value::Moment(moment)), &mut changed)?;
-    Ok(())
+    state.set(CellName::Now, Some(Value::Moment(moment)), changed)
 }
 
 /// Whether what the command opens or completes is open for its person.

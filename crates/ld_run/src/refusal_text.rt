@@ -4,7 +4,7 @@ ghost use Rattle.std.specs.Str.{IsAscii};
 ghost use Rattle.ld_base.specs.Roomy.{KeepsRoom};
 ghost use Rattle.ld_lines.specs.Refusals.{HasRefusal, word_of_refusal};
 ghost use Rattle.ld_run.specs.Printed.{words_behind};
-ghost use Rattle.ld_run.specs.Printing.{IsPrintable, TellsShortly};
+ghost use Rattle.ld_run.specs.Printing.{IsPrintable};
 ghost use Rattle.ld_run.specs.RefusalView.{refusal_of};
 ghost use Rattle.ld_run.specs.Refusals.{details_of};
 
@@ -35,7 +35,8 @@ pub(crate) fn push_details(refusal: Refusal<'_>, out: &mut Text) -> Result<(), N
     requires printable { IsPrintable (refusal_of refusal) }
     ensures text { OnOk result (out.new.bytes
         ≡ out.old.bytes ++ words_behind (details_of (refusal_of refusal.entry))) }
-    ensures within { TellsShortly (refusal_of refusal.entry) → 87 ≤ out.old.spare → IsOk result }
+    ensures within { 87 ≤ out.old.spare → IsOk result }
+    ensures left { OnOk result (out.old.spare ≤ out.new.spare + 87) }
     ensures room { KeepsRoom out.old out.new }
 {
     match refusal {
@@ -53,6 +54,7 @@ pub(crate) fn push_details(refusal: Refusal<'_>, out: &mut Text) -> Result<(), N
 fn push_word(word: &str, out: &mut Text) -> Result<(), NoMemory>
     ensures text { OnOk result (out.new.bytes ≡ out.old.bytes ++ 32 ∷ word.now) }
     ensures within { length word.now + 1 ≤ out.old.spare → IsOk result }
+    ensures left { OnOk result (out.old.spare ≤ out.new.spare + (length word.now + 1)) }
     ensures room { KeepsRoom out.old out.new }
 {
     out.push(" ")?;
@@ -64,6 +66,7 @@ fn push_ascii_word(word: &[u8], out: &mut Text) -> Result<(), NoMemory>
     requires { IsAscii word.now }
     ensures text { OnOk result (out.new.bytes ≡ out.old.bytes ++ 32 ∷ word.now) }
     ensures within { length word.now + 1 ≤ out.old.spare → IsOk result }
+    ensures left { OnOk result (out.old.spare ≤ out.new.spare + (length word.now + 1)) }
     ensures room { KeepsRoom out.old out.new }
 {
     out.push(" ")?;

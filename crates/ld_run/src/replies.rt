@@ -1,5 +1,5 @@
 //! The replies to the commands of a run.
-ghost use Rattle.std.specs.Prelude.{◌≡◌, ◌<◌, ◌≤◌, ◌++◌, codes, decimal, length, map, IsOk, OnOk};
+ghost use Rattle.std.specs.Prelude.{◌≡◌, ◌+◌, ◌<◌, ◌≤◌, ◌++◌, codes, decimal, length, map, IsOk, OnOk};
 ghost use Rattle.ld_base.specs.Roomy.{KeepsRoom};
 ghost use Rattle.ld_state.specs.RunState.{seen_in};
 ghost use Rattle.ld_state.specs.StateView.{IsStateOf, run_of};
@@ -8,7 +8,7 @@ ghost use Rattle.ld_firing.specs.SettledView.{sums_in};
 ghost use Rattle.ld_tree.specs.Lines.{line_text, spaced};
 ghost use Rattle.ld_tree.specs.Tree.{tree_lines};
 ghost use Rattle.ld_run.specs.AdmittedView.{HasPropertyCell, IsTellable, admitted_of};
-ghost use Rattle.ld_run.specs.Printing.{AreNoticesOf, IsPrintable, TellsShortly};
+ghost use Rattle.ld_run.specs.Printing.{AreNoticesOf, IsPrintable};
 ghost use Rattle.ld_run.specs.RefusalView.{refusal_of};
 ghost use Rattle.ld_run.specs.Replies.{counted_lines, printed_value, refusal_text, sums_text, told_of, verb_of};
 ghost use Rattle.ld_run.specs.Reports.{outbox_lines, report_lines};
@@ -78,7 +78,8 @@ pub fn push_refusal(refusal: Refusal<'_>, out: &mut Text) -> Result<(), NoMemory
     requires printable { IsPrintable (refusal_of refusal) }
     ensures text { OnOk result (out.new.bytes
         ≡ out.old.bytes ++ refusal_text (refusal_of refusal.entry)) }
-    ensures within { TellsShortly (refusal_of refusal.entry) → 127 ≤ out.old.spare → IsOk result }
+    ensures within { 127 ≤ out.old.spare → IsOk result }
+    ensures left { OnOk result (out.old.spare ≤ out.new.spare + 127) }
     ensures room { KeepsRoom out.old out.new }
 {
     push_number_and_word(refusal.number(), out)?;

@@ -8,7 +8,7 @@ ghost use Rattle.ld_firing.specs.RunSystem.{IsSoundRun};
 ghost use Rattle.ld_value.specs.Calendar.{IsMoment};
 ghost use Rattle.ld_sharing.specs.Fitting.{HasFittingGlobals};
 ghost use Rattle.ld_sharing.specs.StoreView.{Serves, values_of};
-ghost use Rattle.ld_run.specs.Reached.{IsReached as HasCome};
+ghost use Rattle.ld_run.specs.Reached.{IsReached};
 ghost use Rattle.ld_run.specs.RunView.{AnswersCommand};
 
 use crate::stages::step;
@@ -19,6 +19,7 @@ use ld_base::text::Text;
 use ld_globals::globals::Globals;
 use ld_lines::command::RunCommand;
 use ld_rules::prepared::PreparedUnit;
+use ld_settling::links::RunLinks;
 use ld_sharing::stored::stored_values;
 use ld_state::state::State;
 use ld_value::moment::Moment;
@@ -32,12 +33,18 @@ use std::sync::ledger::Ledger;
 pub struct Run {
     unit: Rc<PreparedUnit>,
     state: State,
+    /// Those of its sites, once it is started.
+    links: RunLinks,
 }
 
 // By hand, so that a function which lets one go calls this and is not proved over each field anew.
 impl Drop for Run {
     fn drop(self) {
-        let Self { unit: _, state: _ } = self;
+        let Self {
+            unit: _,
+            state: _,
+            links: _,
+        } = self;
     }
 }
 
@@ -53,8 +60,9 @@ impl Model for Run {
     ghost use Rattle.std.specs.Prelude.{◌≡◌, None};
     ghost use Rattle.ld_firing.specs.RunSystem.{IsSoundRun};
     ghost use Rattle.ld_state.specs.StateView.{IsStateOf, run_of as state_of};
+    ghost use Rattle.ld_run.specs.Linked.{HasLinks};
     ghost use Rattle.ld_run.specs.Printing.{AreNoticesOf};
-    ghost use Rattle.ld_run.specs.Reached.{IsReached};
+    ghost use Rattle.ld_run.specs.Reached.{IsReached as HasCome};
     ghost use Rattle.ld_sharing.specs.Fitting.{HasFittingGlobals as AreFitting};
 
     ghost view = { λ s. record { unit = s.unit.value; state = s.state } };
@@ -63,7 +71,8 @@ impl Model for Run {
         × IsSoundRun s.unit.value (state_of s.state)
         × AreFitting s.unit.value (state_of s.state) × (s.state.kept ≡ None)
         × AreNoticesOf s.unit.value s.state.outbox
-        × IsReached s.unit.value (state_of s.state) };
+        × HasCome s.unit.value (state_of s.state)
+        × HasLinks s.unit.value (state_of s.state) s.links };
 }
 
 impl Run {
@@ -81,10 +90,11 @@ impl Run {
         ensures unit { IfOk result (λ run. run.unit ≡ unit.value) }
         ensures state { IfOk result (λ run. run_of run.state
             ≡ made_at SEATS unit.value (values_of globals.now) moment.0) }
-        ensures reached { IfOk result (λ run. HasCome run.unit (run_of run.state)) }
+        ensures reached { IfOk result (λ run. IsReached run.unit (run_of run.state)) }
     {
+        let links = RunLinks::new(alloc)?;
         let state = begin(alloc, &unit, globals, moment, steps)?;
-        Ok(Run { unit, state })
+        Ok(Run { unit, state, links })
     }
 
     /// Does the command at the moment, or refuses it: `out` is emptied and then holds the reply block.
@@ -107,13 +117,14 @@ impl Run {
             (values_of globals.old) moment.0 command.now out.new.bytes (run_of self.new.state)
             (values_of globals.new) }
         ensures declared { globals.new.declared ≡ globals.old.declared }
-        ensures reached { HasCome self.new.unit (run_of self.new.state) }
+        ensures reached { IsReached self.new.unit (run_of self.new.state) }
         ensures room { 128 ≤ room_of out.new }
     {
         let Err(refusal) = step(
             alloc,
             &self.unit,
             &mut self.state,
+            &mut self.links,
             globals,
             moment,
             command,

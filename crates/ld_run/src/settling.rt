@@ -1,13 +1,17 @@
 //! The settlings of a command.
 ghost use Rattle.std.specs.Prelude.{◌≡◌, ◌+◌, ◌&&◌, IfErr, IfOk, Ok, OnOk, false, true};
 ghost use Rattle.ld_state.specs.StateView.{IsStateOf, run_of};
-ghost use Rattle.ld_firing.specs.RunSystem.{IsSoundRun};
+ghost use Rattle.ld_firing.specs.RunSystem.{IsSoundRun, run_system};
 ghost use Rattle.ld_firing.specs.SettledView.{settlement_of, sums_in};
 ghost use Rattle.ld_cascade.specs.Settling.{plus};
+ghost use Rattle.ld_cascade.specs.Tidy.{Covers};
+ghost use Rattle.ld_cascade.specs.Wiring.{IsEmpty};
+ghost use Rattle.ld_settling.specs.RunLinking.{AreLinksOf, Widens};
 ghost use Rattle.ld_sharing.specs.Fitting.{HasFittingGlobals};
 ghost use Rattle.ld_run.specs.AdmittedView.{admitted_of};
 ghost use Rattle.ld_run.specs.Checks.{is_started};
-ghost use Rattle.ld_run.specs.Commands.{has_change};
+ghost use Rattle.ld_run.specs.Commands.{has_change, renews_sites};
+ghost use Rattle.ld_run.specs.Linked.{HadLinks, HasLinks};
 ghost use Rattle.ld_run.specs.Printing.{AreNoticesOf, IsPrintable};
 ghost use Rattle.ld_run.specs.RefusalView.{RefusesWith, refusal_of};
 ghost use Rattle.ld_run.specs.RunStep.{settled};
@@ -17,26 +21,34 @@ use crate::refusal::Refusal;
 use ld_base::memory::NoMemory;
 use ld_base::steps::Steps;
 use ld_cascade::settled::{Settled, Stop};
-use ld_firing::settling::settle;
 use ld_model::cell::CellName;
 use ld_model::view::View;
 use ld_rules::prepared::PreparedUnit;
+use ld_settling::links::RunLinks;
+use ld_settling::settling::settle;
 use ld_state::state::State;
 use std::alloc::Global;
 use std::sync::ledger::Ledger;
 
-/// Settles the run, where it is to.
+/// Settles the run, where it is to. Its links are told what changed before, or all of its sites are
+/// renewed.
 pub(crate) fn settle_if<L: Ledger>(
     alloc: Global,
     settles: bool,
+    renews: bool,
     unit: &PreparedUnit,
     state: &mut State,
+    links: &mut RunLinks,
+    changed: &[u32],
     steps: &mut Steps<L>,
 ) -> Result<Settled, Refusal<'static>>
     requires own { IsStateOf unit.now state.old }
     requires sound { IsSoundRun unit.now (run_of state.old) }
     requires fitting { HasFittingGlobals unit.now (run_of state.old) }
     requires notices { AreNoticesOf unit.now state.old.outbox }
+    requires told { settles ≡ true → renews ≡ false
+        → HadLinks unit.now (run_of state.old) changed.now links.old }
+    requires linked { settles ≡ false → HasLinks unit.now (run_of state.old) links.old }
     ensures settled { IfOk result (λ totals. settled settles unit.now (run_of state.old)
         ≡ Ok (settlement_of totals (run_of state.new))) }
     ensures refused { IfErr result (RefusesWith (settled settles unit.now (run_of state.old))) }
@@ -47,15 +59,64 @@ pub(crate) fn settle_if<L: Ledger>(
     ensures own { IsStateOf unit.now state.new }
     ensures rows { state.new.rows ≡ state.old.rows }
     ensures kept { state.new.kept ≡ state.old.kept }
+    ensures linked { OnOk result (HasLinks unit.now (run_of state.new) links.new) }
+    ensures clean { OnOk result (settles ≡ true → IsEmpty links.new.dirty) }
+    ensures widens { Widens links.old links.new }
 {
     if !settles {
         return Ok(NO_SETTLING);
     }
-    match settle(alloc, unit, state, steps) {
+    if let Err(_) = relink(renews, unit, state, links, changed) {
+        return Err(Refusal::NoMemory);
+    }
+    match settle(alloc, unit, state, links, steps) {
         Ok(totals) => Ok(totals),
         Err(Stop::TurnBudget) => Err(Refusal::TurnBudget),
         Err(Stop::NoMemory) => Err(Refusal::NoMemory),
     }
+}
+
+/// Makes the links those of the run as it is now: all of its sites are dirty then, or the readers
+/// of the slots that changed. After an error, which is want of memory, no range is smaller.
+fn relink(
+    renews: bool,
+    unit: &PreparedUnit,
+    state: &State,
+    links: &mut RunLinks,
+    changed: &[u32],
+) -> Result<(), NoMemory>
+    requires own { IsStateOf unit.now state.now }
+    requires sound { IsSoundRun unit.now (run_of state.now) }
+    requires told { renews ≡ false
+        → HadLinks unit.now (run_of state.now) changed.now links.old }
+    ensures linked { OnOk result (AreLinksOf unit.now (run_of state.now) links.new) }
+    ensures widens { Widens links.old links.new }
+{
+    if renews {
+        return links.renew(unit, state);
+    }
+    links.tell(changed);
+    Ok(())
+}
+
+/// Gives the run, whose state was taken back, its links anew, if it is started.
+pub(crate) fn reset_links<L: Ledger>(
+    unit: &PreparedUnit,
+    state: &State,
+    links: &mut RunLinks,
+    steps: &mut Steps<L>,
+)
+    requires own { IsStateOf unit.now state.now }
+    requires sound { IsSoundRun unit.now (run_of state.now) }
+    requires covers { is_started (run_of state.now) ≡ true
+        → Covers (run_system unit.now) (run_of state.now) links.old }
+    ensures linked { HasLinks unit.now (run_of state.now) links.new }
+    ensures widens { Widens links.old links.new }
+{
+    if !is_started(unit, state, steps) {
+        return;
+    }
+    links.reset(unit, state);
 }
 
 /// The numbers of a settling of which there was none.
@@ -93,6 +154,17 @@ fn has_change(command: &Admitted<'_>) -> bool
         | Admitted::Reports
         | Admitted::Ticks => false,
         _ => true,
+    }
+}
+
+/// Whether all sites of the run are renewed once the command has changed it.
+pub(crate) fn renews_sites(command: &Admitted<'_>) -> bool
+    ensures { result ≡ renews_sites (admitted_of command.now) }
+{
+    match command {
+        Admitted::Enrols(_) | Admitted::Assigns(_, _) | Admitted::Drops(_, _) | Admitted::Starts =>
+            true,
+        _ => false,
     }
 }
 

@@ -4,12 +4,14 @@ ghost use Rattle.ld_base.specs.Roomy.{KeepsRoom};
 ghost use Rattle.ld_state.specs.GlobalValues.{GlobalValues};
 ghost use Rattle.ld_state.specs.StateView.{HasMarkedPersons, IsStateOf, run_of};
 ghost use Rattle.ld_firing.specs.RunSystem.{IsSoundRun};
+ghost use Rattle.ld_settling.specs.RunLinking.{Widens};
 ghost use Rattle.ld_value.specs.Calendar.{IsMoment};
 ghost use Rattle.ld_sharing.specs.Fitting.{HasFittingGlobals};
 ghost use Rattle.ld_sharing.specs.Globals.{giving_back};
 ghost use Rattle.ld_sharing.specs.StoreView.{Serves, values_of};
 ghost use Rattle.ld_sharing.specs.Writes.{AreWritesOf};
 ghost use Rattle.ld_run.specs.AdmittedView.{IsPossible, IsTellable, WritesFitting, admitted_of};
+ghost use Rattle.ld_run.specs.Linked.{HasLinks};
 ghost use Rattle.ld_run.specs.Printing.{AreNoticesOf, IsPrintable};
 ghost use Rattle.ld_run.specs.RefusalView.{RefusesWith, refusal_of};
 ghost use Rattle.ld_run.specs.Replies.{done_text};
@@ -21,6 +23,7 @@ use crate::checks::admit;
 use crate::doing::do_admitted;
 use crate::refusal::Refusal;
 use crate::replies::push_done;
+use crate::settling::reset_links;
 use ld_base::memory::NoMemory;
 use ld_base::steps::Steps;
 use ld_base::text::Text;
@@ -28,6 +31,7 @@ use ld_cascade::settled::Settled;
 use ld_globals::globals::Globals;
 use ld_lines::command::RunCommand;
 use ld_rules::prepared::PreparedUnit;
+use ld_settling::links::RunLinks;
 use ld_sharing::giving::{Write, give_back, prepare};
 use ld_state::state::State;
 use ld_value::moment::Moment;
@@ -41,6 +45,7 @@ pub(crate) fn step<'a, L: Ledger>(
     alloc: Global,
     unit: &'a PreparedUnit,
     state: &mut State,
+    links: &mut RunLinks,
     globals: &mut Globals,
     moment: Moment,
     command: &'a RunCommand,
@@ -51,6 +56,7 @@ pub(crate) fn step<'a, L: Ledger>(
     requires sound { IsSoundRun unit.now (run_of state.old) }
     requires fitting { HasFittingGlobals unit.now (run_of state.old) }
     requires serves { Serves globals.old unit.now }
+    requires linked { HasLinks unit.now (run_of state.old) links.old }
     requires notices { AreNoticesOf unit.now state.old.outbox }
     requires moment { IsMoment moment.0 }
     requires unmarked { state.old.kept ≡ None }
@@ -69,9 +75,13 @@ pub(crate) fn step<'a, L: Ledger>(
     ensures printable { IfErr result (λ refusal. IsPrintable (refusal_of refusal)) }
     ensures unmarked { state.new.kept ≡ None }
     ensures room { KeepsRoom out.old out.new }
+    ensures linked { HasLinks unit.now (run_of state.new) links.new }
+    ensures widens { Widens links.old links.new }
 {
     match admit(alloc, unit, state, moment, command, steps) {
-        Ok(admitted) => try_admitted(alloc, unit, state, globals, moment, &admitted, out, steps),
+        Ok(admitted) => try_admitted(
+            alloc, unit, state, links, globals, moment, &admitted, out, steps,
+        ),
         Err(refusal) => Err(refusal),
     }
 }
@@ -82,6 +92,7 @@ fn try_admitted<'a, L: Ledger>(
     alloc: Global,
     unit: &PreparedUnit,
     state: &mut State,
+    links: &mut RunLinks,
     globals: &mut Globals,
     moment: Moment,
     command: &Admitted<'_>,
@@ -92,6 +103,7 @@ fn try_admitted<'a, L: Ledger>(
     requires sound { IsSoundRun unit.now (run_of state.old) }
     requires fitting { HasFittingGlobals unit.now (run_of state.old) }
     requires serves { Serves globals.old unit.now }
+    requires linked { HasLinks unit.now (run_of state.old) links.old }
     requires notices { AreNoticesOf unit.now state.old.outbox }
     requires moment { IsMoment moment.0 }
     requires possible { IsPossible unit.now (run_of state.old) (admitted_of command.now) }
@@ -113,9 +125,13 @@ fn try_admitted<'a, L: Ledger>(
     ensures printable { IfErr result (λ refusal. IsPrintable (refusal_of refusal)) }
     ensures unmarked { state.new.kept ≡ None }
     ensures room { KeepsRoom out.old out.new }
+    ensures linked { HasLinks unit.now (run_of state.new) links.new }
+    ensures widens { Widens links.old links.new }
 {
     state.mark();
-    match do_and_tell(alloc, unit, state, globals, moment, command, out, steps) {
+    match do_and_tell(
+        alloc, unit, state, links, globals, moment, command, out, steps,
+    ) {
         Ok(writes) => {
             state.keep();
             give_back(globals, writes);
@@ -123,6 +139,7 @@ fn try_admitted<'a, L: Ledger>(
         }
         Err(refusal) => {
             state.undo();
+            reset_links(unit, state, links, steps);
             Err(refusal)
         }
     }
@@ -134,6 +151,7 @@ fn do_and_tell<L: Ledger>(
     alloc: Global,
     unit: &PreparedUnit,
     state: &mut State,
+    links: &mut RunLinks,
     globals: &mut Globals,
     moment: Moment,
     command: &Admitted<'_>,
@@ -144,6 +162,7 @@ fn do_and_tell<L: Ledger>(
     requires sound { IsSoundRun unit.now (run_of state.old) }
     requires fitting { HasFittingGlobals unit.now (run_of state.old) }
     requires serves { Serves globals.old unit.now }
+    requires linked { HasLinks unit.now (run_of state.old) links.old }
     requires notices { AreNoticesOf unit.now state.old.outbox }
     requires moment { IsMoment moment.0 }
     requires possible { IsPossible unit.now (run_of state.old) (admitted_of command.now) }
@@ -167,8 +186,10 @@ fn do_and_tell<L: Ledger>(
     ensures own { IsStateOf unit.now state.new }
     ensures kept { state.new.kept ≡ state.old.kept }
     ensures room { KeepsRoom out.old out.new }
+    ensures linked { OnOk result (HasLinks unit.now (run_of state.new) links.new) }
+    ensures widens { Widens links.old links.new }
 {
-    let totals = match do_admitted(alloc, unit, state, globals, moment, command, steps) {
+    let totals = match do_admitted(alloc, unit, state, links, globals, moment, command, steps) {
         Ok(totals) => totals,
         Err(refusal) => return Err(refusal),
     };

@@ -1,5 +1,5 @@
 //! Reply blocks to lines that are refused.
-ghost use Rattle.std.specs.Prelude.{◌≡◌, ◌≤◌, ◌++◌, ◌∷◌, ◌⊎◌, [], length, OnOk};
+ghost use Rattle.std.specs.Prelude.{◌≡◌, ◌≤◌, ◌++◌, ◌∷◌, [], length, IsOk, OnOk};
 ghost use Rattle.ld_base.specs.Roomy.{KeepsRoom, room_of};
 ghost use Rattle.ld_run.specs.Printing.{IsPrintable};
 ghost use Rattle.ld_run.specs.RefusalView.{refusal_of};
@@ -12,26 +12,25 @@ use ld_base::memory::NoMemory;
 use ld_base::text::Text;
 use ld_lines::refusal::refusal_word;
 
-/// Empties the text and says that the line was refused, or, where there is no memory for that, that
-/// memory is wanting.
+/// Empties the text and says that the line was refused. It takes no memory.
 pub fn tell_refusal(refusal: Refusal<'_>, out: &mut Text)
     requires printable { IsPrintable (refusal_of refusal) }
     requires room { 128 ≤ room_of out.old }
-    ensures text { (out.new.bytes ≡ refusal_text (refusal_of refusal.entry) ++ 10 ∷ [])
-        ⊎ (out.new.bytes ≡ refusal_text why.NoMemory ++ 10 ∷ []) }
+    ensures text { out.new.bytes ≡ refusal_text (refusal_of refusal.entry) ++ 10 ∷ [] }
     ensures room { 128 ≤ room_of out.new }
 {
-    if let Ok(()) = refuse(refusal, out) {
-        return;
-    }
-    say_no_memory(out);
+    let Ok(()) = refuse(refusal, out) else {
+        unreachable!();
+    };
 }
 
-/// Empties the text and says that the line was refused. The only error is want of memory.
+/// Empties the text and says that the line was refused. The only error is want of memory, which does
+/// not come where there is room for 128 bytes.
 pub fn refuse(refusal: Refusal<'_>, out: &mut Text) -> Result<(), NoMemory>
     requires { IsPrintable (refusal_of refusal) }
     ensures text { OnOk result (out.new.bytes
         ≡ refusal_text (refusal_of refusal.entry) ++ 10 ∷ []) }
+    ensures within { 128 ≤ room_of out.old → IsOk result }
     ensures room { KeepsRoom out.old out.new }
 {
     out.clear();

@@ -5,6 +5,7 @@ ghost use Rattle.ld_globals.specs.Answers.{key_given, meaning};
 ghost use Rattle.ld_globals.specs.Store.{IsWritable, value_at};
 ghost use Rattle.ld_model.specs.Cells.{same_cell};
 ghost use Rattle.ld_expr.specs.Seen.{property_cell};
+ghost use Rattle.ld_firing.specs.Telling.{Tells};
 ghost use Rattle.ld_roles.specs.Kept.{persons_of};
 ghost use Rattle.ld_state.specs.StateView.{IsStateOf, cells_seen, has_cell, run_of};
 ghost use Rattle.ld_sharing.specs.Readable.{IsOwnerAmong, IsReadable, IsShared, is_person, name_of};
@@ -26,7 +27,8 @@ use ld_value::value::Value;
 use std::alloc::Global;
 use std::sync::ledger::Ledger;
 
-/// Gives the owner's cell of the global property the store's value.
+/// Gives the owner's cell of the global property the store's value, and tells its slot where that is
+/// another one.
 pub(crate) fn take_value<L: Ledger>(
     alloc: Global,
     unit: &PreparedUnit,
@@ -35,6 +37,7 @@ pub(crate) fn take_value<L: Ledger>(
     uri: &Text,
     state: &mut State,
     globals: &Globals,
+    changed: &mut Vec<u32>,
     steps: &mut Steps<L>,
 ) -> Result<(), NoMemory>
     requires own { IsStateOf unit.now state.old }
@@ -43,6 +46,8 @@ pub(crate) fn take_value<L: Ledger>(
     ensures taken { OnOk result (HasTaken unit.now (values_of globals.now)
         (λ cell. same_cell cell (property_cell property.0 owner))
         (run_of state.old) (run_of state.new)) }
+    ensures told { OnOk result (Tells unit.now (run_of state.old) (run_of state.new)
+        changed.old.items changed.new.items) }
     ensures own { IsStateOf unit.now state.new }
     ensures rows { state.new.rows ≡ state.old.rows }
     ensures outbox { state.new.outbox ≡ state.old.outbox }
@@ -53,7 +58,7 @@ pub(crate) fn take_value<L: Ledger>(
     let Some(value) = other_value(alloc, state, cell, globals, uri, name, steps)? else {
         return Ok(());
     };
-    state.set(cell, value, &mut Vec::new(alloc))
+    state.set(cell, value, changed)
 }
 
 /// The person's name, where the owner is a person.

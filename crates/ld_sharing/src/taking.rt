@@ -1,6 +1,7 @@
 //! A run takes in the store's values.
 ghost use Rattle.std.specs.Prelude.{◌≡◌, ◌<◌, length, true, OnOk};
 ghost use Rattle.ld_firing.specs.RunSystem.{IsSoundRun};
+ghost use Rattle.ld_firing.specs.Telling.{Tells};
 ghost use Rattle.ld_state.specs.StateView.{IsStateOf, run_of};
 ghost use Rattle.ld_sharing.specs.Fitting.{TakesFitting};
 ghost use Rattle.ld_sharing.specs.Globals.{taking_in};
@@ -22,13 +23,15 @@ use ld_state::state::State;
 use std::alloc::Global;
 use std::sync::ledger::Ledger;
 
-/// Gives each cell of a global property, of the run and of each person, the store's value. After
-/// want of memory the state is another one with the same mark. (docs/MEANING.md, "A command")
+/// Gives each cell of a global property, of the run and of each person, the store's value. The slots
+/// of the cells that get another value are told. After want of memory the state is another one with the
+/// same mark. (docs/MEANING.md, "A command")
 pub fn take_in<L: Ledger>(
     alloc: Global,
     unit: &PreparedUnit,
     state: &mut State,
     globals: &Globals,
+    changed: &mut Vec<u32>,
     steps: &mut Steps<L>,
 ) -> Result<(), NoMemory>
     requires own { IsStateOf unit.now state.old }
@@ -38,6 +41,8 @@ pub fn take_in<L: Ledger>(
         ≡ taking_in unit.now (values_of globals.now) (run_of state.old)) }
     ensures fitting { OnOk result
         (TakesFitting unit.now (values_of globals.now) (run_of state.old).persons) }
+    ensures told { OnOk result (Tells unit.now (run_of state.old) (run_of state.new)
+        changed.old.items changed.new.items) }
     ensures own { IsStateOf unit.now state.new }
     ensures rows { state.new.rows ≡ state.old.rows }
     ensures outbox { state.new.outbox ≡ state.old.outbox }
@@ -45,18 +50,20 @@ pub fn take_in<L: Ledger>(
 {
     for index in 0..unit.unit().properties.len() {
         let property = PropNo(number(index)?);
-        take_property(alloc, unit, property, state, globals, steps)?;
+        take_property(alloc, unit, property, state, globals, changed, steps)?;
     }
     Ok(())
 }
 
-/// Gives each cell of the property, if it is a global one, the store's value.
+/// Gives each cell of the property, if it is a global one, the store's value, and tells the slots of
+/// those that get another one.
 fn take_property<L: Ledger>(
     alloc: Global,
     unit: &PreparedUnit,
     property: PropNo,
     state: &mut State,
     globals: &Globals,
+    changed: &mut Vec<u32>,
     steps: &mut Steps<L>,
 ) -> Result<(), NoMemory>
     requires own { IsStateOf unit.now state.old }
@@ -64,6 +71,8 @@ fn take_property<L: Ledger>(
     requires there { property.0 < length unit.now.properties }
     ensures taken { OnOk result (HasTaken unit.now (values_of globals.now)
         (is_value_of property.0) (run_of state.old) (run_of state.new)) }
+    ensures told { OnOk result (Tells unit.now (run_of state.old) (run_of state.new)
+        changed.old.items changed.new.items) }
     ensures own { IsStateOf unit.now state.new }
     ensures rows { state.new.rows ≡ state.old.rows }
     ensures outbox { state.new.outbox ≡ state.old.outbox }
@@ -74,7 +83,7 @@ fn take_property<L: Ledger>(
     };
     let kind = unit.unit().properties.as_slice()[property.0 as usize].kind;
     if is_personal(kind) {
-        return take_for_persons(alloc, unit, property, uri, state, globals, steps);
+        return take_for_persons(alloc, unit, property, uri, state, globals, changed, steps);
     }
     take_value(
         alloc,
@@ -84,11 +93,13 @@ fn take_property<L: Ledger>(
         uri,
         state,
         globals,
+        changed,
         steps,
     )
 }
 
-/// Gives each person's cell of the global property the store's value.
+/// Gives each person's cell of the global property the store's value, and tells the slots of those that
+/// get another one.
 fn take_for_persons<L: Ledger>(
     alloc: Global,
     unit: &PreparedUnit,
@@ -96,12 +107,15 @@ fn take_for_persons<L: Ledger>(
     uri: &Text,
     state: &mut State,
     globals: &Globals,
+    changed: &mut Vec<u32>,
     steps: &mut Steps<L>,
 ) -> Result<(), NoMemory>
     requires own { IsStateOf unit.now state.old }
     requires shared { IsShared unit.now globals.now property.0 uri.now.bytes true }
     ensures taken { OnOk result (HasTaken unit.now (values_of globals.now)
         (is_value_of property.0) (run_of state.old) (run_of state.new)) }
+    ensures told { OnOk result (Tells unit.now (run_of state.old) (run_of state.new)
+        changed.old.items changed.new.items) }
     ensures own { IsStateOf unit.now state.new }
     ensures rows { state.new.rows ≡ state.old.rows }
     ensures outbox { state.new.outbox ≡ state.old.outbox }
@@ -109,7 +123,9 @@ fn take_for_persons<L: Ledger>(
 {
     for number in 0..state.persons() {
         let person = Owner::Person(PersonNo(number));
-        take_value(alloc, unit, property, person, uri, state, globals, steps)?;
+        take_value(
+            alloc, unit, property, person, uri, state, globals, changed, steps,
+        )?;
     }
     Ok(())
 }

@@ -8,7 +8,7 @@ ghost use Rattle.ld_roles.specs.Refusals.{assign_fault, enrol_fault};
 ghost use Rattle.ld_roles.specs.declared.limit.TheConstants.{SEATS};
 ghost use Rattle.ld_state.specs.Beginnings.{AreOfUnit, stored_for};
 ghost use Rattle.ld_state.specs.GlobalValues.{GlobalValues};
-ghost use Rattle.ld_state.specs.Layout.{layout_of, slot_in};
+ghost use Rattle.ld_state.specs.Layout.{cells_in, layout_of, slot_in};
 ghost use Rattle.ld_state.specs.Notices.{notice_of, notices_of};
 ghost use Rattle.ld_state.specs.RunState.{holding, joined, made_at, with_cell, with_notice};
 ghost use Rattle.ld_state.specs.StateView.{HasMarkedPersons, IsStateOf, has_cell, is_following, marked, run_before, run_of, slots_of_membership, slots_of_newcomer};
@@ -94,6 +94,13 @@ impl State {
         ensures { result ≡ slot_in self.now.layout (length self.now.rows) cell }
     {
         self.slots.slot(cell, self.roster.persons())
+    }
+
+    /// How many slots there are: one for each cell. It takes no memory.
+    pub fn slot_count(&self) -> u32
+        ensures { result ≡ length (cells_in self.now.layout (length self.now.rows)) }
+    {
+        self.cells.len()
     }
 
     /// The persons and the roles that they hold.

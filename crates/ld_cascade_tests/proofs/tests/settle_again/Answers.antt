@@ -7,7 +7,7 @@ use Rattle.ld_cascade.specs.Tidy.{Covers}
 use Rattle.ld_cascade.specs.Rooms.{Restorable}
 use Rattle.ld_cascade_tests.specs.Lamps.{lamps, lamps_of, is_sound}
 use Rattle.ld_cascade_tests.specs.Row.{Row}
-use Rattle.ld_cascade_tests.proofs.Fresh.{rows_same}
+use Rattle.ld_cascade_tests.proofs.Rows.{rows_same}
 use Rattle.ld_cascade_tests.proofs.tests.settle_again.Goals as goal
 
 pub restore-requires-clause-begun : goal.restore-requires-clause-begun

@@ -1,7 +1,8 @@
-use Rattle.std.proofs.Common.{◌∙◌, ℕ, Ok, Result, ap, ap₂, refl, subst, sym}
+use Rattle.std.proofs.Common.{◌∙◌, [], ℕ, Ok, Result, ap, ap₂, refl, subst, sym}
 use Rattle.ld_cascade.specs.Settling.{Sums}
 use Rattle.ld_roles.specs.Kept.{persons_of}
 use Rattle.ld_firing.specs.RunSystem.{IsSoundRun}
+use Rattle.ld_firing.specs.Telling.{Tells}
 use Rattle.ld_firing.specs.SettledView.{settlement_of}
 use Rattle.ld_state.specs.RunState.{RunState}
 use Rattle.ld_state.specs.StateView.{run_of}
@@ -16,6 +17,7 @@ use Rattle.ld_run.specs.RefusalView.{refusal_of}
 use Rattle.ld_run.specs.RunStep.{DoneCommand, at_moment, settled}
 use Rattle.ld_run.proofs.FittingRuns.{changed_fits, dated_fits, taken_fits}
 use Rattle.ld_run.proofs.LawsNotices.{changed_outbox}
+use Rattle.ld_run.proofs.LinkedRuns.{links_before, no_links, unsettled_links, widens_still, widens_then}
 use Rattle.ld_run.proofs.SoundRuns.{changed_is_sound, dated_is_sound, taken_is_sound, possible_stays, tellable_after, tellable_stays}
 use Rattle.ld_run.proofs.StepStages.{first_refused, is_done, not_open, second_refused}
 use Rattle.ld_run.proofs.doing.do_admitted.Goals as goal
@@ -41,11 +43,30 @@ pub settle_if-requires-clause-notices : goal.settle_if-requires-clause-notices
 settle_if-requires-clause-notices g c =
     subst (AreNoticesOf c.args.unit.now) (ap (λ (s : RunState). s.outbox) (sym c.in_default.ensures.run)) c.requires.notices
 
+-- If it is started, its links are those of the run before, and what changed is told.
+pub settle_if-requires-clause-told : goal.settle_if-requires-clause-told
+settle_if-requires-clause-told g c settles plain =
+    let unit = c.args.unit.now in
+    let s = run_of c.args.state.now in
+    let t = run_of c.refresh.new.state in
+    let started = c.is_started-started.ensures ∙ ap is_started c.in_default.ensures.run in
+    record {
+      earlier = s;
+      sound = c.requires.sound;
+      links = c.requires.linked (sym started ∙ settles);
+      tells = subst (λ slots. Tells unit s t [] slots) (sym c.deref.ensures.value)
+          (subst (λ slots. Tells unit s t slots c.refresh.new.changed.items) c.new-refreshed.ensures.items c.in_default.ensures.told);
+    }
+
+pub settle_if-requires-clause-linked : goal.settle_if-requires-clause-linked
+settle_if-requires-clause-linked g c closed =
+    no_links c.args.unit.now (run_of c.refresh.new.state) c.args.links.now c.is_started-started.ensures closed
+
 pub returns-in-Err-settle_if-clause-refused : goal.returns-in-Err-settle_if-clause-refused
 returns-in-Err-settle_if-clause-refused g c other =
     let unit = c.args.unit.now in
     let store = values_of c.args.globals.now in
-    let started = c.is_started.ensures ∙ ap is_started c.in_default.ensures.run in
+    let started = c.is_started-started.ensures ∙ ap is_started c.in_default.ensures.run in
     first_refused unit store (run_of c.args.state.now) c.args.moment.0 (admitted_of c.args.command.now)
     (refusal_of c.in-Err-settle_if.refusal)
     (ap₂ (λ b s. settled b unit s) (sym started) (sym c.in_default.ensures.run) ∙ c.in-Err-settle_if.ensures.refused other)
@@ -60,7 +81,7 @@ pub returns-then-not-is_open_for-clause-refused : goal.returns-then-not-is_open_
 returns-then-not-is_open_for-clause-refused g c other =
     let unit = c.args.unit.now in
     let store = values_of c.args.globals.now in
-    let started = c.is_started.ensures ∙ ap is_started c.in_default.ensures.run in
+    let started = c.is_started-started.ensures ∙ ap is_started c.in_default.ensures.run in
     not_open unit store (run_of c.args.state.now) c.args.moment.0 (admitted_of c.args.command.now)
     (settlement_of c.in-Ok.settled (run_of c.settle_if.new.state))
     (ap₂ (λ b s. settled b unit s) (sym started) (sym c.in_default.ensures.run) ∙ c.in-Ok.ensures.settled)
@@ -99,11 +120,34 @@ settle_if-requires-2-clause-notices g c =
     ∙ changed_outbox unit store (run_of c.settle_if.new.state) c.args.moment.0 (admitted_of c.args.command.now) in
     subst (AreNoticesOf unit) (sym same) c.in-Ok.ensures.notices
 
+-- If it is started then, its links are those of the run before, and what changed is told or all sites are renewed.
+pub settle_if-requires-2-clause-told : goal.settle_if-requires-2-clause-told
+settle_if-requires-2-clause-told g c settles plain =
+    let unit = c.args.unit.now in
+    let s = run_of c.settle_if.new.state in
+    let t = run_of c.change_directly.new.state in
+    let command = admitted_of c.args.command.now in
+    let same = ap persons_of (sym (c.settle_if.ensures.rows ∙ c.refresh.ensures.rows)) in
+    let possible = possible_stays unit (run_of c.args.state.now) s same command c.requires.possible in
+    let not_all = sym c.renews_sites-renews.ensures ∙ plain in
+    let tells = subst (λ slots. Tells unit s t slots c.change_directly.new.changed.items) c.new-changed.ensures.items
+    (c.in_default-change_directly.ensures.told not_all) in
+    links_before unit (values_of c.args.globals.now) s t c.args.moment.0 command c.settle_if.new.links
+    c.in_default-change_directly.ensures.run c.in-Ok.ensures.linked c.in-Ok.ensures.sound possible c.deref-2.result.now
+    (subst (λ slots. Tells unit s t [] slots) (sym c.deref-2.ensures.value) tells)
+    (sym c.settles_after-settles.ensures ∙ settles) not_all
+
+pub settle_if-requires-2-clause-linked : goal.settle_if-requires-2-clause-linked
+settle_if-requires-2-clause-linked g c closed =
+    unsettled_links c.args.unit.now (values_of c.args.globals.now) (run_of c.settle_if.new.state)
+    (run_of c.change_directly.new.state) c.args.moment.0 (admitted_of c.args.command.now) c.settle_if.new.links
+    c.in_default-change_directly.ensures.run c.in-Ok.ensures.linked (sym c.settles_after-settles.ensures ∙ closed)
+
 pub returns-in-Err-settle_if-2-clause-refused : goal.returns-in-Err-settle_if-2-clause-refused
 returns-in-Err-settle_if-2-clause-refused g c other =
     let unit = c.args.unit.now in
     let store = values_of c.args.globals.now in
-    let started = c.is_started.ensures ∙ ap is_started c.in_default.ensures.run in
+    let started = c.is_started-started.ensures ∙ ap is_started c.in_default.ensures.run in
     let changed = run_of c.change_directly.new.state in
     second_refused unit store (run_of c.args.state.now) c.args.moment.0 (admitted_of c.args.command.now)
     (settlement_of c.in-Ok.settled (run_of c.settle_if.new.state))
@@ -117,7 +161,7 @@ returns-in-Ok-both-clause-done g c =
     let unit = c.args.unit.now in
     let store = values_of c.args.globals.now in
     let command = admitted_of c.args.command.now in
-    let started = c.is_started.ensures ∙ ap is_started c.in_default.ensures.run in
+    let started = c.is_started-started.ensures ∙ ap is_started c.in_default.ensures.run in
     let changed = run_of c.change_directly.new.state in
     let left = run_of c.settle_if-2.new.state in
     let done : ℕ → Sums → Result DoneCommand Refusal = λ turns sums. Ok (record {
@@ -146,3 +190,10 @@ returns-in-Ok-both-clause-tellable g c =
     (ap persons_of (sym c.settle_if-2.ensures.rows)) command
     (subst (λ (s : RunState). IsTellable unit s command) (sym c.in_default-change_directly.ensures.run)
     (tellable_after unit store (run_of c.settle_if.new.state) c.args.moment.0 command possible))
+
+-- No range of the links gets smaller.
+pub returns-in-Err-settle_if-2-clause-widens : goal.returns-in-Err-settle_if-2-clause-widens
+returns-in-Err-settle_if-2-clause-widens g c = widens_then c.settle_if.ensures.widens c.settle_if-2.ensures.widens
+
+pub returns-in-Ok-both-clause-widens : goal.returns-in-Ok-both-clause-widens
+returns-in-Ok-both-clause-widens g c = widens_then c.settle_if.ensures.widens c.settle_if-2.ensures.widens

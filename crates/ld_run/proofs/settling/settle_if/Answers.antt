@@ -3,6 +3,7 @@ use Rattle.ld_state.specs.StateView.{run_of}
 use Rattle.ld_run.specs.RunStep.{settled}
 use Rattle.ld_firing.specs.SettledView.{settlement_of}
 use Rattle.ld_run.proofs.FittingRuns.{settling_fits}
+use Rattle.ld_run.proofs.LinkedRuns.{widens_still, widens_then}
 use Rattle.ld_run.proofs.NoticesTold.{settling_told}
 use Rattle.ld_run.proofs.settling.settle_if.Goals as goal
 
@@ -19,3 +20,12 @@ pub returns-in-Ok-clause-notices : goal.returns-in-Ok-clause-notices
 returns-in-Ok-clause-notices g c =
     settling_told c.args.unit.now (run_of c.args.state.now) (settlement_of c.in-Ok.totals (run_of c.settle.new.state))
     c.requires.sound c.requires.notices c.in-Ok.ensures.settled
+
+pub returns-then-not-settles-clause-widens : goal.returns-then-not-settles-clause-widens
+returns-then-not-settles-clause-widens g c = widens_still c.args.links.now
+
+pub returns-in-Ok-clause-linked : goal.returns-in-Ok-clause-linked
+returns-in-Ok-clause-linked g c started = c.in-Ok.ensures.linked
+
+pub returns-in-Ok-clause-widens : goal.returns-in-Ok-clause-widens
+returns-in-Ok-clause-widens g c = widens_then c.relink.ensures.widens c.settle.ensures.widens

@@ -8,6 +8,7 @@ use Rattle.ld_run.specs.Refusals.{Refusal}
 use Rattle.ld_run.specs.RunStep.{DoneCommand}
 use Rattle.ld_run.proofs.Answered.{check_printable}
 use Rattle.ld_run.proofs.FittingRuns.{admitted_fits}
+use Rattle.ld_run.proofs.LinkedRuns.{widens_still}
 use Rattle.ld_run.proofs.StepStages.{step_of_admitted, step_of_refused}
 use Rattle.ld_run.proofs.stages.step.Goals as goal
 
@@ -40,3 +41,6 @@ pub returns-in-Err-clause-printable : goal.returns-in-Err-clause-printable
 returns-in-Err-clause-printable g c =
     check_printable c.args.unit.now (run_of c.args.state.now) c.args.moment.0 c.args.command.now c.in-Err.refusal
     c.requires.sound c.in-Err.ensures.refused
+
+pub returns-in-Err-clause-widens : goal.returns-in-Err-clause-widens
+returns-in-Err-clause-widens g c = widens_still c.args.links.now

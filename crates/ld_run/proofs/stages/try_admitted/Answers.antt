@@ -1,13 +1,17 @@
 use Rattle.std.proofs.Common.{◌∙◌, ap, subst, sym}
-use Rattle.ld_firing.specs.RunSystem.{IsSoundRun}
+use Rattle.ld_cascade.specs.Tidy.{Covers}
+use Rattle.ld_firing.specs.RunSystem.{IsSoundRun, run_system}
 use Rattle.ld_sharing.specs.Fitting.{HasFittingGlobals}
 use Rattle.ld_sharing.specs.Globals.{giving_back}
 use Rattle.ld_sharing.specs.StoreView.{values_of}
 use Rattle.ld_state.specs.RunState.{RunState}
 use Rattle.ld_state.specs.StateView.{StateView, run_of}
 use Rattle.ld_run.specs.AdmittedView.{IsPossible, admitted_of}
+use Rattle.ld_run.specs.Checks.{is_started}
+use Rattle.ld_run.specs.Linked.{HasLinks}
 use Rattle.ld_run.specs.Printing.{AreNoticesOf}
 use Rattle.ld_run.specs.RunStep.{done_by}
+use Rattle.ld_run.proofs.LinkedRuns.{covers_wider, widens_then}
 use Rattle.ld_run.proofs.StepStages.{undone_is}
 use Rattle.ld_run.proofs.stages.try_admitted.Goals as goal
 
@@ -29,6 +33,10 @@ do_and_tell-requires-clause-possible g c =
     subst (λ (s : StateView). IsPossible c.args.unit.now (run_of s) (admitted_of c.args.command.now)) (sym c.mark.ensures)
     c.requires.possible
 
+pub do_and_tell-requires-clause-linked : goal.do_and_tell-requires-clause-linked
+do_and_tell-requires-clause-linked g c =
+    subst (λ (s : StateView). HasLinks c.args.unit.now (run_of s) c.args.links.now) (sym c.mark.ensures) c.requires.linked
+
 -- A refusal: the run is as it was at the mark.
 pub returns-in-Err-clause-refused : goal.returns-in-Err-clause-refused
 returns-in-Err-clause-refused g c other =
@@ -47,6 +55,25 @@ returns-in-Err-clause-sound g c =
     (sym (undone_is c.args.unit.now c.args.state.now c.do_and_tell.new.state c.undo.new.self c.requires.own
     c.do_and_tell.ensures.own (c.do_and_tell.ensures.kept ∙ ap (λ (s : StateView). s.kept) c.mark.ensures) c.undo.ensures.run))
     c.requires.sound
+
+pub reset_links-requires-clause-sound : goal.reset_links-requires-clause-sound
+reset_links-requires-clause-sound g c =
+    subst (IsSoundRun c.args.unit.now)
+    (sym (undone_is c.args.unit.now c.args.state.now c.do_and_tell.new.state c.undo.new.self c.requires.own
+    c.do_and_tell.ensures.own (c.do_and_tell.ensures.kept ∙ ap (λ (s : StateView). s.kept) c.mark.ensures) c.undo.ensures.run))
+    c.requires.sound
+
+pub reset_links-requires-clause-covers : goal.reset_links-requires-clause-covers
+reset_links-requires-clause-covers g c started =
+    let unit = c.args.unit.now in
+    let back = undone_is unit c.args.state.now c.do_and_tell.new.state c.undo.new.self c.requires.own
+    c.do_and_tell.ensures.own (c.do_and_tell.ensures.kept ∙ ap (λ (s : StateView). s.kept) c.mark.ensures) c.undo.ensures.run in
+    subst (λ s. Covers (run_system unit) s c.do_and_tell.new.links) (sym back)
+    (covers_wider unit (run_of c.args.state.now) c.do_and_tell.ensures.widens
+    (c.requires.linked (ap is_started (sym back) ∙ started)).covers)
+
+pub returns-in-Err-clause-widens : goal.returns-in-Err-clause-widens
+returns-in-Err-clause-widens g c = widens_then c.do_and_tell.ensures.widens c.reset_links.ensures.widens
 
 pub returns-in-Err-clause-fitting : goal.returns-in-Err-clause-fitting
 returns-in-Err-clause-fitting g c =
@@ -92,3 +119,8 @@ returns-in-Ok-clause-fitting g c =
 pub returns-in-Ok-clause-notices : goal.returns-in-Ok-clause-notices
 returns-in-Ok-clause-notices g c =
     subst (λ (s : StateView). AreNoticesOf c.args.unit.now s.outbox) (sym c.keep.ensures.rest) c.in-Ok.ensures.notices
+
+pub returns-in-Ok-clause-linked : goal.returns-in-Ok-clause-linked
+returns-in-Ok-clause-linked g c =
+    subst (λ (s : StateView). HasLinks c.args.unit.now (run_of s) c.do_and_tell.new.links) (sym c.keep.ensures.rest)
+    c.in-Ok.ensures.linked

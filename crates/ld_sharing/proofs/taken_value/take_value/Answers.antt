@@ -1,10 +1,11 @@
-use Rattle.std.proofs.Common.{◌≡◌, ◌∙◌, ap, subst, sym, option_copied, IfSome, Ok, Some}
+use Rattle.std.proofs.Common.{◌≡◌, ◌∙◌, ap, refl, subst, sym, option_copied, IfSome, Ok, Some}
 use Rattle.ld_cells.specs.Stored.{held}
 use Rattle.ld_globals.specs.Store.{IsWritable, key_at, value_at}
 use Rattle.ld_model.specs.Cells.{same_cell}
 use Rattle.ld_expr.specs.Seen.{property_cell}
 use Rattle.ld_state.specs.StateView.{run_of}
 use Rattle.ld_state.proofs.Written.{on_ok}
+use Rattle.ld_firing.proofs.Told.{told_if_set, tells_nothing}
 use Rattle.ld_sharing.specs.Readable.{is_person}
 use Rattle.ld_sharing.specs.StoreView.{values_of}
 use Rattle.ld_sharing.specs.Taken.{HasTaken}
@@ -36,6 +37,10 @@ returns-in_default-clause-taken g c =
     (cell_fits unit store n uri (is_person owner) c.requires.shared owner name value c.in_ok-value.ensures.writable)
     (c.in_ok-value.ensures.same (ap Ok c.in_default.is))
 
+pub returns-in_default-clause-told : goal.returns-in_default-clause-told
+returns-in_default-clause-told g c =
+    tells_nothing c.args.unit.now (run_of c.args.state.now) c.args.changed.now.items
+
 pub set-requires-clause-cell : goal.set-requires-clause-cell
 set-requires-clause-cell g c =
     value_cell c.args.unit.now c.args.globals.now c.args.property.0 c.args.uri.now.bytes c.args.owner c.requires.shared
@@ -60,3 +65,9 @@ returns-clause-taken g c =
     on_ok c.set.result c.set.ensures.run (λ run.
     subst (HasTaken unit (values_of store) (λ one. same_cell one cell) s) (sym run)
     (taken_cell unit (values_of store) cell s new said fits))
+
+pub returns-clause-told : goal.returns-clause-told
+returns-clause-told g c =
+    told_if_set c.set.result c.args.unit.now c.args.state.now c.set.new.self c.args.changed.now.items c.set.new.changed.items
+    (property_cell c.args.property.0 c.args.owner) (held c.in-Some.value) (λ rule owner. refl) c.requires.own
+    c.set.ensures.run c.set.ensures.same c.set.ensures.changed

@@ -2,6 +2,7 @@ use Rattle.std.proofs.Common.{◌∙◌, arith, refl}
 use Rattle.std.proofs.lemmas.List.{length-map}
 use Rattle.ld_roles.specs.Kept.{person_of}
 use Rattle.ld_state.specs.StateView.{run_of}
+use Rattle.ld_firing.proofs.Told.{tells_nothing, tells_then}
 use Rattle.ld_sharing.specs.StoreView.{values_of}
 use Rattle.ld_sharing.proofs.TakingLoops.{all_persons, next_person, no_person}
 use Rattle.ld_sharing.proofs.taking.take_for_persons.Goals as goal
@@ -13,6 +14,7 @@ loop-number-init g c = (
   refl,
   refl,
   refl,
+  tells_nothing c.args.unit.now (run_of c.args.state.now) c.args.changed.now.items,
 )
 
 pub loop-number-preserved : goal.loop-number-preserved
@@ -25,6 +27,7 @@ loop-number-preserved g c =
       one.rows ∙ before.2,
       one.outbox ∙ before.3,
       one.kept ∙ before.4,
+      tells_then before.5 one.told,
     )
 
 pub returns-clause-taken : goal.returns-clause-taken

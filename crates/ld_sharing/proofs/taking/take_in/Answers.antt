@@ -1,6 +1,7 @@
 use Rattle.std.proofs.Common.{◌∙◌, ap, arith, length, refl, subst}
 use Rattle.ld_state.specs.StateView.{run_of}
 use Rattle.ld_model.specs.declared.unit.Unit.{Unit as Course}
+use Rattle.ld_firing.proofs.Told.{tells_nothing, tells_then}
 use Rattle.ld_sharing.specs.StoreView.{values_of}
 use Rattle.ld_sharing.specs.Taken.{HasTaken, is_value_of}
 use Rattle.ld_sharing.proofs.TakingLoops.{all_properties, next_property, no_property}
@@ -8,7 +9,14 @@ use Rattle.ld_sharing.proofs.taking.take_in.Goals as goal
 
 pub loop-index-init : goal.loop-index-init
 loop-index-init g c =
-    (no_property c.args.unit.now (values_of c.args.globals.now) (run_of c.args.state.now), c.requires.own, refl, refl, refl)
+    let s = run_of c.args.state.now in (
+      no_property c.args.unit.now (values_of c.args.globals.now) s,
+      c.requires.own,
+      refl,
+      refl,
+      refl,
+      tells_nothing c.args.unit.now s c.args.changed.now.items,
+    )
 
 pub loop-index-preserved : goal.loop-index-preserved
 loop-index-preserved g c =
@@ -24,6 +32,7 @@ loop-index-preserved g c =
       one.rows ∙ before.2,
       one.outbox ∙ before.3,
       one.kept ∙ before.4,
+      tells_then before.5 one.told,
     )
 
 pub returns-clause-run : goal.returns-clause-run

@@ -1,6 +1,7 @@
 use Rattle.std.proofs.Common.{◌∙◌, ap, false, option_map, sym, true}
 use Rattle.ld_state.proofs.Written.{on_ok}
 use Rattle.ld_state.specs.StateView.{run_of}
+use Rattle.ld_firing.proofs.Told.{tells_nothing}
 use Rattle.ld_sharing.specs.StoreView.{values_of}
 use Rattle.ld_sharing.proofs.TakingKeys.{shared_here}
 use Rattle.ld_sharing.proofs.TakingLoops.{local_property, run_value}
@@ -10,6 +11,10 @@ pub returns-in_default-clause-taken : goal.returns-in_default-clause-taken
 returns-in_default-clause-taken g c =
     local_property c.args.unit.now (values_of c.args.globals.now) (run_of c.args.state.now) c.args.property.0
     (sym c.uri.ensures ∙ ap (option_map (λ uri. uri.now.bytes)) c.in_default.is)
+
+pub returns-in_default-clause-told : goal.returns-in_default-clause-told
+returns-in_default-clause-told g c =
+    tells_nothing c.args.unit.now (run_of c.args.state.now) c.args.changed.now.items
 
 pub take_for_persons-requires-clause-shared : goal.take_for_persons-requires-clause-shared
 take_for_persons-requires-clause-shared g c =

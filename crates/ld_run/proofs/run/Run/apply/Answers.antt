@@ -4,6 +4,7 @@ use Rattle.ld_firing.specs.RunSystem.{IsSoundRun}
 use Rattle.ld_sharing.specs.Fitting.{HasFittingGlobals}
 use Rattle.ld_sharing.specs.StoreView.{Serves, values_of}
 use Rattle.ld_state.specs.StateView.{IsStateOf, run_of}
+use Rattle.ld_run.specs.Linked.{HasLinks}
 use Rattle.ld_run.specs.Printing.{AreNoticesOf}
 use Rattle.ld_run.specs.Reached.{IsReached, left_by}
 use Rattle.ld_run.specs.RunView.{AnswersCommand, RunView}
@@ -28,6 +29,10 @@ pub step-requires-clause-notices : goal.step-requires-clause-notices
 step-requires-clause-notices g c =
     subst (λ (unit : Course). AreNoticesOf unit c.self.inside.state.outbox) (sym c.deref.ensures) c.self.invariant.4
 
+pub step-requires-clause-linked : goal.step-requires-clause-linked
+step-requires-clause-linked g c =
+    subst (λ (unit : Course). HasLinks unit (run_of c.self.inside.state) c.self.inside.links) (sym c.deref.ensures) c.self.invariant.6
+
 -- What the step leaves is a state that runs come to.
 pub returns-in_default-clause-reached : goal.returns-in_default-clause-reached
 returns-in_default-clause-reached g c =
@@ -50,6 +55,7 @@ invariant_of-self g c = (
   c.step.ensures.unmarked,
   subst (λ (unit : Course). AreNoticesOf unit c.step.new.state.outbox) c.deref.ensures c.step.ensures.notices,
   returns-in_default-clause-reached g c,
+  subst (λ (unit : Course). HasLinks unit (run_of c.step.new.state) c.step.new.links) c.deref.ensures c.step.ensures.linked,
 )
 
 pub invariant_of-self-2 : goal.invariant_of-self-2
@@ -60,6 +66,7 @@ invariant_of-self-2 g c = (
   c.step.ensures.unmarked,
   subst (λ (unit : Course). AreNoticesOf unit c.step.new.state.outbox) c.deref.ensures c.step.ensures.notices,
   returns-clause-reached g c,
+  subst (λ (unit : Course). HasLinks unit (run_of c.step.new.state) c.step.new.links) c.deref.ensures c.step.ensures.linked,
 )
 
 pub returns-in_default-clause-answers : goal.returns-in_default-clause-answers

@@ -8,6 +8,7 @@ use Rattle.ld_state.specs.RunState.{made_at}
 use Rattle.ld_state.specs.StateView.{IsStateOf, run_of}
 use Rattle.ld_run.specs.Printing.{AreNoticesOf}
 use Rattle.ld_run.specs.Reached.{IsReached, made}
+use Rattle.ld_run.proofs.LinkedRuns.{made_links}
 use Rattle.ld_run.proofs.run.Run.new.Goals as goal
 
 pub begin-requires-clause-serves : goal.begin-requires-clause-serves
@@ -32,4 +33,6 @@ invariant_of-result g c = (
   c.in_ok-state.ensures.unmarked,
   subst (AreNoticesOf c.args.unit.value) (sym c.in_ok-state.ensures.silent) (λ k other below. absurd (omega (arith, below))),
   returns-clause-reached g c,
+  made_links c.args.unit.value (run_of c.in_ok-state.state) c.in_ok-links.links (values_of c.args.globals.now) c.args.moment.0
+      (returns-clause-state g c),
 )

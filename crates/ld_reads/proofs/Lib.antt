@@ -1,0 +1,5 @@
+pub mod Gathered
+pub mod Latching
+pub mod Reading
+pub mod RolesRead
+pub mod SlotSets

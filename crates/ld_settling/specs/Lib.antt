@@ -1,0 +1,5 @@
+pub mod RunLinking
+pub mod SiteParts
+pub mod SitesView
+pub mod UnitLaws
+pub mod UnitRuns

@@ -1,0 +1,141 @@
+//! The links of a run.
+ghost use Rattle.std.specs.Prelude.{◌≡◌, ◌*◌, ◌+◌, ◌^◌, ◌<◌, ◌≤◌, ◌⊎◌, ℕ, true, [], get_or, length, Contains, OnOk};
+ghost use Rattle.ld_graph.specs.Edges.{IsLinked};
+ghost use Rattle.ld_graph.specs.Table.{has};
+ghost use Rattle.ld_cascade.specs.Tidy.{Covers};
+ghost use Rattle.ld_cascade.specs.Wiring.{IsSameTable};
+ghost use Rattle.ld_names.specs.Rules.{rules_of};
+ghost use Rattle.ld_roles.specs.declared.limit.TheConstants.{SEATS};
+ghost use Rattle.ld_model.specs.declared.unit.Unit.{Unit as Course};
+ghost use Rattle.ld_state.specs.RunState.{RunState};
+ghost use Rattle.ld_state.specs.StateView.{IsStateOf, run_of};
+ghost use Rattle.ld_firing.specs.RunSystem.{IsSoundRun, run_system};
+ghost use Rattle.ld_firing.specs.Telling.{Tells};
+ghost use Rattle.ld_settling.specs.RunLinking.{AreDirty, AreLinksOf, IsPlaceCount, Widens};
+
+use ld_base::memory::NoMemory;
+use ld_cascade::links::Links;
+use ld_graph::slots::SlotList;
+use ld_model::view::View;
+use ld_roles::limit::SEATS;
+use ld_rules::prepared::PreparedUnit;
+use ld_state::state::State;
+use std::alloc::Global;
+use std::marker::Model;
+
+/// Which of a run's sites read which slots, and which sites are dirty: to be judged at the next settling.
+/// A run that is not started has no use for it. (docs/MEANING.md, "Firing, sweeping, settling")
+#[derive(Drop)]
+pub struct RunLinks {
+    pub(crate) links: Links,
+    /// Lends a site's reads.
+    pub(crate) list: SlotList,
+}
+
+impl Model for RunLinks {
+    ghost use Rattle.ld_cascade.specs.Wiring.{Wiring};
+
+    ghost Value = { Wiring };
+
+    ghost view = { λ s. s.links };
+}
+
+impl RunLinks {
+    /// The links of a run that is not started.
+    pub fn new(alloc: Global) -> Result<RunLinks, NoMemory> {
+        Ok(RunLinks {
+            links: Links::new(alloc),
+            list: SlotList::with_room(alloc, 0)?,
+        })
+    }
+
+    /// Sets the sites dirty that read one of the slots. Where these are told of all that changed from one
+    /// state of the run to another, the links are those of the other state then. It takes no memory.
+    pub fn tell(&mut self, changed: &[u32])
+        requires told { (unit : Course) × (s : RunState) × (t : RunState)
+            × AreLinksOf unit s self.old × Tells unit s t [] changed.now }
+        ensures linked { (unit : Course) (s t : RunState) → IsSoundRun unit s → IsSoundRun unit t
+            → AreLinksOf unit s self.old → Tells unit s t [] changed.now
+            → AreLinksOf unit t self.new }
+        ensures only { (i : ℕ) → has self.new.dirty i ≡ true → (has self.old.dirty i ≡ true)
+            ⊎ ((k : ℕ) × Contains changed.now k × IsLinked self.old.edges k i) }
+        ensures widens { Widens self.old self.new }
+    {
+        self.links.touch_all(changed);
+    }
+
+    /// Takes all edges away and sets all sites of the run dirty, however many it has got. After an error,
+    /// which is want of memory, no range is smaller.
+    pub fn renew(&mut self, unit: &PreparedUnit, state: &State) -> Result<(), NoMemory>
+        requires own { IsStateOf unit.now state.now }
+        requires sound { IsSoundRun unit.now (run_of state.now) }
+        ensures linked { OnOk result (AreLinksOf unit.now (run_of state.now) self.new) }
+        ensures widens { Widens self.old self.new }
+    {
+        let rules = rule_count(unit);
+        self.links.grow(state.slot_count(), rules * SEATS as u32)?;
+        set_all_dirty(&mut self.links, rules, places(state));
+        Ok(())
+    }
+
+    /// Takes all edges away and sets all sites of the run dirty, which are in range: where its state was
+    /// taken back. It takes no memory.
+    pub fn reset(&mut self, unit: &PreparedUnit, state: &State)
+        requires own { IsStateOf unit.now state.now }
+        requires sound { IsSoundRun unit.now (run_of state.now) }
+        requires covers { Covers (run_system unit.now) (run_of state.now) self.old }
+        ensures linked { AreLinksOf unit.now (run_of state.now) self.new }
+        ensures widens { Widens self.old self.new }
+    {
+        set_all_dirty(&mut self.links, rule_count(unit), places(state));
+    }
+}
+
+/// How many rules the unit has.
+fn rule_count(unit: &PreparedUnit) -> u32
+    ensures count { result ≡ length (rules_of unit.now) }
+    ensures few { result ≤ 600 }
+{
+    unit.rules().len() as u32
+}
+
+/// How many places among the seats are taken: one for each person, and one for the run.
+fn places(state: &State) -> u32
+    ensures { IsPlaceCount (length state.now.rows) result }
+{
+    let persons = state.persons();
+    if persons == 0 { 1 } else { persons }
+}
+
+/// Takes all edges away, and sets the first so many numbers of each rule's sites dirty.
+fn set_all_dirty(links: &mut Links, rules: u32, places: u32)
+    requires few { rules ≤ 600 }
+    requires seats { places ≤ SEATS }
+    requires range { rules * SEATS ≤ links.old.sites }
+    ensures dirty { AreDirty links.new.dirty rules places }
+    ensures loose { IsSameTable links.new.dirty links.new.loose }
+    ensures edges { (i : ℕ) → get_or links.new.edges.rows i [] ≡ [] }
+    ensures sites { links.new.sites ≡ links.old.sites }
+    ensures slots { links.new.edges.slots ≡ links.old.edges.slots }
+{
+    links.clear();
+    for rule in 0..rules {
+        set_dirty(links, rule * SEATS as u32, places);
+    }
+}
+
+/// Sets so many sites from this one on dirty.
+fn set_dirty(links: &mut Links, first: u32, count: u32)
+    requires range { first + count ≤ links.old.sites }
+    requires small { first + count < 2 ^ 32 }
+    ensures dirty { (n : ℕ) → n < count → has links.new.dirty (first + n) ≡ true }
+    ensures keeps { (i : ℕ) → has links.old.dirty i ≡ true → has links.new.dirty i ≡ true }
+    ensures loose { IsSameTable links.old.dirty links.old.loose
+        → IsSameTable links.new.dirty links.new.loose }
+    ensures edges { links.new.edges ≡ links.old.edges }
+    ensures sites { links.new.sites ≡ links.old.sites }
+{
+    for place in 0..count {
+        links.fresh(first + place);
+    }
+}
