@@ -60,7 +60,8 @@ fn read_file<R: Files>(
     folder: &str,
     file: &str,
 ) -> Result<Option<Vec<u8>>, ShelfRefusal>
-    ensures within { IfOk result (λ found. IfSome found (λ bytes. length bytes.items ≤ FILE_LIMIT)) }
+    ensures within { IfOk result
+        (λ found. IfSome found (λ bytes. length bytes.items ≤ FILE_LIMIT)) }
 {
     let Ok(path) = format!(in alloc; "{folder}/{file}") else {
         return Err(ShelfRefusal::NoMemory);

@@ -1,4 +1,6 @@
 //! Identifiers of units, runs, persons and the parts of a unit.
+#![tactic(auto, unfolding(crate::specs::Identifier::begins_identifier, crate::specs::Identifier::continues_identifier))]
+
 ghost use Rattle.std.specs.Prelude.{◌≡◌, List, ℕ, IfOk, IfSome, IfNone, IsTrue, string_bytes, false, IfErr};
 ghost use Rattle.std.specs.Str.{IsUtf8, bytes_eq};
 ghost use Rattle.std.specs.List.{list_all};
@@ -130,7 +132,6 @@ fn begins_form(bytes: &[u8]) -> bool
 }
 
 /// Whether an identifier may begin with this character.
-#[tactic(auto, unfolding(crate::specs::Identifier::begins_identifier))]
 fn begins(b: u8) -> bool
     ensures { result ≡ begins_identifier b }
 {
@@ -138,7 +139,6 @@ fn begins(b: u8) -> bool
 }
 
 /// Whether an identifier may go on with this character.
-#[tactic(auto, unfolding(crate::specs::Identifier::continues_identifier))]
 fn continues(b: u8) -> bool
     ensures { result ≡ continues_identifier b }
 {

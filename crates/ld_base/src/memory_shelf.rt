@@ -28,7 +28,8 @@ impl Model for MemoryShelf {
 impl MemoryShelf {
     /// A shelf of these files. The calls of these numbers, counted from 1, fail.
     pub fn new(files: FileList, failing: CallList) -> MemoryShelf
-        ensures { result ≡ record { files = files; calls = record { failing = failing; made = 0; faults = 0 } } }
+        ensures { result
+            ≡ record { files = files; calls = record { failing = failing; made = 0; faults = 0 } } }
     {
         MemoryShelf {
             files,
@@ -53,16 +54,25 @@ impl Shelf for MemoryShelf {
         folder: &str,
         file: &str,
     ) -> Result<Option<Vec<u8>>, ShelfRefusal>
-        ensures some { IfOk result (λ found. IfSome found (λ bytes. HasThere (Some (first_of self.old.files)) folder.now file.now (Some bytes.items))) }
-        ensures within { IfOk result (λ found. IfSome found (λ bytes. length bytes.items ≤ FILE_LIMIT)) }
-        ensures none { IfOk result (λ found. IfNone found (HasThere (Some (first_of self.old.files)) folder.now file.now None)) }
-        ensures over { result ≡ Err ShelfRefusal.TooBig → HasOver (Some (first_of self.old.files)) folder.now file.now FILE_LIMIT }
-        ensures cause { result ≡ Err ShelfRefusal.Failed → Rose self.old.calls.faults self.new.calls.faults }
+        ensures some { IfOk result
+            (λ found. IfSome found (λ bytes. HasThere (Some (first_of self.old.files)) folder.now
+            file.now (Some bytes.items))) }
+        ensures within { IfOk result
+            (λ found. IfSome found (λ bytes. length bytes.items ≤ FILE_LIMIT)) }
+        ensures none { IfOk result
+            (λ found. IfNone found
+            (HasThere (Some (first_of self.old.files)) folder.now file.now None)) }
+        ensures over { result ≡ Err ShelfRefusal.TooBig → HasOver (Some (first_of self.old.files))
+            folder.now file.now FILE_LIMIT }
+        ensures cause { result ≡ Err ShelfRefusal.Failed
+            → Rose self.old.calls.faults self.new.calls.faults }
         ensures counts { self.old.calls.faults ≤ self.new.calls.faults }
         ensures same { Some (first_of self.new.files) ≡ Some (first_of self.old.files) }
 
-        ensures fails { (result ≡ Err ShelfRefusal.Failed) ↔ IsTrue (next_is_listed self.old.calls) }
-        ensures counted { self.new.calls ≡ after_call (next_is_listed self.old.calls) self.old.calls }
+        ensures fails { (result ≡ Err ShelfRefusal.Failed)
+            ↔ IsTrue (next_is_listed self.old.calls) }
+        ensures counted { self.new.calls
+            ≡ after_call (next_is_listed self.old.calls) self.old.calls }
         ensures files { self.new.files ≡ self.old.files }
     {
         if self.calls.fails(false) {

@@ -34,7 +34,12 @@ impl MemorySink {
     /// # Errors
     /// `NoMemory` where there is no memory for so much room.
     pub fn new(alloc: Global, room: usize, failing: CallList) -> Result<MemorySink, NoMemory>
-        ensures { IfOk result (λ sink. sink ≡ record { written = []; room = room; calls = record { failing = failing; made = 0; faults = 0 } }) }
+        ensures { IfOk result
+            (λ sink. sink ≡ record {
+              written = [];
+              room = room;
+              calls = record { failing = failing; made = 0; faults = 0 };
+            }) }
     {
         let written = Vec::with_capacity(alloc, room)?;
         Ok(MemorySink {
@@ -64,16 +69,20 @@ impl Sink for MemorySink {
     /// what is left of the room.
     fn put(&mut self, piece: &[u8]) -> Result<usize, SinkFailed>
         ensures within { IfOk result (λ n. n ≤ length piece.now) }
-        ensures bytes { IfOk result (λ n. Some self.new.written ≡ then_piece (Some self.old.written) (take n piece.now)) }
-        ensures zero { IfOk result (λ n. n ≡ 0 → 0 < length piece.now → Rose self.old.calls.faults self.new.calls.faults) }
+        ensures bytes { IfOk result
+            (λ n. Some self.new.written ≡ then_piece (Some self.old.written) (take n piece.now)) }
+        ensures zero { IfOk result
+            (λ n. n ≡ 0 → 0 < length piece.now → Rose self.old.calls.faults self.new.calls.faults) }
         ensures err { OnErr result (self.new.written ≡ self.old.written) }
         ensures cause { OnErr result (Rose self.old.calls.faults self.new.calls.faults) }
         ensures counts { self.old.calls.faults ≤ self.new.calls.faults }
 
-        ensures fails { is_err result ≡ (next_is_listed self.old.calls || nat_lt self.old.room (length piece.now)) }
+        ensures fails { is_err result
+            ≡ (next_is_listed self.old.calls || nat_lt self.old.room (length piece.now)) }
         ensures counted { self.new.calls ≡ after_call (is_err result) self.old.calls }
         ensures whole { IfOk result (λ n. n ≡ length piece.now) }
-        ensures room { self.new.room + length self.new.written ≡ self.old.room + length self.old.written }
+        ensures room { self.new.room + length self.new.written
+            ≡ self.old.room + length self.old.written }
     {
         if self.calls.fails(self.room < piece.len()) {
             return Err(SinkFailed);

@@ -31,7 +31,11 @@ impl MemorySource {
     /// numbers, counted from 1, fail.
     pub fn new(bytes: Bytes, piece: usize, failing: CallList) -> MemorySource
         requires { 0 < piece }
-        ensures { result ≡ record { left = bytes; piece = piece; calls = record { failing = failing; made = 0; faults = 0 } } }
+        ensures { result ≡ record {
+          left = bytes;
+          piece = piece;
+          calls = record { failing = failing; made = 0; faults = 0 };
+        } }
     {
         MemorySource {
             bytes,
@@ -54,16 +58,19 @@ impl Source for MemorySource {
     fn take(&mut self, into: &mut [u8]) -> Result<usize, SourceFailed>
         requires { 0 < length into.old }
         ensures within { IfOk result (λ n. n ≤ length into.old) }
-        ensures bytes { IfOk result (λ n. Some self.old.left ≡ piece_then (take n into.new) (Some self.new.left)) }
+        ensures bytes { IfOk result
+            (λ n. Some self.old.left ≡ piece_then (take n into.new) (Some self.new.left)) }
         ensures end { IfOk result (λ n. n ≡ 0 → self.new.left ≡ []) }
         ensures err { OnErr result (self.new.left ≡ self.old.left) }
         ensures cause { OnErr result (Rose self.old.calls.faults self.new.calls.faults) }
         ensures counts { self.old.calls.faults ≤ self.new.calls.faults }
 
         ensures fails { is_err result ≡ next_is_listed self.old.calls }
-        ensures counted { self.new.calls ≡ after_call (next_is_listed self.old.calls) self.old.calls }
+        ensures counted { self.new.calls
+            ≡ after_call (next_is_listed self.old.calls) self.old.calls }
         ensures some { IfOk result (λ n. 0 < length self.old.left → 0 < n) }
-        ensures count { IfOk result (λ n. n ≡ min self.old.piece (min (length into.old) (length self.old.left))) }
+        ensures count { IfOk result
+            (λ n. n ≡ min self.old.piece (min (length into.old) (length self.old.left))) }
         ensures piece { self.new.piece ≡ self.old.piece }
     {
         if self.calls.fails(false) {

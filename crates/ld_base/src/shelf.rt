@@ -42,11 +42,17 @@ pub trait Shelf {
         folder: &str,
         file: &str,
     ) -> Result<Option<Vec<u8>>, ShelfRefusal>
-        ensures some { IfOk result (λ found. IfSome found (λ bytes. HasThere (files self.old) folder.now file.now (Some bytes.items))) }
-        ensures within { IfOk result (λ found. IfSome found (λ bytes. length bytes.items ≤ FILE_LIMIT)) }
-        ensures none { IfOk result (λ found. IfNone found (HasThere (files self.old) folder.now file.now None)) }
-        ensures over { result ≡ Err ShelfRefusal.TooBig → HasOver (files self.old) folder.now file.now FILE_LIMIT }
-        ensures cause { result ≡ Err ShelfRefusal.Failed → Rose (faults self.old) (faults self.new) }
+        ensures some { IfOk result
+            (λ found. IfSome found
+            (λ bytes. HasThere (files self.old) folder.now file.now (Some bytes.items))) }
+        ensures within { IfOk result
+            (λ found. IfSome found (λ bytes. length bytes.items ≤ FILE_LIMIT)) }
+        ensures none { IfOk result
+            (λ found. IfNone found (HasThere (files self.old) folder.now file.now None)) }
+        ensures over { result ≡ Err ShelfRefusal.TooBig → HasOver (files self.old)
+            folder.now file.now FILE_LIMIT }
+        ensures cause { result ≡ Err ShelfRefusal.Failed
+            → Rose (faults self.old) (faults self.new) }
         ensures counts { faults self.old ≤ faults self.new }
         ensures same { files self.new ≡ files self.old };
 }

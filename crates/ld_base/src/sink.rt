@@ -22,8 +22,10 @@ pub trait Sink {
     /// `SinkFailed` only where the count of faults rose. It writes nothing.
     fn put(&mut self, piece: &[u8]) -> Result<usize, SinkFailed>
         ensures within { IfOk result (λ n. n ≤ length piece.now) }
-        ensures bytes { IfOk result (λ n. written self.new ≡ then_piece (written self.old) (take n piece.now)) }
-        ensures zero { IfOk result (λ n. n ≡ 0 → 0 < length piece.now → Rose (faults self.old) (faults self.new)) }
+        ensures bytes { IfOk result
+            (λ n. written self.new ≡ then_piece (written self.old) (take n piece.now)) }
+        ensures zero { IfOk result
+            (λ n. n ≡ 0 → 0 < length piece.now → Rose (faults self.old) (faults self.new)) }
         ensures err { OnErr result (written self.new ≡ written self.old) }
         ensures cause { OnErr result (Rose (faults self.old) (faults self.new)) }
         ensures counts { faults self.old ≤ faults self.new };

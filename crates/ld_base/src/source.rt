@@ -24,7 +24,8 @@ pub trait Source {
     fn take(&mut self, into: &mut [u8]) -> Result<usize, SourceFailed>
         requires { 0 < length into.old }
         ensures within { IfOk result (λ n. n ≤ length into.old) }
-        ensures bytes { IfOk result (λ n. left self.old ≡ piece_then (take n into.new) (left self.new)) }
+        ensures bytes { IfOk result
+            (λ n. left self.old ≡ piece_then (take n into.new) (left self.new)) }
         ensures end { IfOk result (λ n. n ≡ 0 → IfSome (left self.new) (λ rest. rest ≡ [])) }
         ensures err { OnErr result (left self.new ≡ left self.old) }
         ensures cause { OnErr result (Rose (faults self.old) (faults self.new)) }

@@ -20,7 +20,10 @@ pub struct Text {
 impl Model for Text {
     ghost Value = { Roomy };
 
-    ghost view = { λ t. record { bytes = string_bytes t.text; spare = string_capacity t.text - string_len t.text } };
+    ghost view = { λ t. record {
+      bytes = string_bytes t.text;
+      spare = string_capacity t.text - string_len t.text;
+    } };
 }
 
 impl Text {

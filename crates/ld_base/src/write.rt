@@ -1,4 +1,6 @@
 //! Writing all of some bytes into a sink.
+#![tactic(auto, using(crate::proofs::Pieces::written_more))]
+
 ghost use Rattle.std.specs.Prelude.{◌≤◌, OnOk, OnErr, ◌≡◌};
 ghost use Rattle.ld_base.specs.Outside.{Rose, AddsPrefix, then_piece};
 
@@ -9,7 +11,6 @@ use crate::sink::{Sink, SinkFailed};
 /// # Errors
 /// `SinkFailed` only where the count of faults of the sink rose. A beginning of the bytes was
 /// written then. A sink that takes none of them has failed too.
-#[tactic(auto, using(crate::proofs::Pieces::written_more))]
 pub fn write_all<K: Sink>(sink: &mut K, bytes: &[u8]) -> Result<(), SinkFailed>
     ensures ok { OnOk result (K.written sink.new ≡ then_piece (K.written sink.old) bytes.now) }
     ensures err { OnErr result (AddsPrefix (K.written sink.old) bytes.now (K.written sink.new)) }

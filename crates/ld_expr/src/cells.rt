@@ -1,4 +1,6 @@
 //! Which cells are meant, where an owner speaks of what an identifier names.
+#![tactic(auto, using(crate::proofs::Completing::completing_kind))]
+
 ghost use Rattle.std.specs.Prelude.{◌≡◌, ◌+◌, true, option_map};
 ghost use Rattle.ld_model.specs.Properties.{is_personal};
 ghost use Rattle.ld_names.specs.Names.{HasPart, names_of, role_number, thing_number};
@@ -39,7 +41,6 @@ pub fn cell_of_property(unit: &Unit, names: &Names, owner: Owner, id: &Id) -> Op
 
 /// The cell of the mark that says that what the identifier names is done, for the owner. None
 /// exactly where no rule completes it. It takes no memory.
-#[tactic(auto, using(crate::proofs::Completing::completing_kind))]
 pub fn cell_of_mark(unit: &Unit, names: &Names, owner: Owner, id: &Id) -> Option<CellName>
     requires { names.now ≡ names_of unit.now }
     ensures { result ≡ option_map (mark_for unit.now owner) (completing_number unit.now id.now) }

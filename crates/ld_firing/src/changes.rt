@@ -141,7 +141,8 @@ impl<'a> Actor<'a> {
         requires own { IsStateOf self.now.unit.now state.now }
         requires cells { HasCells (has_slot self.now.unit.now (length state.now.rows))
             (change_cells self.now.unit.now change.now owner) }
-        ensures value { IfOk result (λ value. option_map datum_of value ≡ (term_value self.now.unit.now
+        ensures value { IfOk result
+            (λ value. option_map datum_of value ≡ (term_value self.now.unit.now
             (seen_in self.now.unit.now (run_of state.now)) owner change.now.value
             then if_fitting self.now.unit.now change.now.property)) }
         ensures cost { steps.new ≤ steps.old + term_leaves change.now.value }

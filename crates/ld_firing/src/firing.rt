@@ -223,7 +223,8 @@ impl<'a> Actor<'a> {
     /// The moment of the run as a value of its own.
     fn now<L: Ledger>(&self, state: &State, steps: &mut Steps<L>) -> Result<Option<Value>, NoMemory>
         requires own { IsStateOf self.now.unit.now state.now }
-        ensures value { IfOk result (λ value. option_map datum_of value ≡ (run_of state.now).cells Now) }
+        ensures value { IfOk result
+            (λ value. option_map datum_of value ≡ (run_of state.now).cells Now) }
         ensures cost { steps.new ≡ steps.old + 1 }
     {
         match state.get(CellName::Now, steps) {

@@ -99,7 +99,8 @@ impl<'a> Actor<'a> {
 
     /// The number of the activity that the identifier names, if there is one.
     fn activity_of(&self, id: &Option<Id>) -> Option<ThingNo>
-        ensures { option_map (λ thing. thing.0) result ≡ (id.now then thing_number self.now.unit.now) }
+        ensures { option_map (λ thing. thing.0) result
+            ≡ (id.now then thing_number self.now.unit.now) }
     {
         thing_number(self.unit, self.names, id.as_ref()?)
     }

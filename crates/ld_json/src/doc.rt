@@ -93,7 +93,8 @@ impl Doc {
         ensures ok { OnOk result (out.new.bytes ≡ out.old.bytes ++ compact_text self.now) }
         ensures err { OnErr result (out.new.bytes ≡ out.old.bytes) }
         ensures room { KeepsRoom out.old out.new }
-        ensures reads_back { OnOk result (depth self.now ≤ max_depth → Reads (compact_text self.now) self.now) }
+        ensures reads_back { OnOk result
+            (depth self.now ≤ max_depth → Reads (compact_text self.now) self.now) }
     {
         let text = self.tree.to_string(alloc)?;
         out.push(text.as_str())

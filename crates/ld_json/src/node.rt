@@ -1,4 +1,6 @@
 //! A part of a document that knows its place.
+#![tactic(auto, using(crate::proofs::Elements::at_within, crate::proofs::Elements::count_nodes, crate::proofs::Elements::get_item_nodes, crate::proofs::Listed::list_any_map, crate::proofs::Pointers::item_is_at, crate::proofs::Pointers::member_is_at, crate::proofs::Sole::get_sole))]
+
 ghost use Rattle.std.specs.Prelude.{◌≡◌, ◌<◌, ◌++◌, List, [], Some, None, OnOk, IfOk, IfErr, IfSome, IfNone, IsSome, is_some, option_map, slice_get, length, map};
 ghost use Rattle.serde_json.specs.Data.{Data};
 ghost use Rattle.serde_json.specs.Find.{get, at, as_str, as_bool, as_object};
@@ -147,7 +149,6 @@ impl<'a> Node<'a> {
 
     /// The name of the only member. `wrong-shape` exactly where the node is no object, or has not
     /// exactly one member.
-    #[tactic(auto, using(crate::proofs::Sole::get_sole))]
     pub fn sole(&self, alloc: Global) -> Result<&'a str, ReadFault>
         ensures value { IfOk result (λ name. sole_of self.now.tree ≡ Some name.now) }
         ensures object { OnOk result (IsObject self.now) }
@@ -168,8 +169,10 @@ impl<'a> Node<'a> {
     /// where it is no object, `unknown-member` exactly where it is one and has another member.
     pub fn only(&self, alloc: Global, names: &[&str]) -> Result<(), ReadFault>
         ensures object { OnOk result (IsObject self.now) }
-        ensures faultless { OnOk result (only_faults (map (λ name. name.now) names.now) self.now ≡ []) }
-        ensures first { IfErr result (SaysFirst (only_faults (map (λ name. name.now) names.now) self.now)) }
+        ensures faultless { OnOk result
+            (only_faults (map (λ name. name.now) names.now) self.now ≡ []) }
+        ensures first { IfErr result
+            (SaysFirst (only_faults (map (λ name. name.now) names.now) self.now)) }
     {
         let Some(members) = self.tree.as_object() else {
             return Err(self.fault(alloc, Code::WrongShape));
@@ -197,7 +200,6 @@ impl<'a> Node<'a> {
     }
 
     /// The member of this name of an object, if there is one. It takes no memory.
-    #[tactic(auto, using(crate::proofs::Pointers::member_is_at))]
     pub fn optional<'b>(&'b self, name: &'b str) -> Option<Node<'b>>
         requires { IsObject self.now }
         ensures node { result
@@ -231,7 +233,6 @@ impl<'a> Node<'a> {
     }
 
     /// The number of elements of an array. `wrong-shape` exactly where the node is none.
-    #[tactic(auto, using(crate::proofs::Elements::count_nodes))]
     pub fn count(&self, alloc: Global) -> Result<usize, ReadFault>
         ensures array { OnOk result (IsArray self.now) }
         ensures value { IfOk result (λ count. count ≡ length (item_nodes self.now)) }
@@ -245,7 +246,6 @@ impl<'a> Node<'a> {
     }
 
     /// The element of an array at an index counted from 0. It takes no memory.
-    #[tactic(auto, using(crate::proofs::Elements::at_within, crate::proofs::Elements::get_item_nodes, crate::proofs::Pointers::item_is_at))]
     pub fn item(&self, index: usize) -> Node<'_>
         requires array { IsArray self.now }
         requires within { index < length (item_nodes self.now) }
@@ -275,9 +275,9 @@ fn only_key(members: &Map<String, Value>) -> Option<&str>
 }
 
 /// Whether each member has one of the names.
-#[tactic(auto, using(crate::proofs::Listed::list_any_map))]
 fn are_listed(members: &Map<String, Value>, names: &[&str]) -> bool
-    ensures { result ≡ all_listed (map (λ name. name.now) names.now) (members_view members.now.entries) }
+    ensures { result ≡ all_listed (map (λ name. name.now) names.now)
+        (members_view members.now.entries) }
 {
     for (name, _) in members {
         if !is_listed(name.as_str(), names) {

@@ -43,7 +43,8 @@ fn push_escaped(name: &str, out: &mut String) -> Result<(), NoMemory>
 
 /// Appends one character with its escape.
 fn push_character(c: char, out: &mut String) -> Result<(), NoMemory>
-    ensures ok { OnOk result (string_bytes out.new ≡ string_bytes out.old ++ escaped (encode_utf8 c)) }
+    ensures ok { OnOk result
+        (string_bytes out.new ≡ string_bytes out.old ++ escaped (encode_utf8 c)) }
 {
     if c == '~' {
         out.push_str("~0")?;

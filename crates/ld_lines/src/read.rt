@@ -1,5 +1,5 @@
 //! Reading command lines.
-#![tactic(auto, unfolding(crate::specs::Commands::command_of_verb, crate::specs::Commands::property_command, crate::specs::Commands::showing_command, crate::specs::Commands::line_of_verb, crate::specs::Commands::command_of), using(ld_json::proofs::Json::tree_read, ld_json::proofs::Json::no_tree))]
+#![tactic(auto, unfolding(crate::specs::Commands::command_of, crate::specs::Commands::command_of_verb, crate::specs::Commands::line_of_verb, crate::specs::Commands::property_command, crate::specs::Commands::showing_command), using(ld_json::proofs::Json::no_tree, ld_json::proofs::Json::tree_read))]
 
 ghost use Rattle.std.specs.Prelude.{◌≡◌, Some, None, IfOk, IfSome, Err};
 ghost use Rattle.ld_lines.specs.Commands.{array_of, command_of, command_of_verb, property_command, showing_command, line_of_verb, line_in};

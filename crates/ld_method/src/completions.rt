@@ -1,4 +1,6 @@
 //! When acts, plays and the unit are completed.
+#![tactic(auto, unfolding(ld_formats::specs::Completions::act_completion, ld_formats::specs::Completions::ending, ld_formats::specs::Completions::play_completion, ld_formats::specs::Completions::unit_completion), using(ld_json::proofs::First::says_more))]
+
 ghost use Rattle.ld_formats.specs.Completions.{act_completion, play_completion, unit_completion, ending};
 ghost use Rattle.ld_json.specs.Access.{IsObject};
 ghost use Rattle.ld_shape.specs.Reading.{Answers};
@@ -24,7 +26,6 @@ impl Reads for ActCompletion {
 
     ghost shape = { act_completion };
 
-    #[tactic(auto, unfolding(ld_formats::specs::Completions::act_completion), using(ld_json::proofs::First::says_more))]
     fn read(alloc: Global, node: &Node<'_>) -> Result<Completion, ReadFault> {
         match node.sole(alloc)? {
             "when-role-part-completed" => {
@@ -52,7 +53,6 @@ impl Reads for PlayCompletion {
 
     ghost shape = { play_completion };
 
-    #[tactic(auto, unfolding(ld_formats::specs::Completions::play_completion), using(ld_json::proofs::First::says_more))]
     fn read(alloc: Global, node: &Node<'_>) -> Result<Completion, ReadFault> {
         match node.sole(alloc)? {
             "when-last-act-completed" => {
@@ -72,7 +72,6 @@ impl Reads for UnitCompletion {
 
     ghost shape = { unit_completion };
 
-    #[tactic(auto, unfolding(ld_formats::specs::Completions::unit_completion), using(ld_json::proofs::First::says_more))]
     fn read(alloc: Global, node: &Node<'_>) -> Result<Completion, ReadFault> {
         match node.sole(alloc)? {
             "when-play-completed" => {
@@ -85,7 +84,6 @@ impl Reads for UnitCompletion {
 }
 
 /// When the thing is completed, as `C` reads it, and what follows; both may be absent.
-#[tactic(auto, unfolding(ld_formats::specs::Completions::ending), using(ld_json::proofs::First::says_more))]
 pub fn ending_at<C: Reads<Value = Completion>>(
     alloc: Global,
     node: &Node<'_>,

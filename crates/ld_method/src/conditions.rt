@@ -1,4 +1,6 @@
 //! Conditions and what they do.
+#![tactic(auto, unfolding(ld_formats::specs::Conditions::action, ld_formats::specs::Conditions::condition, ld_formats::specs::Conditions::conditions_document), using(ld_json::proofs::First::says_more))]
+
 ghost use Rattle.ld_formats.specs.Conditions.{action, condition, conditions_document};
 
 use crate::tests::TestShape;
@@ -21,7 +23,6 @@ impl Reads for ActionShape {
 
     ghost shape = { action };
 
-    #[tactic(auto, unfolding(ld_formats::specs::Conditions::action), using(ld_json::proofs::First::says_more))]
     fn read(alloc: Global, node: &Node<'_>) -> Result<Action, ReadFault> {
         match node.sole(alloc)? {
             "show" => {
@@ -53,7 +54,6 @@ impl Reads for ConditionShape {
 
     ghost shape = { condition };
 
-    #[tactic(auto, unfolding(ld_formats::specs::Conditions::condition), using(ld_json::proofs::First::says_more))]
     fn read(alloc: Global, node: &Node<'_>) -> Result<Condition, ReadFault> {
         node.only(alloc, &["if", "then", "else"])?;
         Ok(Condition {
@@ -72,7 +72,6 @@ impl Reads for ConditionsDocument {
 
     ghost shape = { conditions_document };
 
-    #[tactic(auto, unfolding(ld_formats::specs::Conditions::conditions_document), using(ld_json::proofs::First::says_more))]
     fn read(alloc: Global, node: &Node<'_>) -> Result<ConditionList, ReadFault> {
         node.only(alloc, &["conditions"])?;
         list_at::<ConditionShape>(alloc, node, "conditions")

@@ -1,4 +1,6 @@
 //! The method of a unit: plays, acts and role-parts.
+#![tactic(auto, unfolding(ld_formats::specs::Completions::ending, ld_formats::specs::Methods::act, ld_formats::specs::Methods::method, ld_formats::specs::Methods::play, ld_formats::specs::Methods::role_part), using(ld_json::proofs::First::says_more))]
+
 ghost use Rattle.ld_formats.specs.Methods.{role_part, act, play, method};
 
 use crate::completions::{ActCompletion, PlayCompletion, UnitCompletion, ending_at};
@@ -20,7 +22,6 @@ impl Reads for RolePartShape {
 
     ghost shape = { role_part };
 
-    #[tactic(auto, unfolding(ld_formats::specs::Methods::role_part), using(ld_json::proofs::First::says_more))]
     fn read(alloc: Global, node: &Node<'_>) -> Result<RolePart, ReadFault> {
         node.only(
             alloc,
@@ -54,7 +55,6 @@ impl Reads for ActShape {
 
     ghost shape = { act };
 
-    #[tactic(auto, unfolding(ld_formats::specs::Methods::act, ld_formats::specs::Completions::ending), using(ld_json::proofs::First::says_more))]
     fn read(alloc: Global, node: &Node<'_>) -> Result<Act, ReadFault> {
         node.only(
             alloc,
@@ -88,7 +88,6 @@ impl Reads for PlayShape {
 
     ghost shape = { play };
 
-    #[tactic(auto, unfolding(ld_formats::specs::Methods::play, ld_formats::specs::Completions::ending), using(ld_json::proofs::First::says_more))]
     fn read(alloc: Global, node: &Node<'_>) -> Result<Play, ReadFault> {
         node.only(
             alloc,
@@ -125,7 +124,6 @@ impl Reads for MethodShape {
 
     ghost shape = { method };
 
-    #[tactic(auto, unfolding(ld_formats::specs::Methods::method, ld_formats::specs::Completions::ending), using(ld_json::proofs::First::says_more))]
     fn read(alloc: Global, node: &Node<'_>) -> Result<Method, ReadFault> {
         node.only(alloc, &["plays", "complete", "on-completion"])?;
         let plays = needed_at::<ListOf<PlayShape, 1>>(alloc, node, "plays")?;

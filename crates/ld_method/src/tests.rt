@@ -1,4 +1,6 @@
 //! Tests.
+#![tactic(auto, unfolding(ld_formats::specs::Tests::of_members), using(ld_json::proofs::First::says_more))]
+
 ghost use Rattle.std.specs.Prelude.{◌≡◌, IfOk, IfErr, codes};
 ghost use Rattle.ld_formats.specs.Tests.{test, test_cases, plain_test_cases, of_members};
 ghost use Rattle.ld_json.specs.Access.{IsObject};
@@ -131,7 +133,6 @@ fn read_one(alloc: Global, node: &Node<'_>) -> Result<Test, ReadFault>
 
 /// A role, and what is tested of each of its members.
 #[cycle(tests)]
-#[tactic(auto, unfolding(ld_formats::specs::Tests::of_members), using(ld_json::proofs::First::says_more))]
 fn read_of_members(alloc: Global, node: &Node<'_>) -> Result<(Id, Test), ReadFault>
     ensures { Answers ((of_members test).reading node.now) result }
 {

@@ -1,4 +1,6 @@
 //! The unit's own document.
+#![tactic(auto, unfolding(ld_formats::specs::Units::content_members, ld_formats::specs::Units::format, ld_formats::specs::Units::head), using(ld_json::proofs::First::says_more))]
+
 ghost use Rattle.ld_formats.specs.Units.{format, level_words, content_members, head};
 ghost use Rattle.ld_json.specs.Access.{IsObject};
 ghost use Rattle.ld_shape.specs.Reading.{Answers};
@@ -50,7 +52,17 @@ impl Model for Head {
 
     ghost coded = { Prim.hlevel (codes, coded_term, coded_test) };
 
-    ghost view = { λ x. record { format = x.format; identifier = x.identifier; level = x.level; title = x.title; turns = x.turns; metadata = x.metadata; learning_objectives = x.learning_objectives; prerequisites = x.prerequisites; method = x.method } };
+    ghost view = { λ x. record {
+      format = x.format;
+      identifier = x.identifier;
+      level = x.level;
+      title = x.title;
+      turns = x.turns;
+      metadata = x.metadata;
+      learning_objectives = x.learning_objectives;
+      prerequisites = x.prerequisites;
+      method = x.method;
+    } };
 }
 
 /// The number of the format, which is 1.
@@ -61,7 +73,6 @@ impl Reads for Format {
 
     ghost shape = { format };
 
-    #[tactic(auto, unfolding(ld_formats::specs::Units::format), using(ld_json::proofs::First::says_more))]
     fn read(alloc: Global, node: &Node<'_>) -> Result<u32, ReadFault> {
         let format = node.whole(alloc)?;
         if format != 1 {
@@ -97,7 +108,6 @@ impl Reads for HeadShape {
 
     ghost shape = { head };
 
-    #[tactic(auto, unfolding(ld_formats::specs::Units::head, ld_formats::specs::Units::content_members), using(ld_json::proofs::First::says_more))]
     fn read(alloc: Global, node: &Node<'_>) -> Result<Head, ReadFault> {
         node.only(
             alloc,
@@ -133,7 +143,6 @@ impl Reads for HeadShape {
 }
 
 /// What stands in the document behind the level.
-#[tactic(auto, unfolding(ld_formats::specs::Units::content_members), using(ld_json::proofs::First::says_more))]
 fn content_at(
     alloc: Global,
     node: &Node<'_>,

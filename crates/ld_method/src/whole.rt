@@ -1,4 +1,6 @@
 //! The whole unit of its documents.
+#![tactic(auto, unfolding(ld_formats::specs::Units::method_documents), using(crate::proofs::Formed::answers_formed, crate::proofs::Formed::stands_for_one, ld_json::proofs::First::says_more))]
+
 ghost use Rattle.std.specs.Prelude.{◌≡◌, true, [], Some, IfOk};
 ghost use Rattle.ld_formats.specs.Units.{parts as parts_shape, method_with, unit as unit_shape, is_well_formed, unit_of};
 ghost use Rattle.ld_model.specs.declared.unit.Unit.{Unit as Course};
@@ -18,7 +20,6 @@ use std::mem::replace;
 
 /// The unit of these documents, with the parts that were read from them. On a refusal the parts are
 /// dropped. (docs/FORMATS.md, "Faults of shape")
-#[tactic(auto, using(crate::proofs::Formed::answers_formed))]
 pub fn read_method(alloc: Global, docs: &Docs, parts: Parts) -> Result<Unit, ReadFault>
     requires { (parts_shape.reading docs.now).value ≡ Some parts }
     ensures answer { Answers ((method_with parts).reading docs.now) result }
@@ -28,7 +29,6 @@ pub fn read_method(alloc: Global, docs: &Docs, parts: Parts) -> Result<Unit, Rea
 }
 
 /// The unit of these parts, and of what its own document and that of the conditions tell.
-#[tactic(auto, unfolding(ld_formats::specs::Units::method_documents), using(ld_json::proofs::First::says_more))]
 fn read_with(alloc: Global, docs: &Docs, parts: Parts) -> Result<Unit, ReadFault>
     ensures { Answers ((method_with parts).reading docs.now) result }
 {
@@ -79,7 +79,7 @@ fn unit_with(alloc: Global, parts: Parts, head: Head, conditions: ConditionList)
 
 /// Documents without a fault of shape stand for a unit, which is well-formed. The body is empty: the
 /// law is about what the readers are held to, and holds for all documents.
-#[tactic(auto, using(crate::proofs::Formed::stands_for_one))]
 pub fn documents_without_a_fault_stand_for_a_unit(docs: &Docs)
-    ensures { (unit_shape.reading docs.now).faults ≡ [] → (unit : Course) × ((unit_shape.reading docs.now).value ≡ Some unit) × (is_well_formed unit ≡ true) }
+    ensures { (unit_shape.reading docs.now).faults ≡ [] → (unit : Course)
+        × ((unit_shape.reading docs.now).value ≡ Some unit) × (is_well_formed unit ≡ true) }
 {}

@@ -94,7 +94,8 @@ pub(crate) fn identifiers_with(
 
 /// Appends the identifiers of the roles.
 fn push_roles(identifiers: &mut Vec<Id>, listing: &Listing<'_>) -> Result<(), NoMemory>
-    ensures { OnOk result (identifiers.new.items ≡ identifiers.old.items ++ role_identifiers_in listing.now) }
+    ensures { OnOk result (identifiers.new.items ≡ identifiers.old.items
+        ++ role_identifiers_in listing.now) }
 {
     for index in 0..listing.len() {
         push_role(identifiers, listing.what(index))?;
@@ -104,7 +105,8 @@ fn push_roles(identifiers: &mut Vec<Id>, listing: &Listing<'_>) -> Result<(), No
 
 /// Appends the identifier of the role that is declared, if one is.
 fn push_role(identifiers: &mut Vec<Id>, what: What<'_>) -> Result<(), NoMemory>
-    ensures { OnOk result (identifiers.new.items ≡ identifiers.old.items ++ role_identified_by (what_of what.entry)) }
+    ensures { OnOk result (identifiers.new.items ≡ identifiers.old.items
+        ++ role_identified_by (what_of what.entry)) }
 {
     if let What::Declares(Kind::Role, identifier, _) = what {
         identifiers.push(identifier.copy()?)?;
@@ -114,7 +116,8 @@ fn push_role(identifiers: &mut Vec<Id>, what: What<'_>) -> Result<(), NoMemory>
 
 /// Appends the identifiers of the properties.
 fn push_properties(identifiers: &mut Vec<Id>, properties: &[Property]) -> Result<(), NoMemory>
-    ensures { OnOk result (identifiers.new.items ≡ identifiers.old.items ++ map (λ property. property.identifier) properties.now) }
+    ensures { OnOk result (identifiers.new.items ≡ identifiers.old.items
+        ++ map (λ property. property.identifier) properties.now) }
 {
     for property in properties {
         identifiers.push(property.identifier.copy()?)?;
@@ -124,7 +127,8 @@ fn push_properties(identifiers: &mut Vec<Id>, properties: &[Property]) -> Result
 
 /// Appends the identifiers of the things.
 fn push_things(identifiers: &mut Vec<Id>, things: &[ThingEntry<'_>]) -> Result<(), NoMemory>
-    ensures { OnOk result (identifiers.new.items ≡ identifiers.old.items ++ map (λ entry. entry.identifier) (map entry_of things.now)) }
+    ensures { OnOk result (identifiers.new.items ≡ identifiers.old.items
+        ++ map (λ entry. entry.identifier) (map entry_of things.now)) }
 {
     for thing in things {
         identifiers.push(thing.identifier.copy()?)?;

@@ -1,4 +1,6 @@
 //! The names of a unit's parts, and their numbers.
+#![tactic(auto, using(crate::proofs::Kept::absent_kept, crate::proofs::Kept::found_kept, crate::proofs::Kept::kept_at, crate::proofs::Kept::property_at, crate::proofs::Kept::thing_at))]
+
 ghost use Rattle.std.specs.Prelude.{◌≡◌, ◌<◌, ◌^◌, length, map, true, Some, None, IfOk, IfSome, OnOk, option_map, slice_get};
 ghost use Rattle.ld_model.specs.Roles.{roles_of};
 ghost use Rattle.ld_names.specs.Identifiers.{HasDistinctIdentifiers, identifiers_of};
@@ -109,7 +111,6 @@ impl Names {
 
     /// What the identifier names; None exactly where the unit has no such identifier. What it names
     /// has just this identifier. It takes no memory.
-    #[tactic(auto, using(crate::proofs::Kept::absent_kept, crate::proofs::Kept::found_kept))]
     pub fn number(&self, id: &Id) -> Option<Named>
         ensures named { result ≡ named_by self.now id.now }
         ensures part { IfSome result (HasPart self.now) }
@@ -142,7 +143,6 @@ impl Names {
 
     /// The identifier of what is named, whose number is one of the unit's: it names just that. It
     /// takes no memory.
-    #[tactic(auto, using(crate::proofs::Kept::kept_at))]
     pub fn id(&self, named: Named) -> &Id
         requires { HasPart self.now named }
         ensures identifier { Some result.now ≡ identifier_at self.now named }
@@ -155,7 +155,6 @@ impl Names {
     }
 
     /// The index of the identifier of what is named.
-    #[tactic(auto, using(crate::proofs::Kept::property_at, crate::proofs::Kept::thing_at))]
     fn index_of(&self, named: Named) -> usize
         requires { HasPart self.now named }
         ensures { slice_get (all_identifiers self.now) result ≡ identifier_at self.now named }
@@ -210,7 +209,8 @@ impl Names {
 
 /// The place of each thing.
 fn places_of(alloc: Global, things: &[ThingEntry<'_>]) -> Result<Vec<Place>, NoMemory>
-    ensures { IfOk result (λ places. places.items ≡ map (λ entry. entry.place) (map entry_of things.now)) }
+    ensures { IfOk result
+        (λ places. places.items ≡ map (λ entry. entry.place) (map entry_of things.now)) }
 {
     let mut places = Vec::with_capacity(alloc, things.len())?;
     for thing in things {

@@ -68,7 +68,8 @@ impl<'a> Listing<'a> {
     /// What stands there, of the part at an index counted from 0.
     pub fn what(&self, index: usize) -> What<'a>
         requires { index < length self.now }
-        ensures { option_map (λ part. part.what) (slice_get self.now index) ≡ Some (what_of result) }
+        ensures { option_map (λ part. part.what) (slice_get self.now index)
+            ≡ Some (what_of result) }
     {
         self.parts[index].what
     }

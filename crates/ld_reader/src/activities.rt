@@ -1,4 +1,6 @@
 //! Activities.
+#![tactic(auto, unfolding(ld_formats::specs::Activities::activity, ld_formats::specs::Activities::activity_by, ld_formats::specs::Activities::content_by, ld_formats::specs::Activities::doing), using(ld_json::proofs::First::says_more))]
+
 ghost use Rattle.std.specs.Prelude.{◌≡◌, OnOk, IfOk};
 ghost use Rattle.ld_formats.specs.Activities.{activity_words, activity_kind, supports_by, doing, content_by, activity_members, activity_by, activity};
 ghost use Rattle.ld_json.specs.Access.{IsObject};
@@ -49,7 +51,6 @@ impl Reads for ActivityShape {
 
     ghost shape = { activity };
 
-    #[tactic(auto, unfolding(ld_formats::specs::Activities::activity), using(ld_json::proofs::First::says_more))]
     fn read(alloc: Global, node: &Node<'_>) -> Result<Activity, ReadFault> {
         let kind = kind_of(alloc, node)?;
         read_of_kind(alloc, node, kind)
@@ -69,7 +70,6 @@ fn kind_of(alloc: Global, node: &Node<'_>) -> Result<ActivityKind, NoMemory>
 }
 
 /// An activity of this kind.
-#[tactic(auto, unfolding(ld_formats::specs::Activities::activity_by), using(ld_json::proofs::First::says_more))]
 fn read_of_kind(alloc: Global, node: &Node<'_>, kind: ActivityKind) -> Result<Activity, ReadFault>
     ensures { Answers ((activity_by kind).reading node.now) result }
 {
@@ -107,7 +107,6 @@ fn only_of_kind(alloc: Global, node: &Node<'_>, kind: ActivityKind) -> Result<()
 }
 
 /// That the node is an object without members but those of a learning activity.
-#[tactic(auto, unfolding(ld_formats::specs::Activities::content_by, ld_formats::specs::Activities::doing))]
 fn only_learning(alloc: Global, node: &Node<'_>) -> Result<(), ReadFault>
     ensures object { OnOk result (IsObject node.now) }
     ensures only { Answers (only_members (activity_members ActivityKind.Learning) node.now) result }
@@ -131,7 +130,6 @@ fn only_learning(alloc: Global, node: &Node<'_>) -> Result<(), ReadFault>
 }
 
 /// That the node is an object without members but those of a support activity.
-#[tactic(auto, unfolding(ld_formats::specs::Activities::content_by, ld_formats::specs::Activities::doing))]
 fn only_support(alloc: Global, node: &Node<'_>) -> Result<(), ReadFault>
     ensures object { OnOk result (IsObject node.now) }
     ensures only { Answers (only_members (activity_members ActivityKind.Support) node.now) result }
@@ -165,7 +163,6 @@ type Content = (
 );
 
 /// What stands behind the members that say what is shown of an activity of this kind.
-#[tactic(auto, unfolding(ld_formats::specs::Activities::content_by), using(ld_json::proofs::First::says_more))]
 fn content_at(alloc: Global, node: &Node<'_>, kind: ActivityKind) -> Result<Content, ReadFault>
     requires { IsObject node.now }
     ensures { Answers ((content_by kind).shape.reading node.now) result }
@@ -182,7 +179,6 @@ fn content_at(alloc: Global, node: &Node<'_>, kind: ActivityKind) -> Result<Cont
 }
 
 /// What is done in an activity, when it is completed, and what follows then.
-#[tactic(auto, unfolding(ld_formats::specs::Activities::doing), using(ld_json::proofs::First::says_more))]
 fn doing_at(alloc: Global, node: &Node<'_>) -> Result<Doing, ReadFault>
     requires { IsObject node.now }
     ensures { Answers (doing.shape.reading node.now) result }

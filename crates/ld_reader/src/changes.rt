@@ -1,4 +1,6 @@
 //! What follows when something is completed: items that are shown, changes and notices.
+#![tactic(auto, unfolding(ld_formats::specs::Changes::change, ld_formats::specs::Changes::notice, ld_formats::specs::Changes::on_completion), using(ld_json::proofs::First::says_more))]
+
 ghost use Rattle.ld_formats.specs.Changes.{change, notice, on_completion};
 ghost use Rattle.ld_shape.specs.Reading.{Answers};
 
@@ -21,7 +23,6 @@ impl Reads for ChangeShape {
 
     ghost shape = { change };
 
-    #[tactic(auto, unfolding(ld_formats::specs::Changes::change), using(ld_json::proofs::First::says_more))]
     fn read(alloc: Global, node: &Node<'_>) -> Result<Change, ReadFault> {
         node.only(alloc, &["property", "value"])?;
         Ok(Change {
@@ -39,7 +40,6 @@ impl Reads for NoticeShape {
 
     ghost shape = { notice };
 
-    #[tactic(auto, unfolding(ld_formats::specs::Changes::notice), using(ld_json::proofs::First::says_more))]
     fn read(alloc: Global, node: &Node<'_>) -> Result<Notice, ReadFault> {
         node.only(alloc, &["roles", "subject", "activity"])?;
         Ok(Notice {
@@ -58,7 +58,6 @@ impl Reads for Follows {
 
     ghost shape = { on_completion };
 
-    #[tactic(auto, unfolding(ld_formats::specs::Changes::on_completion), using(ld_json::proofs::First::says_more))]
     fn read(alloc: Global, node: &Node<'_>) -> Result<OnCompletion, ReadFault> {
         node.only(alloc, &["feedback", "change", "notify"])?;
         Ok(OnCompletion {

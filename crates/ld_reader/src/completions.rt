@@ -1,4 +1,6 @@
 //! When an activity is completed, and what an activity, an act, a play and the unit have in common there.
+#![tactic(auto, unfolding(ld_formats::specs::Completions::activity_completion, ld_formats::specs::Completions::common_cases, ld_formats::specs::Completions::value_set), using(ld_json::proofs::First::says_more))]
+
 ghost use Rattle.ld_formats.specs.Cases.{value_text};
 ghost use Rattle.ld_formats.specs.Completions.{value_set, activity_completion, common_cases};
 ghost use Rattle.ld_json.specs.Access.{IsObject};
@@ -40,7 +42,6 @@ impl Reads for ValueSet {
 
     ghost shape = { value_set };
 
-    #[tactic(auto, unfolding(ld_formats::specs::Completions::value_set), using(ld_json::proofs::First::says_more))]
     fn read(alloc: Global, node: &Node<'_>) -> Result<(Id, Option<PlainText>), ReadFault> {
         node.only(alloc, &["property", "value"])?;
         let property = needed_at::<Identifier>(alloc, node, "property")?;
@@ -57,7 +58,6 @@ impl Reads for ActivityCompletion {
 
     ghost shape = { activity_completion };
 
-    #[tactic(auto, unfolding(ld_formats::specs::Completions::activity_completion), using(ld_json::proofs::First::says_more))]
     fn read(alloc: Global, node: &Node<'_>) -> Result<Completion, ReadFault> {
         match node.sole(alloc)? {
             "user-choice" => {
@@ -71,7 +71,6 @@ impl Reads for ActivityCompletion {
 
 /// When a thing is completed, of whose object the only member has this name, if it is one that all
 /// things may have.
-#[tactic(auto, unfolding(ld_formats::specs::Completions::common_cases), using(ld_json::proofs::First::says_more))]
 pub fn read_common(alloc: Global, node: &Node<'_>, name: &str) -> Result<Completion, ReadFault>
     requires { IsObject node.now }
     ensures { Answers (chosen common_cases node.now name.now) result }

@@ -1,4 +1,6 @@
 //! Environments, and the learning objects and services in them.
+#![tactic(auto, unfolding(ld_formats::specs::Environments::environment, ld_formats::specs::Environments::learning_object, ld_formats::specs::Environments::service), using(ld_json::proofs::First::says_more))]
+
 ghost use Rattle.ld_formats.specs.Environments.{learning_object, service_words, service, environment};
 ghost use Rattle.ld_shape.specs.Words.{one_of};
 
@@ -22,7 +24,6 @@ impl Reads for ObjectShape {
 
     ghost shape = { learning_object };
 
-    #[tactic(auto, unfolding(ld_formats::specs::Environments::learning_object), using(ld_json::proofs::First::says_more))]
     fn read(alloc: Global, node: &Node<'_>) -> Result<LearningObject, ReadFault> {
         node.only(alloc, &["identifier", "title", "visible", "items"])?;
         Ok(LearningObject {
@@ -61,7 +62,6 @@ impl Reads for ServiceShape {
 
     ghost shape = { service };
 
-    #[tactic(auto, unfolding(ld_formats::specs::Environments::service), using(ld_json::proofs::First::says_more))]
     fn read(alloc: Global, node: &Node<'_>) -> Result<Service, ReadFault> {
         node.only(alloc, &["identifier", "kind", "title", "visible"])?;
         Ok(Service {
@@ -81,7 +81,6 @@ impl Reads for EnvironmentShape {
 
     ghost shape = { environment };
 
-    #[tactic(auto, unfolding(ld_formats::specs::Environments::environment), using(ld_json::proofs::First::says_more))]
     fn read(alloc: Global, node: &Node<'_>) -> Result<Environment, ReadFault> {
         node.only(
             alloc,

@@ -1,4 +1,6 @@
 //! Items.
+#![tactic(auto, unfolding(ld_formats::specs::Items::item), using(ld_json::proofs::First::says_more))]
+
 ghost use Rattle.ld_formats.specs.Items.{item};
 
 use ld_json::fault::ReadFault;
@@ -18,7 +20,6 @@ impl Reads for ItemShape {
 
     ghost shape = { item };
 
-    #[tactic(auto, unfolding(ld_formats::specs::Items::item), using(ld_json::proofs::First::says_more))]
     fn read(alloc: Global, node: &Node<'_>) -> Result<Item, ReadFault> {
         node.only(alloc, &["identifier", "href", "title", "visible"])?;
         Ok(Item {

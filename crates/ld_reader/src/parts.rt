@@ -1,5 +1,7 @@
 //! The documents of roles, properties, environments and activities, and the parts of a unit that
 //! they tell.
+#![tactic(auto, unfolding(ld_formats::specs::Environments::environments_document, ld_formats::specs::Properties::properties_document, ld_formats::specs::Roles::roles_document, ld_formats::specs::Structures::activities_document, ld_formats::specs::Units::parts), using(crate::proofs::Formed::answers_formed, ld_json::proofs::First::says_more))]
+
 ghost use Rattle.std.specs.Prelude.{◌≡◌, true, IfOk};
 ghost use Rattle.ld_formats.specs.Environments.{environments_document};
 ghost use Rattle.ld_formats.specs.Properties.{properties_document};
@@ -37,7 +39,6 @@ impl Reads for RolesDocument {
 
     ghost shape = { roles_document };
 
-    #[tactic(auto, unfolding(ld_formats::specs::Roles::roles_document), using(ld_json::proofs::First::says_more))]
     fn read(alloc: Global, node: &Node<'_>) -> Result<RoleList, ReadFault> {
         node.only(alloc, &["roles"])?;
         let roles = needed_at::<ListOf<RoleShape, 1>>(alloc, node, "roles")?;
@@ -53,7 +54,6 @@ impl Reads for PropertiesDocument {
 
     ghost shape = { properties_document };
 
-    #[tactic(auto, unfolding(ld_formats::specs::Properties::properties_document), using(ld_json::proofs::First::says_more))]
     fn read(alloc: Global, node: &Node<'_>) -> Result<PropertyList, ReadFault> {
         node.only(alloc, &["properties"])?;
         let properties = list_at::<PropertyShape>(alloc, node, "properties")?;
@@ -69,7 +69,6 @@ impl Reads for EnvironmentsDocument {
 
     ghost shape = { environments_document };
 
-    #[tactic(auto, unfolding(ld_formats::specs::Environments::environments_document), using(ld_json::proofs::First::says_more))]
     fn read(alloc: Global, node: &Node<'_>) -> Result<EnvironmentList, ReadFault> {
         node.only(alloc, &["environments"])?;
         let environments = list_at::<EnvironmentShape>(alloc, node, "environments")?;
@@ -85,7 +84,6 @@ impl Reads for ActivitiesDocument {
 
     ghost shape = { activities_document };
 
-    #[tactic(auto, unfolding(ld_formats::specs::Structures::activities_document), using(ld_json::proofs::First::says_more))]
     fn read(alloc: Global, node: &Node<'_>) -> Result<(ActivityList, StructureList), ReadFault> {
         node.only(alloc, &["activities", "structures"])?;
         let activities = list_at::<ActivityShape>(alloc, node, "activities")?;
@@ -99,7 +97,6 @@ impl Reads for ActivitiesDocument {
 ///
 /// # Errors
 /// The first fault of shape of these documents, in the order of the files, and `NoMemory`.
-#[tactic(auto, using(crate::proofs::Formed::answers_formed))]
 pub fn read_parts(alloc: Global, docs: &Docs) -> Result<Parts, ReadFault>
     ensures answer { Answers (parts.reading docs.now) result }
     ensures formed { IfOk result (λ read. parts.has_form read ≡ true) }
@@ -109,7 +106,6 @@ pub fn read_parts(alloc: Global, docs: &Docs) -> Result<Parts, ReadFault>
 
 /// What the documents tell, document by document. Those of properties and of environments may be
 /// absent: then there are none.
-#[tactic(auto, unfolding(ld_formats::specs::Units::parts), using(ld_json::proofs::First::says_more))]
 fn read_documents(alloc: Global, docs: &Docs) -> Result<Parts, ReadFault>
     ensures { Answers (parts.reading docs.now) result }
 {

@@ -1,4 +1,6 @@
 //! Properties, and what restricts their values.
+#![tactic(auto, unfolding(ld_formats::specs::Properties::left_out_restrictions, ld_formats::specs::Properties::owner_and_values, ld_formats::specs::Properties::property, ld_formats::specs::Properties::property_by, ld_formats::specs::Properties::restrictions), using(ld_json::proofs::First::says_more))]
+
 ghost use Rattle.std.specs.Prelude.{◌≡◌, IfOk};
 ghost use Rattle.ld_formats.specs.Properties.{datatype, owner_and_values, property, property_by, property_kind, property_members, property_words, restrictions, role_by, uri_by};
 ghost use Rattle.ld_json.specs.Access.{IsObject};
@@ -90,7 +92,6 @@ impl Reads for RestrictionsShape {
 
     ghost shape = { restrictions };
 
-    #[tactic(auto, unfolding(ld_formats::specs::Properties::restrictions, ld_formats::specs::Properties::left_out_restrictions), using(ld_json::proofs::First::says_more))]
     fn read(alloc: Global, node: &Node<'_>) -> Result<Restrictions, ReadFault> {
         node.only(
             alloc,
@@ -138,7 +139,6 @@ impl Reads for PropertyShape {
 
     ghost shape = { property };
 
-    #[tactic(auto, unfolding(ld_formats::specs::Properties::property), using(ld_json::proofs::First::says_more))]
     fn read(alloc: Global, node: &Node<'_>) -> Result<Property, ReadFault> {
         let kind = kind_of(alloc, node)?;
         read_property_of(alloc, node, kind)
@@ -156,7 +156,6 @@ fn kind_of(alloc: Global, node: &Node<'_>) -> Result<Option<PropertyKind>, NoMem
 }
 
 /// A property, whose members are those of this kind.
-#[tactic(auto, unfolding(ld_formats::specs::Properties::property_by), using(ld_json::proofs::First::says_more))]
 fn read_property_of(
     alloc: Global,
     node: &Node<'_>,
@@ -183,7 +182,6 @@ fn read_property_of(
 }
 
 /// That the node is an object, and its members are those of a property of this kind.
-#[tactic(auto, unfolding(ld_formats::specs::Properties::owner_and_values))]
 fn only_of_kind(alloc: Global, node: &Node<'_>, kind: Option<PropertyKind>) -> Result<(), ReadFault>
     ensures object { IfOk result (λ _. IsObject node.now) }
     ensures only { Answers (only_members (property_members kind) node.now) result }
@@ -199,7 +197,6 @@ fn only_of_kind(alloc: Global, node: &Node<'_>, kind: Option<PropertyKind>) -> R
 }
 
 /// That the members are those of a property of any kind.
-#[tactic(auto, unfolding(ld_formats::specs::Properties::owner_and_values))]
 fn only_unknown(alloc: Global, node: &Node<'_>) -> Result<(), ReadFault>
     ensures object { IfOk result (λ _. IsObject node.now) }
     ensures only { Answers (only_members (property_members None) node.now) result }
@@ -220,7 +217,6 @@ fn only_unknown(alloc: Global, node: &Node<'_>) -> Result<(), ReadFault>
 }
 
 /// That the members are those of a role's property.
-#[tactic(auto, unfolding(ld_formats::specs::Properties::owner_and_values))]
 fn only_of_role(alloc: Global, node: &Node<'_>) -> Result<(), ReadFault>
     ensures object { IfOk result (λ _. IsObject node.now) }
     ensures only { Answers (only_members (property_members (Some LocRole)) node.now) result }
@@ -240,7 +236,6 @@ fn only_of_role(alloc: Global, node: &Node<'_>) -> Result<(), ReadFault>
 }
 
 /// That the members are those of a property of each run, or of each person in each run.
-#[tactic(auto, unfolding(ld_formats::specs::Properties::owner_and_values))]
 fn only_of_runs(alloc: Global, node: &Node<'_>) -> Result<(), ReadFault>
     ensures object { IfOk result (λ _. IsObject node.now) }
     ensures only { Answers (only_members (property_members (Some Loc)) node.now) result }
@@ -259,7 +254,6 @@ fn only_of_runs(alloc: Global, node: &Node<'_>) -> Result<(), ReadFault>
 }
 
 /// That the members are those of a property that all runs share.
-#[tactic(auto, unfolding(ld_formats::specs::Properties::owner_and_values))]
 fn only_shared(alloc: Global, node: &Node<'_>) -> Result<(), ReadFault>
     ensures object { IfOk result (λ _. IsObject node.now) }
     ensures only { Answers (only_members (property_members (Some Glob)) node.now) result }
@@ -279,7 +273,6 @@ fn only_shared(alloc: Global, node: &Node<'_>) -> Result<(), ReadFault>
 }
 
 /// Whose the property is, how it begins, and what restricts it.
-#[tactic(auto, unfolding(ld_formats::specs::Properties::owner_and_values), using(ld_json::proofs::First::says_more))]
 fn owner_and_values_at(
     alloc: Global,
     node: &Node<'_>,

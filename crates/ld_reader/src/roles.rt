@@ -1,4 +1,6 @@
 //! Roles, and the roles within them.
+#![tactic(auto, unfolding(ld_formats::specs::Roles::role, ld_formats::specs::Roles::role_of, ld_formats::specs::Roles::told_members), using(ld_formats::proofs::Unrolled::inner_role_is, ld_json::proofs::Elements::drop_at, ld_json::proofs::First::says_more, ld_shape::proofs::Passing::one_more))]
+
 ghost use Rattle.std.specs.Prelude.{◌≡◌, codes, [], length, IfOk, IfErr};
 ghost use Rattle.ld_formats.specs.Roles.{creation, inner_role, inner_step, kind_words, match_words, role, role_kind, role_of};
 ghost use Rattle.ld_json.specs.Access.{IsArray, IsObject, item_nodes};
@@ -83,7 +85,6 @@ impl Reads for RoleShape {
 
     ghost shape = { role };
 
-    #[tactic(auto, unfolding(ld_formats::specs::Roles::role), using(ld_json::proofs::First::says_more))]
     fn read(alloc: Global, node: &Node<'_>) -> Result<Role, ReadFault> {
         let kind = kind_of(alloc, node)?;
         read_role_of(alloc, node, kind)
@@ -102,7 +103,6 @@ fn kind_of(alloc: Global, node: &Node<'_>) -> Result<RoleKind, NoMemory>
 }
 
 /// A role at the top; the roles within it have this kind.
-#[tactic(auto, unfolding(ld_formats::specs::Roles::role_of, ld_formats::specs::Roles::told_members), using(ld_json::proofs::First::says_more))]
 fn read_role_of(alloc: Global, node: &Node<'_>, kind: RoleKind) -> Result<Role, ReadFault>
     ensures { Answers ((role_of kind).reading node.now) result }
 {
@@ -146,7 +146,6 @@ fn read_role_of(alloc: Global, node: &Node<'_>, kind: RoleKind) -> Result<Role, 
 
 /// A role within one of this kind.
 #[cycle(roles)]
-#[tactic(auto, using(ld_formats::proofs::Unrolled::inner_role_is))]
 fn read_inner(alloc: Global, node: &Node<'_>, kind: RoleKind) -> Result<Role, ReadFault>
     ensures { Answers ((inner_role kind).reading node.now) result }
 {
@@ -155,7 +154,6 @@ fn read_inner(alloc: Global, node: &Node<'_>, kind: RoleKind) -> Result<Role, Re
 
 /// A role within one of this kind, made of roles within it.
 #[cycle(roles)]
-#[tactic(auto, unfolding(ld_formats::specs::Roles::told_members), using(ld_json::proofs::First::says_more))]
 fn read_one(alloc: Global, node: &Node<'_>, kind: RoleKind) -> Result<Role, ReadFault>
     ensures { Answers ((inner_step kind (inner_role kind)).reading node.now) result }
 {
@@ -199,8 +197,13 @@ fn read_one(alloc: Global, node: &Node<'_>, kind: RoleKind) -> Result<Role, Read
 #[cycle(roles)]
 fn roles_at(alloc: Global, node: &Node<'_>, kind: RoleKind) -> Result<Vec<Role>, ReadFault>
     requires { IsObject node.now }
-    ensures value { IfOk result (λ roles. Gives (read_or (codes "roles") [] (list_of 0 (shape_of (inner_role kind))) node.now) roles.items) }
-    ensures first { IfErr result (SaysFirst (read_or (codes "roles") [] (list_of 0 (shape_of (inner_role kind))) node.now).faults) }
+    ensures value { IfOk result
+        (λ roles. Gives
+        (read_or (codes "roles") [] (list_of 0 (shape_of (inner_role kind))) node.now)
+        roles.items) }
+    ensures first { IfErr result
+        (SaysFirst
+        (read_or (codes "roles") [] (list_of 0 (shape_of (inner_role kind))) node.now).faults) }
 {
     let Some(list) = node.optional("roles") else {
         return Ok(Vec::new(alloc));
@@ -210,10 +213,11 @@ fn roles_at(alloc: Global, node: &Node<'_>, kind: RoleKind) -> Result<Vec<Role>,
 
 /// The roles of this kind in an array.
 #[cycle(roles)]
-#[tactic(auto, using(ld_json::proofs::First::says_more))]
 fn read_roles(alloc: Global, node: &Node<'_>, kind: RoleKind) -> Result<Vec<Role>, ReadFault>
-    ensures value { IfOk result (λ roles. Gives ((list_of 0 (shape_of (inner_role kind))).reading node.now) roles.items) }
-    ensures first { IfErr result (SaysFirst ((list_of 0 (shape_of (inner_role kind))).reading node.now).faults) }
+    ensures value { IfOk result
+        (λ roles. Gives ((list_of 0 (shape_of (inner_role kind))).reading node.now) roles.items) }
+    ensures first { IfErr result
+        (SaysFirst ((list_of 0 (shape_of (inner_role kind))).reading node.now).faults) }
 {
     let count = count_from(alloc, node, 0)?;
     let roles = read_each(alloc, node, count, kind)?;
@@ -222,7 +226,6 @@ fn read_roles(alloc: Global, node: &Node<'_>, kind: RoleKind) -> Result<Vec<Role
 
 /// The roles of this kind that are the elements of an array, which are so many.
 #[cycle(roles)]
-#[tactic(auto, using(ld_json::proofs::First::says_more, ld_json::proofs::Elements::drop_at, ld_shape::proofs::Passing::one_more))]
 fn read_each(
     alloc: Global,
     node: &Node<'_>,
@@ -231,8 +234,10 @@ fn read_each(
 ) -> Result<Vec<Role>, ReadFault>
     requires array { IsArray node.now }
     requires whole { count ≡ length (item_nodes node.now) }
-    ensures value { IfOk result (λ roles. Gives (each (shape_of (inner_role kind)) (item_nodes node.now)) roles.items) }
-    ensures first { IfErr result (SaysFirst (each (shape_of (inner_role kind)) (item_nodes node.now)).faults) }
+    ensures value { IfOk result
+        (λ roles. Gives (each (shape_of (inner_role kind)) (item_nodes node.now)) roles.items) }
+    ensures first { IfErr result
+        (SaysFirst (each (shape_of (inner_role kind)) (item_nodes node.now)).faults) }
 {
     let mut roles = Vec::new(alloc);
     for index in 0..count {

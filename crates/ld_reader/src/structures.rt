@@ -1,4 +1,6 @@
 //! Structures of activities.
+#![tactic(auto, unfolding(ld_formats::specs::Structures::content_by, ld_formats::specs::Structures::from_one, ld_formats::specs::Structures::structure, ld_formats::specs::Structures::structure_by, ld_shape::specs::Forms::number_of), using(crate::proofs::StructureNames::content_names, ld_json::proofs::First::says_more))]
+
 ghost use Rattle.std.specs.Prelude.{◌≡◌, Some, OnOk, IfOk};
 ghost use Rattle.ld_formats.specs.Structures.{structure_words, structure_kind, count_of, children_count, from_one, some_selected, selected_by, content_by, structure_members, structure_by, structure};
 ghost use Rattle.ld_json.specs.Access.{IsObject};
@@ -45,7 +47,6 @@ impl Reads for StructureShape {
 
     ghost shape = { structure };
 
-    #[tactic(auto, unfolding(ld_formats::specs::Structures::structure), using(ld_json::proofs::First::says_more))]
     fn read(alloc: Global, node: &Node<'_>) -> Result<Structure, ReadFault> {
         let key = key_of(alloc, node)?;
         read_of_key(alloc, node, key)
@@ -92,7 +93,6 @@ fn count_if_list(alloc: Global, node: &Node<'_>) -> Result<Option<usize>, NoMemo
 }
 
 /// A structure of this kind, with so many children.
-#[tactic(auto, unfolding(ld_formats::specs::Structures::structure_by), using(ld_json::proofs::First::says_more))]
 fn read_of_key(alloc: Global, node: &Node<'_>, key: Key) -> Result<Structure, ReadFault>
     ensures { Answers ((structure_by key).reading node.now) result }
 {
@@ -115,7 +115,6 @@ fn read_of_key(alloc: Global, node: &Node<'_>, key: Key) -> Result<Structure, Re
 
 /// That the node is an object without members but those of a structure, which are the same in all
 /// kinds.
-#[tactic(auto, using(crate::proofs::StructureNames::content_names))]
 fn only_structure(alloc: Global, node: &Node<'_>, key: Key) -> Result<(), ReadFault>
     ensures object { OnOk result (IsObject node.now) }
     ensures only { Answers (only_members (structure_members key) node.now) result }
@@ -143,7 +142,6 @@ type Content = (Option<u32>, (ReferenceList, (ReferenceList, ((), ()))));
 
 /// What stands behind the members that say what is shown of a structure of this kind, with so many
 /// children.
-#[tactic(auto, unfolding(ld_formats::specs::Structures::content_by), using(ld_json::proofs::First::says_more))]
 fn content_at(alloc: Global, node: &Node<'_>, key: Key) -> Result<Content, ReadFault>
     requires { IsObject node.now }
     ensures { Answers ((content_by key).shape.reading node.now) result }
@@ -189,7 +187,6 @@ fn selected_among(alloc: Global, node: &Node<'_>, count: usize) -> Result<Option
 
 /// The whole number from 1 to `most` that the node is. One that doesn't fit 32 bits is want of memory:
 /// no machine holds so long a list.
-#[tactic(auto, unfolding(ld_shape::specs::Forms::number_of))]
 fn number_up_to(alloc: Global, node: &Node<'_>, most: usize) -> Result<u32, ReadFault>
     ensures { Answers ((number 1 most).reading node.now) result }
 {
@@ -214,7 +211,6 @@ impl Reads for FromOne {
 
     ghost shape = { from_one };
 
-    #[tactic(auto, unfolding(ld_formats::specs::Structures::from_one))]
     fn read(alloc: Global, node: &Node<'_>) -> Result<u64, ReadFault> {
         let number = node.whole(alloc)?;
         if number < 1 {

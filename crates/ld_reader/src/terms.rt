@@ -1,4 +1,6 @@
 //! Terms of expressions.
+#![tactic(auto, using(ld_formats::proofs::Unrolled::term_is, ld_json::proofs::Elements::drop_at, ld_json::proofs::First::says_more, ld_shape::proofs::Pairs::both_nodes, ld_shape::proofs::Passing::one_more))]
+
 ghost use Rattle.std.specs.Prelude.{◌≡◌, codes, length, IfOk, IfErr};
 ghost use Rattle.ld_formats.specs.Terms.{term, literal_cases, plain_term_cases, term_cases, difference, product, quotient, sum};
 ghost use Rattle.ld_json.specs.Access.{IsArray, IsObject, item_nodes};
@@ -36,7 +38,6 @@ impl Reads for TermShape {
 
 /// The term that the node stands for, or its first fault. (docs/FORMATS.md, "Documents")
 #[cycle(terms)]
-#[tactic(auto, using(ld_formats::proofs::Unrolled::term_is))]
 pub fn read_term(alloc: Global, node: &Node<'_>) -> Result<Term, ReadFault>
     ensures { Answers (term.reading node.now) result }
 {
@@ -61,7 +62,8 @@ fn read_one(alloc: Global, node: &Node<'_>) -> Result<Term, ReadFault>
 #[cycle(terms)]
 fn sum_at(alloc: Global, node: &Node<'_>) -> Result<Term, ReadFault>
     requires { IsObject node.now }
-    ensures { Answers (mapped sum ((needed_in (codes "sum") (list_of 2 term)).reading node.now)) result }
+    ensures { Answers (mapped sum ((needed_in (codes "sum") (list_of 2 term)).reading node.now))
+        result }
 {
     let terms = terms_at(alloc, node, "sum")?;
     let sum = making::term(alloc, TermForm::Sum(terms))?;
@@ -72,7 +74,8 @@ fn sum_at(alloc: Global, node: &Node<'_>) -> Result<Term, ReadFault>
 #[cycle(terms)]
 fn product_at(alloc: Global, node: &Node<'_>) -> Result<Term, ReadFault>
     requires { IsObject node.now }
-    ensures { Answers (mapped product ((needed_in (codes "multiply") (list_of 2 term)).reading node.now)) result }
+    ensures { Answers
+        (mapped product ((needed_in (codes "multiply") (list_of 2 term)).reading node.now)) result }
 {
     let terms = terms_at(alloc, node, "multiply")?;
     let product = making::term(alloc, TermForm::Multiply(terms))?;
@@ -83,7 +86,9 @@ fn product_at(alloc: Global, node: &Node<'_>) -> Result<Term, ReadFault>
 #[cycle(terms)]
 fn difference_at(alloc: Global, node: &Node<'_>) -> Result<Term, ReadFault>
     requires { IsObject node.now }
-    ensures { Answers (mapped difference ((needed_in (codes "subtract") (pair_of term)).reading node.now)) result }
+    ensures { Answers
+        (mapped difference ((needed_in (codes "subtract") (pair_of term)).reading node.now))
+        result }
 {
     let (a, b) = pair_at(alloc, node, "subtract")?;
     let difference = making::difference(alloc, a, b)?;
@@ -94,7 +99,8 @@ fn difference_at(alloc: Global, node: &Node<'_>) -> Result<Term, ReadFault>
 #[cycle(terms)]
 fn quotient_at(alloc: Global, node: &Node<'_>) -> Result<Term, ReadFault>
     requires { IsObject node.now }
-    ensures { Answers (mapped quotient ((needed_in (codes "divide") (pair_of term)).reading node.now)) result }
+    ensures { Answers
+        (mapped quotient ((needed_in (codes "divide") (pair_of term)).reading node.now)) result }
 {
     let (a, b) = pair_at(alloc, node, "divide")?;
     let quotient = making::quotient(alloc, a, b)?;
@@ -105,8 +111,10 @@ fn quotient_at(alloc: Global, node: &Node<'_>) -> Result<Term, ReadFault>
 #[cycle(terms)]
 fn terms_at(alloc: Global, node: &Node<'_>, name: &str) -> Result<Vec<Term>, ReadFault>
     requires { IsObject node.now }
-    ensures value { IfOk result (λ terms. Gives ((needed_in name.now (list_of 2 term)).reading node.now) terms.items) }
-    ensures first { IfErr result (SaysFirst ((needed_in name.now (list_of 2 term)).reading node.now).faults) }
+    ensures value { IfOk result
+        (λ terms. Gives ((needed_in name.now (list_of 2 term)).reading node.now) terms.items) }
+    ensures first { IfErr result
+        (SaysFirst ((needed_in name.now (list_of 2 term)).reading node.now).faults) }
 {
     let list = (&*node).member(alloc, &*name)?;
     read_terms(alloc, &list)
@@ -114,7 +122,6 @@ fn terms_at(alloc: Global, node: &Node<'_>, name: &str) -> Result<Vec<Term>, Rea
 
 /// The terms of an array of two or more.
 #[cycle(terms)]
-#[tactic(auto, using(ld_json::proofs::First::says_more))]
 fn read_terms(alloc: Global, node: &Node<'_>) -> Result<Vec<Term>, ReadFault>
     ensures value { IfOk result (λ terms. Gives ((list_of 2 term).reading node.now) terms.items) }
     ensures first { IfErr result (SaysFirst ((list_of 2 term).reading node.now).faults) }
@@ -126,7 +133,6 @@ fn read_terms(alloc: Global, node: &Node<'_>) -> Result<Vec<Term>, ReadFault>
 
 /// The terms of the elements of an array, which are so many.
 #[cycle(terms)]
-#[tactic(auto, using(ld_json::proofs::First::says_more, ld_json::proofs::Elements::drop_at, ld_shape::proofs::Passing::one_more))]
 fn read_each(alloc: Global, node: &Node<'_>, count: usize) -> Result<Vec<Term>, ReadFault>
     requires array { IsArray node.now }
     requires whole { count ≡ length (item_nodes node.now) }
@@ -153,7 +159,6 @@ fn pair_at(alloc: Global, node: &Node<'_>, name: &str) -> Result<(Term, Term), R
 
 /// The two terms of an array.
 #[cycle(terms)]
-#[tactic(auto, using(ld_json::proofs::First::says_more, ld_shape::proofs::Pairs::both_nodes))]
 fn read_pair(alloc: Global, node: &Node<'_>) -> Result<(Term, Term), ReadFault>
     ensures { Answers ((pair_of term).reading node.now) result }
 {
@@ -164,7 +169,6 @@ fn read_pair(alloc: Global, node: &Node<'_>) -> Result<(Term, Term), ReadFault>
 }
 
 /// A term that is made of no others, by the name of its member.
-#[tactic(auto, using(ld_json::proofs::First::says_more))]
 fn read_plain_term(alloc: Global, node: &Node<'_>, name: &str) -> Result<Term, ReadFault>
     requires { IsObject node.now }
     ensures { Answers (chosen plain_term_cases node.now name.now) result }
@@ -190,7 +194,6 @@ fn read_plain_term(alloc: Global, node: &Node<'_>, name: &str) -> Result<Term, R
 }
 
 /// A literal, by the name of its member, which tells the datatype.
-#[tactic(auto, using(ld_json::proofs::First::says_more))]
 fn read_literal(alloc: Global, node: &Node<'_>, name: &str) -> Result<Term, ReadFault>
     requires { IsObject node.now }
     ensures { Answers (chosen literal_cases node.now name.now) result }

@@ -1,4 +1,6 @@
 //! The checks of a whole unit.
+#![tactic(auto, unfolding(crate::specs::Checks::amount_faults, crate::specs::Checks::check_faults, crate::specs::Checks::meaning_faults, crate::specs::Checks::text_faults), using(crate::proofs::Distinct::distinct, ld_json::proofs::First::first_of_both))]
+
 ghost use Rattle.std.specs.Prelude.{◌≡◌, ◌≤◌, [], true, false, IfErr, IfOk, OnOk, length};
 ghost use Rattle.ld_formats.specs.Units.{is_well_formed};
 ghost use Rattle.ld_json.specs.Fault.{SaysFirst};
@@ -59,7 +61,12 @@ impl Model for Checked {
 
     ghost coded = { Prim.hlevel (codes, coded_term, coded_test) };
 
-    ghost view = { λ s. record { unit = s.unit; names = s.names; rules = s.counts.rules.items; leaves = s.counts.leaves } };
+    ghost view = { λ s. record {
+      unit = s.unit;
+      names = s.names;
+      rules = s.counts.rules.items;
+      leaves = s.counts.leaves;
+    } };
 
     ghost invariant = { λ s. IsValid s.unit × HasDistinctIdentifiers s.unit
         × (s.names ≡ names_of s.unit) × (s.counts.rules.items ≡ rules_of s.unit) × (length s.counts.rules.items ≤ 600)
@@ -134,7 +141,6 @@ pub fn check(alloc: Global, unit: Unit) -> Result<Checked, ReadFault>
 }
 
 /// The names of the unit and its counts, or its first fault.
-#[tactic(auto, unfolding(crate::specs::Checks::check_faults), using(ld_json::proofs::First::first_of_both, crate::proofs::Distinct::distinct))]
 fn check_all(alloc: Global, unit: &Unit) -> Result<(Names, Counts), ReadFault>
     ensures names { IfOk result (λ both. both.0 ≡ names_of unit.now) }
     ensures rules { IfOk result (λ both. both.1.rules.items ≡ rules_of unit.now) }
@@ -153,7 +159,6 @@ fn check_all(alloc: Global, unit: &Unit) -> Result<(Names, Counts), ReadFault>
 }
 
 /// That identifiers differ, and the names of what all runs share.
-#[tactic(auto, unfolding(crate::specs::Checks::text_faults), using(ld_json::proofs::First::first_of_both))]
 fn check_texts(alloc: Global, listing: &Listing<'_>) -> Result<(), ReadFault>
     ensures faultless { OnOk result (text_faults listing.now ≡ []) }
     ensures first { IfErr result (SaysFirst (text_faults listing.now)) }
@@ -165,15 +170,16 @@ fn check_texts(alloc: Global, listing: &Listing<'_>) -> Result<(), ReadFault>
 
 /// That references name what they should, that nothing reaches itself, levels, what is left out, types;
 /// the graphs of the unit.
-#[tactic(auto, unfolding(crate::specs::Checks::meaning_faults), using(ld_json::proofs::First::first_of_both))]
 fn check_meaning(
     alloc: Global,
     unit: &Unit,
     names: &Names,
     listing: &Listing<'_>,
 ) -> Result<Graphs, ReadFault>
-    ensures environments { IfOk result (λ graphs. edges_of graphs.environments.items ≡ environment_graph unit.now names.now) }
-    ensures structures { IfOk result (λ graphs. edges_of graphs.structures.items ≡ structure_graph unit.now names.now) }
+    ensures environments { IfOk result
+        (λ graphs. edges_of graphs.environments.items ≡ environment_graph unit.now names.now) }
+    ensures structures { IfOk result
+        (λ graphs. edges_of graphs.structures.items ≡ structure_graph unit.now names.now) }
     ensures faultless { OnOk result (meaning_faults unit.now names.now listing.now ≡ []) }
     ensures first { IfErr result (SaysFirst (meaning_faults unit.now names.now listing.now)) }
 {
@@ -186,7 +192,6 @@ fn check_meaning(
 }
 
 /// That the unit keeps to the limits of objects, of rules and leaves, and of sizes; its counts.
-#[tactic(auto, unfolding(crate::specs::Checks::amount_faults), using(ld_json::proofs::First::first_of_both))]
 fn check_amounts(
     alloc: Global,
     unit: &Unit,
@@ -194,8 +199,10 @@ fn check_amounts(
     graphs: &Graphs,
     listing: &Listing<'_>,
 ) -> Result<Counts, ReadFault>
-    requires environments { edges_of graphs.now.environments.items ≡ environment_graph unit.now names.now }
-    requires structures { edges_of graphs.now.structures.items ≡ structure_graph unit.now names.now }
+    requires environments { edges_of graphs.now.environments.items
+        ≡ environment_graph unit.now names.now }
+    requires structures { edges_of graphs.now.structures.items
+        ≡ structure_graph unit.now names.now }
     ensures rules { IfOk result (λ counts. counts.rules.items ≡ rules_in listing.now) }
     ensures few_rules { IfOk result (λ counts. length counts.rules.items ≤ 600) }
     ensures leaves { IfOk result (λ counts. counts.leaves ≡ leaves_in false listing.now) }

@@ -1,4 +1,6 @@
 //! Whether a person would be a member of two roles of which a person may be in one alone.
+#![tactic(auto, using(crate::proofs::Numbers::any_more, crate::proofs::Numbers::any_none, crate::proofs::Numbers::each_more, crate::proofs::Numbers::each_none))]
+
 ghost use Rattle.std.specs.Prelude.{◌≡◌, ◌<◌, ◌&&◌, length, not, nat_eq};
 ghost use Rattle.std.specs.List.{list_any};
 ghost use Rattle.ld_roles.specs.Kept.{persons_of};
@@ -10,7 +12,6 @@ use crate::seats::Seats;
 use ld_model::role::MatchPersons;
 
 /// Whether some role keeps its members in one child, and the person would be in two.
-#[tactic(auto, using(crate::proofs::Numbers::each_more, crate::proofs::Numbers::each_none))]
 pub(crate) fn is_excluded(seats: &Seats, person: usize, role: usize) -> bool
     requires { person < length seats.now.rows }
     ensures { result
@@ -37,7 +38,6 @@ fn keeps_in_one(roles: &RoleTree, role: usize) -> bool
 }
 
 /// Whether the role is in one of the outer one's children, and the person in another.
-#[tactic(auto, using(crate::proofs::Numbers::any_more, crate::proofs::Numbers::any_none))]
 fn is_split(seats: &Seats, person: usize, role: usize, outer: usize) -> bool
     requires { person < length seats.now.rows }
     ensures { result ≡ is_split seats.now.roles (persons_of seats.now.rows) role person
@@ -56,7 +56,6 @@ fn is_split(seats: &Seats, person: usize, role: usize, outer: usize) -> bool
 }
 
 /// Whether the person is a member of another child of the outer role.
-#[tactic(auto, using(crate::proofs::Numbers::any_more, crate::proofs::Numbers::any_none))]
 fn is_in_other(seats: &Seats, person: usize, outer: usize, child: usize) -> bool
     requires { person < length seats.now.rows }
     ensures { result ≡ list_any (λ other. not (nat_eq other child)

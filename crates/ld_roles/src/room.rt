@@ -1,4 +1,6 @@
 //! Whether a role has room for a person.
+#![tactic(auto, using(crate::proofs::Numbers::any_more, crate::proofs::Numbers::any_none, crate::proofs::Numbers::any_reverse))]
+
 ghost use Rattle.std.specs.Prelude.{◌≡◌, ◌<◌, length};
 ghost use Rattle.ld_roles.specs.Kept.{persons_of};
 ghost use Rattle.ld_roles.specs.Membership.{has_no_room_among, is_full};
@@ -7,7 +9,6 @@ use crate::members::count_members;
 use crate::seats::Seats;
 
 /// Whether the role, or one that it stands within, is full without the person.
-#[tactic(auto, using(crate::proofs::Numbers::any_more, crate::proofs::Numbers::any_none, crate::proofs::Numbers::any_reverse))]
 pub(crate) fn has_no_room(seats: &Seats, person: usize, role: usize) -> bool
     requires { person < length seats.now.rows }
     ensures { result

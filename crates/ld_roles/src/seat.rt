@@ -1,4 +1,6 @@
 //! Which roles a person holds, and which the person is thereby a member of.
+#![tactic(auto, using(crate::proofs::Numbers::any_more, crate::proofs::Numbers::any_none))]
+
 ghost use Rattle.std.specs.Prelude.{◌≡◌, ◌<◌, length, map, replicate, IfOk, false, slice_set};
 ghost use Rattle.std.specs.List.{list_any};
 ghost use Rattle.ld_roles.specs.RoleTree.{with_inner, role_numbers};
@@ -64,7 +66,6 @@ fn note_members(roles: &RoleTree, holds: &[bool], member: &mut Vec<bool>)
 }
 
 /// Whether one who holds these is a member of the role.
-#[tactic(auto, using(crate::proofs::Numbers::any_more, crate::proofs::Numbers::any_none))]
 fn is_member(roles: &RoleTree, holds: &[bool], role: usize) -> bool
     requires { length holds.now ≡ length roles.now }
     ensures { result ≡ is_member_with roles.now holds.now role }
@@ -78,7 +79,6 @@ fn is_member(roles: &RoleTree, holds: &[bool], role: usize) -> bool
 }
 
 /// Whether one who holds these is a member of the role without holding this one.
-#[tactic(auto, using(crate::proofs::Numbers::any_more, crate::proofs::Numbers::any_none))]
 pub(crate) fn is_member_without(
     roles: &RoleTree,
     holds: &[bool],

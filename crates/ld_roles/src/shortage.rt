@@ -1,4 +1,6 @@
 //! Roles with too few members.
+#![tactic(auto, using(crate::proofs::Shortages::first_more, crate::proofs::Shortages::first_none))]
+
 ghost use Rattle.std.specs.Prelude.{◌≡◌, ◌<◌, length, option_map};
 ghost use Rattle.ld_roles.specs.Kept.{persons_of};
 ghost use Rattle.ld_roles.specs.Membership.{member_count, shortage_of, short_at_start_among, short_once_dropped_among};
@@ -12,7 +14,6 @@ use crate::seats::Seats;
 use ld_base::numbers::RoleNo;
 
 /// The first role that has too few members.
-#[tactic(auto, using(crate::proofs::Shortages::first_more, crate::proofs::Shortages::first_none))]
 pub(crate) fn first_short(seats: &Seats) -> Option<Short>
     ensures { result ≡ option_map short_of
         (short_at_start_among seats.now.roles (persons_of seats.now.rows)) }

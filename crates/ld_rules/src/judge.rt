@@ -1,4 +1,6 @@
 //! Whether the test of a site holds.
+#![tactic(auto, unfolding(crate::specs::SiteLooks::site_looks, crate::specs::SiteTests::site_test))]
+
 ghost use Rattle.std.specs.Prelude.{◌≡◌, ◌+◌, ◌≤◌, ◌||◌, length, true};
 ghost use Rattle.ld_names.specs.Identifiers.{HasDistinctIdentifiers};
 ghost use Rattle.ld_names.specs.Names.{names_of};
@@ -25,7 +27,6 @@ use std::sync::ledger::Ledger;
 /// Whether the site's test holds in what the view shows: what its rule asks of the run or the
 /// person, or has once said yes to for good. It takes no memory, and at most a step for each cell at
 /// which the rule asks to look. (docs/MEANING.md, "Rules and sites")
-#[tactic(auto, unfolding(crate::specs::SiteLooks::site_looks, crate::specs::SiteTests::site_test))]
 pub fn judge<V: View, L: Ledger>(
     unit: &Unit,
     names: &Names,

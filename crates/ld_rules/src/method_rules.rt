@@ -1,4 +1,6 @@
 //! What the rules for the run ask: of acts, role-parts, plays and the unit.
+#![tactic(auto, using(crate::proofs::Last::last_is))]
+
 ghost use Rattle.std.specs.Prelude.{◌≡◌, ◌+◌, ◌≤◌, is_some, length, None, option_copied, option_map};
 ghost use Rattle.std.specs.List.{last_or};
 ghost use Rattle.ld_names.specs.Names.{names_of};
@@ -186,7 +188,6 @@ pub fn completing_play(play: &Play) -> Completing<'_>
 }
 
 /// The last act of the play.
-#[tactic(auto, using(crate::proofs::Last::last_is))]
 fn last_act(play: &Play) -> Option<&Id>
     ensures { option_copied result
         ≡ option_map (λ act. act.identifier) (last_or None play.now.acts) }

@@ -1,4 +1,6 @@
 //! What the rules for one person ask.
+#![tactic(auto, using(crate::proofs::Judging::row_is, crate::proofs::Judging::row_there, crate::proofs::Mine::mine_by_roles))]
+
 ghost use Rattle.std.specs.Prelude.{◌≡◌, ◌+◌, ◌≤◌, ◌<◌, count_by, length, map, slice_get, Some};
 ghost use Rattle.std.specs.List.{list_any};
 ghost use Rattle.ld_names.specs.Identifiers.{HasDistinctIdentifiers};
@@ -115,7 +117,6 @@ fn judge_activity<V: View, L: Ledger>(
 }
 
 /// Whether the activity, which is the one of this number, is the person's.
-#[tactic(auto, using(crate::proofs::Judging::row_is, crate::proofs::Judging::row_there, crate::proofs::Mine::mine_by_roles))]
 fn is_mine<V: View, L: Ledger>(
     unit: &Unit,
     reach: &Reach,

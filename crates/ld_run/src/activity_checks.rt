@@ -1,4 +1,6 @@
 //! The checks of activities.
+#![tactic(auto, using(crate::proofs::NamedParts::own_activity))]
+
 ghost use Rattle.std.specs.Prelude.{◌≡◌, true, Some, IfOk, option_copied};
 ghost use Rattle.ld_expr.specs.Lookup.{activity_named};
 ghost use Rattle.ld_run.specs.Checks.{only_by_choice, the_activity};
@@ -31,9 +33,9 @@ impl<'a, 's> Checker<'a, 's> {
     }
 
     /// The activity of this identifier, and its number among the things.
-    #[tactic(auto, using(crate::proofs::NamedParts::own_activity))]
     pub(crate) fn the_activity(&self, id: &Id) -> Result<(ThingNo, &'a Activity), Refusal<'a>>
-        ensures thing { answer_of (λ found. found.0.0) result ≡ the_activity self.now.unit.now id.now }
+        ensures thing { answer_of (λ found. found.0.0) result
+            ≡ the_activity self.now.unit.now id.now }
         ensures activity { IfOk result (λ found.
             activity_named self.now.unit.now id.now ≡ Some found.1.now) }
         ensures possible { IfOk result (λ found. is_activity self.now.unit.now found.0.0 ≡ true) }

@@ -1,4 +1,6 @@
 //! The checks of moments and persons.
+#![tactic(auto, using(crate::proofs::FaultChecks::exists_already, crate::proofs::FaultChecks::may_join, crate::proofs::FaultChecks::no_fault, crate::proofs::FaultChecks::seats_taken))]
+
 ghost use Rattle.std.specs.Prelude.{◌≡◌, ◌<◌, ℕ, length, None, Err, IfOk, IfErr, OnOk};
 ghost use Rattle.ld_roles.specs.Refusals.{enrol_fault};
 ghost use Rattle.ld_firing.specs.RunSystem.{IsSoundRun};
@@ -129,7 +131,6 @@ impl<'a, 's> Checker<'a, 's> {
     }
 
     /// Passes where nothing stands against the enrolment of a person of this name.
-    #[tactic(auto, using(crate::proofs::FaultChecks::exists_already, crate::proofs::FaultChecks::seats_taken, crate::proofs::FaultChecks::may_join, crate::proofs::FaultChecks::no_fault))]
     pub(crate) fn may_enrol(&self, name: &Id) -> Result<(), Refusal<'a>>
         ensures passes { OnOk result ((next : Rest)
             → enrolling (run_of self.now.state.now) name.now next ≡ next) }

@@ -1,4 +1,6 @@
 //! The lines of a report that tell what is done of the method, and what is opened.
+#![tactic(auto, unfolding(crate::specs::ReportLooks::act_looks, crate::specs::ReportLooks::play_looks))]
+
 ghost use Rattle.std.specs.Prelude.{◌≡◌, ◌∷◌, [], codes, fold, flat_map, is_some, true, OnOk, option_copied, option_map};
 ghost use Rattle.std.specs.Option.{ForSome};
 ghost use Rattle.ld_model.specs.declared.cell.CellName.TheVariants.{Started};
@@ -98,7 +100,6 @@ impl<'a, V: View> Reporter<'a, V> {
     }
 
     /// Puts the play and its acts.
-    #[tactic(auto, unfolding(crate::specs::ReportLooks::play_looks))]
     fn put_play<L: Ledger>(
         &self,
         play: &Play,
@@ -138,7 +139,6 @@ impl<'a, V: View> Reporter<'a, V> {
     }
 
     /// Puts the act, with the moment of its opening if there was one, and its role-parts.
-    #[tactic(auto, unfolding(crate::specs::ReportLooks::act_looks))]
     fn put_act<L: Ledger>(
         &self,
         act: &Act,
@@ -207,7 +207,8 @@ impl<'a, V: View> Reporter<'a, V> {
 
     /// Whether what the identifier names is done for the run.
     fn is_done<L: Ledger>(&self, id: &Id, steps: &mut Steps<L>) -> bool
-        requires { HasCells (V.has_cell self.now.view.now) (done_looks self.now.unit.now Run id.now) }
+        requires { HasCells (V.has_cell self.now.view.now)
+            (done_looks self.now.unit.now Run id.now) }
         ensures { result ≡ is_done self.now.unit.now
             (seen_by (V.persons_of self.now.view.now) (V.cells_of self.now.view.now)) Run id.now }
     {

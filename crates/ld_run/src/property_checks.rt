@@ -1,4 +1,6 @@
 //! The checks of properties.
+#![tactic(auto, using(crate::proofs::NamedParts::has_property, crate::proofs::NamedParts::limits_are, crate::proofs::StateSeen::member_cells))]
+
 ghost use Rattle.std.specs.Prelude.{◌≡◌, ◌<◌, length, true, Some, Ok, IfOk, IfErr, slice_get};
 ghost use Rattle.ld_expr.specs.Lookup.{property_number};
 ghost use Rattle.ld_expr.specs.Membership.{is_member_of};
@@ -63,7 +65,6 @@ impl<'a, 's> Checker<'a, 's> {
     }
 
     /// The value of the text as one of the property's. Memory is wanted where it is a text.
-    #[tactic(auto, using(crate::proofs::NamedParts::limits_are, crate::proofs::NamedParts::has_property))]
     pub(crate) fn fitting_value(
         &self,
         alloc: Global,
@@ -110,7 +111,6 @@ impl<'a, 's> Checker<'a, 's> {
     }
 
     /// Whether the person is a member of the role.
-    #[tactic(auto, using(crate::proofs::StateSeen::member_cells))]
     fn is_member_of<L: Ledger>(&self, role: &Id, person: PersonNo, steps: &mut Steps<L>) -> bool
         requires { person.0 < length self.now.state.now.rows }
         ensures { result ≡ is_member_of self.now.unit.now

@@ -1,4 +1,6 @@
 //! The checks of roles.
+#![tactic(auto, using(crate::proofs::FaultChecks::held_by_dropper, crate::proofs::FaultChecks::identifier_is, crate::proofs::FaultChecks::none_short_at_all, crate::proofs::FaultChecks::none_short_by, crate::proofs::FaultChecks::same_assigning, crate::proofs::FaultChecks::same_dropping, crate::proofs::FaultChecks::short_role_at_start, crate::proofs::FaultChecks::short_role_once_dropped, ld_rules::proofs::RoleNumbers::role_below))]
+
 ghost use Rattle.std.specs.Prelude.{◌≡◌, ◌<◌, length, true, None, Err, IfOk, IfErr, OnOk};
 ghost use Rattle.ld_model.specs.Roles.{roles_of};
 ghost use Rattle.ld_roles.specs.Persons.{holds_role};
@@ -23,7 +25,6 @@ use std::sync::ledger::Ledger;
 
 impl<'a, 's> Checker<'a, 's> {
     /// The role of this identifier.
-    #[tactic(auto, using(ld_rules::proofs::RoleNumbers::role_below))]
     pub(crate) fn the_role(&self, id: &Id) -> Result<RoleNo, Refusal<'a>>
         ensures role { answer_of (λ role. role.0) result ≡ the_role self.now.unit.now id.now }
         ensures within { IfOk result (λ role. role.0 < length (roles_of self.now.unit.now)) }
@@ -35,7 +36,6 @@ impl<'a, 's> Checker<'a, 's> {
     }
 
     /// Passes where nothing stands against giving the person the role.
-    #[tactic(auto, using(crate::proofs::FaultChecks::same_assigning))]
     pub(crate) fn may_assign(&self, person: PersonNo, role: RoleNo) -> Result<(), Refusal<'a>>
         requires person { person.0 < length self.now.state.now.rows }
         requires role { role.0 < length (roles_of self.now.unit.now) }
@@ -57,7 +57,6 @@ impl<'a, 's> Checker<'a, 's> {
     }
 
     /// Passes where nothing stands against taking the role from the person.
-    #[tactic(auto, using(crate::proofs::FaultChecks::same_dropping, crate::proofs::FaultChecks::held_by_dropper, crate::proofs::FaultChecks::short_role_once_dropped))]
     pub(crate) fn may_drop<L: Ledger>(
         &self,
         person: PersonNo,
@@ -83,7 +82,6 @@ impl<'a, 's> Checker<'a, 's> {
     }
 
     /// Passes where no role is short of members.
-    #[tactic(auto, using(crate::proofs::FaultChecks::none_short_by, crate::proofs::FaultChecks::none_short_at_all, crate::proofs::FaultChecks::short_role_at_start))]
     pub(crate) fn none_short(&self) -> Result<(), Refusal<'a>>
         ensures { answer_of (λ _. tt) result ≡ none_short self.now.unit.now
             (short_at_start self.now.unit.now (run_of self.now.state.now).persons) }
@@ -95,7 +93,6 @@ impl<'a, 's> Checker<'a, 's> {
     }
 
     /// The refusal that tells of the shortage.
-    #[tactic(auto, using(crate::proofs::FaultChecks::identifier_is))]
     fn role_short(&self, short: Short) -> Refusal<'a>
         requires { short.role.0 < length (roles_of self.now.unit.now) }
         ensures { refusal_of result

@@ -29,7 +29,8 @@ pub fn push_value(alloc: Global, value: Option<&Value>, out: &mut Text) -> Resul
 /// Appends the value as a JSON text.
 fn push_known(alloc: Global, value: &Value, out: &mut Text) -> Result<(), NoMemory>
     requires { IsPrintable (datum_of value.now) }
-    ensures text { OnOk result (out.new.bytes ≡ out.old.bytes ++ json_text (text_of (datum_of value.now))) }
+    ensures text { OnOk result
+        (out.new.bytes ≡ out.old.bytes ++ json_text (text_of (datum_of value.now))) }
     ensures room { KeepsRoom out.old out.new }
 {
     let mut text = Text::new(alloc);

@@ -1,5 +1,5 @@
 //! The checks of each command.
-#![tactic(auto, unfolding(crate::specs::Checks::admitted), using(crate::proofs::NamedParts::suits_own))]
+#![tactic(auto, unfolding(crate::specs::Checks::admitted), using(crate::proofs::CheckParts::admitted_drop, crate::proofs::NamedParts::suits_own))]
 
 ghost use Rattle.std.specs.Prelude.{◌≡◌, Ok, IfOk, IfErr};
 ghost use Rattle.ld_lines.specs.declared.command.RunCommand.TheVariants as asked;
@@ -57,7 +57,6 @@ impl<'a, 's> Checker<'a, 's> {
     }
 
     /// The person is to hold the role no longer.
-    #[tactic(auto, using(crate::proofs::CheckParts::admitted_drop))]
     pub(crate) fn drop_role<L: Ledger>(
         &self,
         moment: Moment,

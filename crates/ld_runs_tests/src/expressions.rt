@@ -1,4 +1,6 @@
 //! Terms and tests in a run all of whose cells are alike.
+#![tactic(auto, using(crate::proofs::All::all_there))]
+
 ghost use Rattle.std.specs.Prelude.{◌≡◌, ◌<◌};
 
 use crate::alike::Alike;
@@ -60,7 +62,6 @@ fn work_out_with<L: Ledger>(
 }
 
 /// Whether the first condition holds where the score is this.
-#[tactic(auto, using(crate::proofs::All::all_there))]
 fn is_score<L: Ledger>(unit: &PreparedUnit, score: i64, steps: &mut Steps<L>) -> bool {
     let [condition, _, _] = unit.unit().conditions.as_slice() else {
         return false;
@@ -79,7 +80,6 @@ fn is_score<L: Ledger>(unit: &PreparedUnit, score: i64, steps: &mut Steps<L>) ->
 }
 
 /// Whether the score has the value of this text where it is 7.
-#[tactic(auto, using(crate::proofs::All::all_there))]
 fn has_score<L: Ledger>(
     alloc: Global,
     unit: &PreparedUnit,
@@ -107,7 +107,6 @@ fn has_score<L: Ledger>(
 }
 
 /// The value of the second term of the condition of this number.
-#[tactic(auto, using(crate::proofs::All::all_there))]
 fn value_in<L: Ledger>(
     alloc: Global,
     unit: &PreparedUnit,
@@ -136,7 +135,6 @@ fn is_word(value: Result<Option<Value>, NoMemory>) -> bool {
 
 /// Whether this is said of the person, where every cell says it: to be a member, to have done what
 /// there is to do, and that all members have.
-#[tactic(auto, using(crate::proofs::All::all_there))]
 fn says<L: Ledger>(unit: &PreparedUnit, truth: bool, steps: &mut Steps<L>) -> bool {
     let (course, names) = (unit.unit(), unit.names());
     let [_, condition, _] = course.conditions.as_slice() else {

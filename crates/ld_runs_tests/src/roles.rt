@@ -1,4 +1,6 @@
 //! A roster of two persons for a role with one seat.
+#![tactic(auto, using(crate::proofs::All::role_bounded))]
+
 ghost use Rattle.std.specs.Prelude.{◌≡◌, ◌<◌, IfSome, None, length};
 ghost use Rattle.ld_roles.specs.Kept.{IsAsMarked};
 ghost use Rattle.ld_roles.specs.RoleBounds.{role_bounds};
@@ -73,7 +75,6 @@ fn enrols(roster: &mut Roster, first: &Id, second: &Id) -> bool
 }
 
 /// The role of the unit.
-#[tactic(auto, using(crate::proofs::All::role_bounded))]
 pub(crate) fn role_of(unit: &PreparedUnit) -> Option<RoleNo>
     ensures { IfSome result (λ role. role.0 < length (role_bounds unit.now)) }
 {

@@ -1,4 +1,6 @@
 //! A prepared unit, what its rules speak of and what they say.
+#![tactic(auto, using(crate::proofs::All::all_there, ld_rules::proofs::Judging::row_there))]
+
 ghost use Rattle.std.specs.Prelude.{◌≡◌, ◌<◌};
 
 use crate::alike::Alike;
@@ -45,7 +47,6 @@ fn has_its_parts(unit: &PreparedUnit) -> bool {
 }
 
 /// Whether the first role alone reaches the first activity.
-#[tactic(auto, using(ld_rules::proofs::Judging::row_there))]
 fn is_reached(alloc: Global, unit: &PreparedUnit) -> bool {
     let Some(_activity) = unit.unit().activities.get(0) else {
         return false;
@@ -114,7 +115,6 @@ fn judge_with<L: Ledger>(unit: &PreparedUnit, steps: &mut Steps<L>) -> Result<()
 }
 
 /// What the rule of this number says for the person where each cell has this value.
-#[tactic(auto, using(crate::proofs::All::all_there))]
 fn judged<L: Ledger>(unit: &PreparedUnit, rule: u32, value: Value, steps: &mut Steps<L>) -> bool {
     let view = Alike { value: Some(value) };
     let site = Site {

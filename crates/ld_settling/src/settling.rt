@@ -35,7 +35,8 @@ pub fn settle<L: Ledger>(
     requires linked { AreLinksOf unit.now (run_of state.old) links.old }
     ensures settled { IfOk result (λ settled. run_settling unit.now (run_of state.old)
         ≡ Some (settlement_of settled (run_of state.new))) }
-    ensures budget { result ≡ Err Stop.TurnBudget → run_settling unit.now (run_of state.old) ≡ None }
+    ensures budget { result ≡ Err Stop.TurnBudget
+        → run_settling unit.now (run_of state.old) ≡ None }
     ensures sound { OnOk result (IsSoundRun unit.now (run_of state.new)) }
     ensures linked { OnOk result (AreLinksOf unit.now (run_of state.new) links.new) }
     ensures clean { OnOk result (IsEmpty links.new.dirty) }

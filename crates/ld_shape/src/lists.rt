@@ -1,4 +1,6 @@
 //! Lists of values of one shape.
+#![tactic(auto, using(crate::proofs::Pairs::both_nodes, crate::proofs::Pairs::not_two, crate::proofs::Passing::one_more, ld_json::proofs::Elements::drop_at, ld_json::proofs::First::says_more))]
+
 ghost use Rattle.std.specs.Prelude.{◌≡◌, [], nat_le, length, OnOk, IfOk, IfErr};
 ghost use Rattle.ld_json.specs.Access.{IsObject, IsArray, item_nodes};
 ghost use Rattle.ld_json.specs.Fault.{SaysFirst};
@@ -52,7 +54,6 @@ impl<R: Reads> Reads for PairOf<R> {
 
     ghost shape = { pair_of R.shape };
 
-    #[tactic(auto, using(ld_json::proofs::First::says_more, crate::proofs::Pairs::both_nodes))]
     fn read(alloc: Global, node: &Node<'_>) -> Result<(R::Value, R::Value), ReadFault> {
         count_two(alloc, node)?;
         let first = R::read(alloc, &node.item(0))?;
@@ -63,7 +64,6 @@ impl<R: Reads> Reads for PairOf<R> {
 
 /// That an array has just two elements. `wrong-shape` exactly where the node is no array or has fewer
 /// or more.
-#[tactic(auto, using(crate::proofs::Pairs::not_two))]
 pub fn count_two(alloc: Global, node: &Node<'_>) -> Result<(), ReadFault>
     ensures array { OnOk result (IsArray node.now) }
     ensures two { OnOk result (length (item_nodes node.now) ≡ 2) }
@@ -89,7 +89,6 @@ pub fn list_at<R: Reads>(
 }
 
 /// The values of the elements of an array, which are so many.
-#[tactic(auto, using(ld_json::proofs::First::says_more, ld_json::proofs::Elements::drop_at, crate::proofs::Passing::one_more))]
 fn read_each<R: Reads>(
     alloc: Global,
     node: &Node<'_>,

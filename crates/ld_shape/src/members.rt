@@ -1,4 +1,6 @@
 //! Members of an object, by the shape of what they hold.
+#![tactic(auto, using(crate::proofs::Known::no_value, ld_json::proofs::First::says_more))]
+
 ghost use Rattle.std.specs.Prelude.{◌≡◌, IfOk};
 ghost use Rattle.ld_json.specs.Access.{IsObject};
 ghost use Rattle.ld_shape.specs.Objects.{needed_in, optional_in, read_or, absent_in};
@@ -101,7 +103,6 @@ pub fn known_at<R: Reads>(
 }
 
 /// What the node is; `Ok(None)` where it is something else. It names no fault.
-#[tactic(auto, using(crate::proofs::Known::no_value))]
 fn read_known<R: Reads>(alloc: Global, node: &Node<'_>) -> Result<Option<R::Value>, NoMemory>
     ensures { IfOk result (λ known. known ≡ (R.shape.reading node.now).value) }
 {

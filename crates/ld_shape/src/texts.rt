@@ -1,4 +1,6 @@
 //! Texts: identifiers, titles, addresses, durations.
+#![tactic(auto, unfolding(crate::specs::Forms::address_of, crate::specs::Forms::identifier_of, crate::specs::Forms::text_of, crate::specs::Spans::span_of), using(ld_json::proofs::First::says_more))]
+
 ghost use Rattle.std.specs.Prelude.{◌≡◌, [], Some, IfOk, OnOk, IfErr};
 ghost use Rattle.std.specs.List.{list_all};
 ghost use Rattle.ld_json.specs.Fault.{SaysFirst};
@@ -23,7 +25,6 @@ impl Reads for Identifier {
 
     ghost shape = { identifier };
 
-    #[tactic(auto, unfolding(crate::specs::Forms::identifier_of))]
     fn read(alloc: Global, node: &Node<'_>) -> Result<Id, ReadFault> {
         let text = node.text(alloc)?;
         match Id::read(alloc, text.as_bytes())? {
@@ -34,7 +35,6 @@ impl Reads for Identifier {
 }
 
 /// The text of `least` to `most` bytes that the node is.
-#[tactic(auto, unfolding(crate::specs::Forms::text_of))]
 fn text_between<'a>(
     alloc: Global,
     node: &Node<'a>,
@@ -85,7 +85,6 @@ impl Reads for Title {
 }
 
 /// The text of 1 to `most` visible characters of ASCII that the node is.
-#[tactic(auto, unfolding(crate::specs::Forms::address_of, crate::specs::Forms::text_of))]
 fn read_address(alloc: Global, node: &Node<'_>, most: usize) -> Result<PlainText, ReadFault>
     ensures { Answers ((address most).reading node.now) result }
 {
@@ -138,7 +137,6 @@ impl Reads for Seconds {
 
     ghost shape = { seconds };
 
-    #[tactic(auto, unfolding(crate::specs::Spans::span_of))]
     fn read(alloc: Global, node: &Node<'_>) -> Result<u64, ReadFault> {
         let text = node.text(alloc)?;
         match read_duration(text) {

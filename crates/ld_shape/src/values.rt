@@ -1,4 +1,6 @@
 //! Numbers and flags.
+#![tactic(auto, unfolding(crate::specs::Forms::number_of, crate::specs::Forms::true_of), using(ld_json::proofs::First::says_more))]
+
 ghost use Rattle.ld_shape.specs.Forms.{flag, true_flag, number};
 ghost use Rattle.ld_shape.specs.Reading.{Answers};
 ghost use Rattle.ld_shape.specs.Shapes.{left_out};
@@ -31,7 +33,6 @@ impl Reads for True {
 
     ghost shape = { true_flag };
 
-    #[tactic(auto, unfolding(crate::specs::Forms::true_of))]
     fn read(alloc: Global, node: &Node<'_>) -> Result<(), ReadFault> {
         let flag = node.flag(alloc)?;
         if !flag {
@@ -42,7 +43,6 @@ impl Reads for True {
 }
 
 /// The whole number from `least` to `most` that the node is.
-#[tactic(auto, unfolding(crate::specs::Forms::number_of))]
 pub fn read_number(alloc: Global, node: &Node<'_>, least: u32, most: u32) -> Result<u32, ReadFault>
     ensures { Answers ((number least most).reading node.now) result }
 {

@@ -1,4 +1,6 @@
 //! How the cells of a unit's runs begin.
+#![tactic(auto, unfolding(crate::specs::RunCells::begins_as))]
+
 ghost use Rattle.std.specs.Prelude.{◌≡◌, ℕ, List, Option, option_map, IfOk};
 ghost use Rattle.ld_cells.specs.Stored.{cells_of, held, held_at};
 ghost use Rattle.ld_value.specs.Datum.{datum_of};
@@ -33,7 +35,6 @@ impl<'a> Beginnings<'a> {
     /// How the cell begins in a run that is made at this moment, or for a person who joins it then,
     /// where `stored` has what the store holds of each global property: for the person, or for a run.
     /// (docs/MEANING.md, "The state of a run")
-    #[tactic(auto, unfolding(crate::specs::RunCells::begins_as))]
     pub fn value(
         &self,
         alloc: Global,
@@ -114,7 +115,8 @@ fn copy_at(alloc: Global, values: &[Option<Value>], index: usize) -> Result<Opti
 
 /// A copy of the value, if there is one.
 fn copy_of(alloc: Global, value: Option<&Value>) -> Result<Option<Value>, NoMemory>
-    ensures { IfOk result (λ copy. held copy ≡ option_map (λ found. datum_of found.now) value.entry) }
+    ensures { IfOk result
+        (λ copy. held copy ≡ option_map (λ found. datum_of found.now) value.entry) }
 {
     match value {
         Some(value) => Ok(Some(value.copy(alloc)?)),

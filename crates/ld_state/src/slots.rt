@@ -1,4 +1,6 @@
 //! The slots of the cells of a unit's runs.
+#![tactic(auto, using(crate::proofs::Owned::count_listed, crate::proofs::Owned::own_are_of, crate::proofs::Owned::roles_are, crate::proofs::Owned::run_are_of))]
+
 ghost use Rattle.std.specs.Prelude.{◌≡◌, ◌<◌, ◌≤◌, ◌+◌, ◌*◌, ◌^◌, length, option_map, IfOk};
 ghost use Rattle.ld_parts.specs.Listing.{parts_of};
 ghost use Rattle.ld_walk.specs.PartView.{what_of};
@@ -52,7 +54,6 @@ impl Model for Slots {
 impl Slots {
     /// The slots of the unit, whose listing it is. It takes time and memory as the size of the
     /// listing.
-    #[tactic(auto, using(crate::proofs::Owned::run_are_of, crate::proofs::Owned::own_are_of, crate::proofs::Owned::count_listed, crate::proofs::Owned::roles_are))]
     pub fn of(alloc: Global, unit: &Unit, listing: &Listing<'_>) -> Result<Slots, NoMemory>
         requires { listing.now ≡ parts_of unit.now }
         ensures { IfOk result (λ slots. slots ≡ layout_of unit.now) }

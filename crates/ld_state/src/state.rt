@@ -205,9 +205,11 @@ impl State {
         requires unit { (unit : Course) × IsStateOf unit self.old }
         requires person { person.0 < length self.old.rows }
         requires role { role.0 < length self.old.roles }
-        requires may { assign_fault self.old.roles (persons_of self.old.rows) role.0 person.0 ≡ None }
+        requires may { assign_fault self.old.roles (persons_of self.old.rows) role.0 person.0
+            ≡ None }
         requires marked { HasMarkedPersons self.old }
-        ensures run { OnOk result (run_of self.new ≡ holding (run_of self.old) person.0 role.0 true) }
+        ensures run { OnOk result
+            (run_of self.new ≡ holding (run_of self.old) person.0 role.0 true) }
         ensures changed { OnOk result (changed.new.items ≡ changed.old.items
             ++ slots_of_membership self.old self.new person.0) }
         ensures rows { length self.new.rows ≡ length self.old.rows }
@@ -239,7 +241,8 @@ impl State {
         requires role { role.0 < length self.old.roles }
         requires held { holds_role (persons_of self.old.rows) role.0 person.0 ≡ true }
         requires marked { HasMarkedPersons self.old }
-        ensures run { OnOk result (run_of self.new ≡ holding (run_of self.old) person.0 role.0 false) }
+        ensures run { OnOk result
+            (run_of self.new ≡ holding (run_of self.old) person.0 role.0 false) }
         ensures changed { OnOk result (changed.new.items ≡ changed.old.items
             ++ slots_of_membership self.old self.new person.0) }
         ensures rows { length self.new.rows ≡ length self.old.rows }
@@ -259,7 +262,8 @@ impl State {
 
     /// Sends the notice. A refusal, for want of memory, changes nothing.
     pub fn send(&mut self, notice: OutNotice) -> Result<(), NoMemory>
-        ensures run { OnOk result (run_of self.new ≡ with_notice (run_of self.old) (notice_of notice)) }
+        ensures run { OnOk result
+            (run_of self.new ≡ with_notice (run_of self.old) (notice_of notice)) }
         ensures rest { OnOk result (self.new ≡ record self.old { outbox = self.new.outbox }) }
         ensures err { OnErr result (self.new ≡ self.old) }
     {

@@ -71,7 +71,8 @@ fn answer_lines<S: Source, K: Sink, L: Ledger>(
         (S.left source.old) (S.left source.new) (K.written sink.old) (K.written sink.new) }
     ensures read { result ≡ Ending.ReadFault → AnsweredTaken (λ n. n < 2 ^ 40) (world_of world.old)
         (S.left source.old) (S.left source.new) (K.written sink.old) (K.written sink.new) }
-    ensures long { result ≡ Ending.InputTooLong → AnsweredTaken (λ n. n ≡ 2 ^ 40) (world_of world.old)
+    ensures long { result ≡ Ending.InputTooLong
+        → AnsweredTaken (λ n. n ≡ 2 ^ 40) (world_of world.old)
         (S.left source.old) (S.left source.new) (K.written sink.old) (K.written sink.new) }
     ensures cut { result ≡ Ending.WriteFault → AnsweredCut (world_of world.old)
         (S.left source.old) (S.left source.new) (K.written sink.old) (K.written sink.new) }

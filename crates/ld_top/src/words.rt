@@ -1,4 +1,6 @@
 //! The words of a call.
+#![tactic(auto, unfolding(crate::specs::Words::folders_in))]
+
 ghost use Rattle.std.specs.Prelude.{◌≡◌, option_map, codes};
 ghost use Rattle.std.specs.List.{list_all};
 ghost use Rattle.ld_top.specs.Words.{words_of, are_folders, folders_in, is_plain_word as plain_word};
@@ -12,7 +14,6 @@ pub const FOLDERS_MOST: usize = 64;
 
 /// The folders of `replay FOLDER..`, or `None` where the words have no form of the program. No word of
 /// a form is empty or begins with `-`. (docs/COMMANDS.md, "Words")
-#[tactic(auto, unfolding(crate::specs::Words::folders_in))]
 pub fn folders_of(words: &[String]) -> Option<&[String]>
     ensures { option_map (λ folders.
         words_of folders.now) result ≡ folders_in (words_of words.now) }

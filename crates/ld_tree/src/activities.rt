@@ -1,4 +1,6 @@
 //! The lines of activities and structures.
+#![tactic(auto, using(crate::proofs::Fuel::targets_more, crate::proofs::Statuses::by_status, crate::proofs::Statuses::flagged_more))]
+
 ghost use Rattle.std.specs.Prelude.{◌≡◌, ◌&&◌, ◌+◌, ◌++◌, ◌≤◌, ◌<◌, ◌^◌, true, fold, flat_map, not, length, OnOk, IsErr};
 ghost use Rattle.ld_expr.specs.Viewing.{HasCells, seen_by};
 ghost use Rattle.ld_tree.specs.Flags.{flag_after};
@@ -16,7 +18,6 @@ use std::sync::ledger::Ledger;
 
 impl<'a, V: View> Viewer<'a, V> {
     /// Puts the activity, and what stands in it where it is not closed.
-    #[tactic(auto, using(crate::proofs::Statuses::by_status))]
     fn put_activity<S: LineSink, L: Ledger>(
         &self,
         depth: u128,
@@ -86,7 +87,6 @@ impl<'a, V: View> Viewer<'a, V> {
     /// Puts what the identifier refers to, where it is visible: an activity, a structure, below at
     /// most so many structures, or an environment.
     #[cycle(targets)]
-    #[tactic(auto, using(crate::proofs::Fuel::targets_more))]
     pub(crate) fn put_target<S: LineSink, L: Ledger>(
         &self,
         left: u128,
@@ -175,7 +175,6 @@ impl<'a, V: View> Viewer<'a, V> {
 
     /// Puts the children of a structure of this kind, the first of them with this flag.
     #[cycle(targets)]
-    #[tactic(auto, using(crate::proofs::Statuses::flagged_more))]
     fn put_children<S: LineSink, L: Ledger>(
         &self,
         left: u128,

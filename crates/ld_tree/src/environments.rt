@@ -1,4 +1,6 @@
 //! The lines of items and environments.
+#![tactic(auto, using(crate::proofs::Fuel::environments_more))]
+
 ghost use Rattle.std.specs.Prelude.{◌≡◌, ◌+◌, ◌≤◌, ◌<◌, ◌^◌, true, fold, flat_map, length, OnOk, IsErr, IfSome};
 ghost use Rattle.ld_expr.specs.Viewing.{HasCells, seen_by};
 ghost use Rattle.ld_tree.specs.Things.{IsThing};
@@ -237,7 +239,6 @@ impl<'a, V: View> Viewer<'a, V> {
     /// Puts the environment of this identifier, where it is visible, below at most so many
     /// environments.
     #[cycle(environments)]
-    #[tactic(auto, using(crate::proofs::Fuel::environments_more))]
     pub(crate) fn put_environment<S: LineSink, L: Ledger>(
         &self,
         left: u128,

@@ -1,4 +1,6 @@
 //! The lines of the method: the unit, its plays, their acts and their role-parts.
+#![tactic(auto, unfolding(crate::specs::Tree::tree_lines, crate::specs::TreeLooks::part_looks, crate::specs::TreeLooks::play_looks, crate::specs::TreeLooks::tree_looks))]
+
 ghost use Rattle.std.specs.Prelude.{◌≡◌, ◌+◌, ◌++◌, ◌≤◌, true, find, fold, flat_map, length, not, OnOk, IsErr};
 ghost use Rattle.ld_expr.specs.Lookup.{list_from};
 ghost use Rattle.ld_expr.specs.Viewing.{HasCells, seen_by};
@@ -19,7 +21,6 @@ use std::sync::ledger::Ledger;
 
 impl<'a, V: View> Viewer<'a, V> {
     /// Puts the role-part and what it refers to, for a member of its role.
-    #[tactic(auto, unfolding(crate::specs::TreeLooks::part_looks))]
     fn put_part<S: LineSink, L: Ledger>(
         &self,
         part: &'a RolePart,
@@ -201,7 +202,6 @@ impl<'a, V: View> Viewer<'a, V> {
     }
 
     /// Puts the play, its feedback once it is done, and its acts, where it is visible.
-    #[tactic(auto, unfolding(crate::specs::TreeLooks::play_looks))]
     fn put_play<S: LineSink, L: Ledger>(
         &self,
         play: &'a Play,
@@ -279,7 +279,6 @@ impl<'a, V: View> Viewer<'a, V> {
     }
 
     /// Puts the lines of the person's tree: the unit, once it is done its feedback, and its plays.
-    #[tactic(auto, unfolding(crate::specs::Tree::tree_lines, crate::specs::TreeLooks::tree_looks))]
     pub(crate) fn put_tree<S: LineSink, L: Ledger>(
         &self,
         lines: &mut S,

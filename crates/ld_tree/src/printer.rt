@@ -1,4 +1,6 @@
 //! Printing the lines of a tree.
+#![tactic(auto, using(crate::proofs::Plain::plain_title, crate::proofs::Words::words_text))]
+
 ghost use Rattle.std.specs.Prelude.{◌≡◌, ◌++◌, ◌∷◌, [], true, OnOk, IfSome, IsErr, option_copied, string_bytes};
 ghost use Rattle.ld_tree.specs.LineView.{line_view, note_text};
 ghost use Rattle.ld_tree.specs.Lines.{indent, line_text, spaced, title_text};
@@ -118,7 +120,6 @@ fn push_indent(depth: u128, out: &mut String) -> Result<(), NoMemory>
 }
 
 /// Appends the words of the line.
-#[tactic(auto, using(crate::proofs::Words::words_text))]
 fn push_words(line: &TreeLine<'_>, out: &mut String) -> Result<(), NoMemory>
     ensures { OnOk result (string_bytes out.new
         ≡ string_bytes out.old ++ spaced (line_view line.now).words) }
@@ -143,7 +144,6 @@ fn push_note(note: Option<&str>, out: &mut String) -> Result<(), NoMemory>
 }
 
 /// Appends a title, if there is one, behind a space.
-#[tactic(auto, using(crate::proofs::Plain::plain_title))]
 fn push_title(alloc: Global, title: Option<&PlainText>, out: &mut String) -> Result<(), NoMemory>
     ensures { OnOk result (string_bytes out.new
         ≡ string_bytes out.old ++ title_text (option_copied title.entry)) }

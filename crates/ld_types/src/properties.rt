@@ -1,4 +1,6 @@
 //! The initial values and the restrictions of properties.
+#![tactic(auto, unfolding(crate::specs::PropertyFaults::property_faults), using(ld_json::proofs::First::first_of_both))]
+
 ghost use Rattle.std.specs.Prelude.{◌≡◌, [], Some, IfErr, IfOk, OnOk, option_and_then, option_map};
 ghost use Rattle.ld_json.specs.declared.code.Code.TheVariants.{BadType};
 ghost use Rattle.ld_json.specs.Fault.{SaysFirst};
@@ -27,7 +29,6 @@ use ld_walk::spot::Spot;
 use std::alloc::Global;
 
 /// That the initial value and the restrictions of the property at the place have no fault.
-#[tactic(auto, unfolding(crate::specs::PropertyFaults::property_faults), using(ld_json::proofs::First::first_of_both))]
 pub(crate) fn check_property(
     alloc: Global,
     at: &Spot<'_>,
@@ -61,7 +62,8 @@ fn is_unfit(alloc: Global, property: &Property) -> Result<bool, NoMemory>
 
 /// Whether the value fits those restrictions that are values.
 fn fits_as_initial(alloc: Global, property: &Property, value: &Value) -> Result<bool, NoMemory>
-    ensures { IfOk result (λ fits. fits ≡ fits_as_initial property.now (Some (datum_of value.now))) }
+    ensures { IfOk result
+        (λ fits. fits ≡ fits_as_initial property.now (Some (datum_of value.now))) }
 {
     let Some(texts) = &property.restrictions else {
         return Ok(fits(property.datatype, &no_limits(alloc), value));
@@ -129,7 +131,8 @@ fn read_bound(
     kind: Kind,
     text: &Option<PlainText>,
 ) -> Result<Option<Value>, NoMemory>
-    ensures { IfOk result (λ value. option_map datum_of value ≡ option_and_then (value_of kind) text.now) }
+    ensures { IfOk result
+        (λ value. option_map datum_of value ≡ option_and_then (value_of kind) text.now) }
 {
     match text {
         Some(text) => read_bound_text(alloc, kind, text),
@@ -151,7 +154,6 @@ fn read_bound_text(alloc: Global, kind: Kind, text: &PlainText) -> Result<Option
 // ---- restrictions
 
 /// That the restrictions at the place have no fault.
-#[tactic(auto, using(ld_json::proofs::First::first_of_both))]
 fn check_restrictions(
     alloc: Global,
     at: &Spot<'_>,
@@ -199,7 +201,8 @@ fn check_bound(
     text: &Option<PlainText>,
 ) -> Result<(), ReadFault>
     ensures faultless { OnOk result (fault_if (is_stray_bound kind text.now) BadType at.now ≡ []) }
-    ensures first { IfErr result (SaysFirst (fault_if (is_stray_bound kind text.now) BadType at.now)) }
+    ensures first { IfErr result
+        (SaysFirst (fault_if (is_stray_bound kind text.now) BadType at.now)) }
 {
     if is_stray_bound(alloc, kind, text)? {
         return Err(at.fault(alloc, Code::BadType));

@@ -1,4 +1,6 @@
 //! The types of terms.
+#![tactic(auto, using(ld_json::proofs::First::first_of_both))]
+
 ghost use Rattle.std.specs.Prelude.{◌≡◌, [], IfErr, IfOk, OnOk, option_map};
 ghost use Rattle.ld_json.specs.declared.code.Code.TheVariants.{BadType};
 ghost use Rattle.ld_json.specs.Fault.{SaysFirst};
@@ -114,7 +116,6 @@ fn known_pair_type(
 impl<'a> Typing<'a> {
     /// That the term at the place has no fault, in a place of the run as a whole or of a person.
     #[cycle(terms)]
-    #[tactic(auto, using(ld_json::proofs::First::first_of_both))]
     pub(crate) fn check_term(
         &self,
         alloc: Global,
@@ -122,8 +123,10 @@ impl<'a> Typing<'a> {
         of_run: bool,
         term: &Term,
     ) -> Result<(), ReadFault>
-        ensures faultless { OnOk result (term_faults (find_by self.now) of_run at.now term.now ≡ []) }
-        ensures first { IfErr result (SaysFirst (term_faults (find_by self.now) of_run at.now term.now)) }
+        ensures faultless { OnOk result
+            (term_faults (find_by self.now) of_run at.now term.now ≡ []) }
+        ensures first { IfErr result
+            (SaysFirst (term_faults (find_by self.now) of_run at.now term.now)) }
     {
         match &*term.form {
             TermForm::Property(id) => {
@@ -159,7 +162,6 @@ impl<'a> Typing<'a> {
 
     /// That a sum or a product at the place has no fault.
     #[cycle(terms)]
-    #[tactic(auto, using(ld_json::proofs::First::first_of_both))]
     fn check_list(
         &self,
         alloc: Global,
@@ -189,8 +191,10 @@ impl<'a> Typing<'a> {
         of_run: bool,
         terms: &[Term],
     ) -> Result<(), ReadFault>
-        ensures faultless { OnOk result (terms_faults (find_by self.now) of_run at.now 0 (terms_from terms.now) ≡ []) }
-        ensures first { IfErr result (SaysFirst (terms_faults (find_by self.now) of_run at.now 0 (terms_from terms.now))) }
+        ensures faultless { OnOk result
+            (terms_faults (find_by self.now) of_run at.now 0 (terms_from terms.now) ≡ []) }
+        ensures first { IfErr result
+            (SaysFirst (terms_faults (find_by self.now) of_run at.now 0 (terms_from terms.now))) }
     {
         for (i, term) in terms.iter().enumerate() {
             self.check_term(alloc, &at.item(i), of_run, term)?;
@@ -200,7 +204,6 @@ impl<'a> Typing<'a> {
 
     /// That a difference or a quotient at the place has no fault.
     #[cycle(terms)]
-    #[tactic(auto, using(ld_json::proofs::First::first_of_both))]
     fn check_pair(
         &self,
         alloc: Global,
@@ -235,8 +238,10 @@ fn check_literal(
     word: &'static str,
     text: &PlainText,
 ) -> Result<(), ReadFault>
-    ensures faultless { OnOk result (fault_if (is_no_value kind text.now) BadType (member at.now word.now) ≡ []) }
-    ensures first { IfErr result (SaysFirst (fault_if (is_no_value kind text.now) BadType (member at.now word.now))) }
+    ensures faultless { OnOk result
+        (fault_if (is_no_value kind text.now) BadType (member at.now word.now) ≡ []) }
+    ensures first { IfErr result
+        (SaysFirst (fault_if (is_no_value kind text.now) BadType (member at.now word.now))) }
 {
     if is_no_value(alloc, kind, text)? {
         return Err(at.member(word).fault(alloc, Code::BadType));
@@ -246,7 +251,8 @@ fn check_literal(
 
 /// Whether no sum or product of operands of these types is in the table.
 fn is_no_list(operator: ListOperator, types: &Option<Vec<ValueType>>) -> bool
-    ensures { result ≡ is_no_list (list_operator_of operator) (option_map (λ list. list.items) types.now) }
+    ensures { result ≡ is_no_list (list_operator_of operator)
+        (option_map (λ list. list.items) types.now) }
 {
     match types {
         Some(types) => operator.type_of(types.as_slice()).is_none(),

@@ -1,4 +1,6 @@
 //! The types in tests.
+#![tactic(auto, using(ld_json::proofs::First::first_of_both))]
+
 ghost use Rattle.std.specs.Prelude.{◌≡◌, [], IfErr, OnOk};
 ghost use Rattle.ld_json.specs.Fault.{SaysFirst};
 ghost use Rattle.ld_model.specs.Expressions.{compare_test, tests_from};
@@ -47,8 +49,10 @@ impl<'a> Typing<'a> {
     /// That the tests of the list at the place have no fault.
     #[cycle(tests)]
     fn check_tests(&self, alloc: Global, at: &Spot<'_>, tests: &[Test]) -> Result<(), ReadFault>
-        ensures faultless { OnOk result (tests_faults (find_by self.now) at.now 0 (tests_from tests.now) ≡ []) }
-        ensures first { IfErr result (SaysFirst (tests_faults (find_by self.now) at.now 0 (tests_from tests.now))) }
+        ensures faultless { OnOk result
+            (tests_faults (find_by self.now) at.now 0 (tests_from tests.now) ≡ []) }
+        ensures first { IfErr result
+            (SaysFirst (tests_faults (find_by self.now) at.now 0 (tests_from tests.now))) }
     {
         for (i, test) in tests.iter().enumerate() {
             self.check_test(alloc, &at.item(i), test)?;
@@ -57,7 +61,6 @@ impl<'a> Typing<'a> {
     }
 
     /// That the two terms can be compared so, and have no fault.
-    #[tactic(auto, using(ld_json::proofs::First::first_of_both))]
     fn check_comparison(
         &self,
         alloc: Global,

@@ -1,4 +1,6 @@
 //! The types that places want.
+#![tactic(auto, unfolding(crate::specs::Typing::change_faults), using(ld_json::proofs::First::first_of_both))]
+
 ghost use Rattle.std.specs.Prelude.{◌≡◌, [], IfErr, OnOk, option_copied, option_map};
 ghost use Rattle.ld_json.specs.Fault.{SaysFirst};
 ghost use Rattle.ld_model.specs.Properties.{is_personal};
@@ -40,8 +42,10 @@ impl<'a> Typing<'a> {
         at: &Spot<'_>,
         typed: Typed<'_>,
     ) -> Result<(), ReadFault>
-        ensures faultless { OnOk result (typed_faults (find_by self.now) at.now (typed_of typed.entry) ≡ []) }
-        ensures first { IfErr result (SaysFirst (typed_faults (find_by self.now) at.now (typed_of typed.entry))) }
+        ensures faultless { OnOk result
+            (typed_faults (find_by self.now) at.now (typed_of typed.entry) ≡ []) }
+        ensures first { IfErr result
+            (SaysFirst (typed_faults (find_by self.now) at.now (typed_of typed.entry))) }
     {
         match typed {
             Typed::Declared(property) => check_property(alloc, at, property),
@@ -67,8 +71,11 @@ impl<'a> Typing<'a> {
         id: &Id,
         text: &PlainText,
     ) -> Result<(), ReadFault>
-        ensures faultless { OnOk result (fault_if (is_no_value_of (find_by self.now id.now) text.now) BadType at.now ≡ []) }
-        ensures first { IfErr result (SaysFirst (fault_if (is_no_value_of (find_by self.now id.now) text.now) BadType at.now)) }
+        ensures faultless { OnOk result
+            (fault_if (is_no_value_of (find_by self.now id.now) text.now) BadType at.now ≡ []) }
+        ensures first { IfErr result
+            (SaysFirst
+            (fault_if (is_no_value_of (find_by self.now id.now) text.now) BadType at.now)) }
     {
         let Some(property) = self.property(id) else {
             return Ok(());
@@ -80,7 +87,6 @@ impl<'a> Typing<'a> {
     }
 
     /// That the property gets a value of its own type, and that the term has no fault.
-    #[tactic(auto, unfolding(crate::specs::Typing::change_faults), using(ld_json::proofs::First::first_of_both))]
     fn check_change(
         &self,
         alloc: Global,
@@ -89,8 +95,10 @@ impl<'a> Typing<'a> {
         property: &Id,
         value: &Term,
     ) -> Result<(), ReadFault>
-        ensures faultless { OnOk result (change_faults (find_by self.now) at.now by_run property.now value.now ≡ []) }
-        ensures first { IfErr result (SaysFirst (change_faults (find_by self.now) at.now by_run property.now value.now)) }
+        ensures faultless { OnOk result
+            (change_faults (find_by self.now) at.now by_run property.now value.now ≡ []) }
+        ensures first { IfErr result
+            (SaysFirst (change_faults (find_by self.now) at.now by_run property.now value.now)) }
     {
         if is_other_type(self.type_named(property), self.term_type(alloc, value)?) {
             return Err(at.fault(alloc, Code::BadType));

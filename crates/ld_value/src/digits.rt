@@ -1,4 +1,6 @@
 //! Decimal digits.
+#![tactic(auto, unfolding(crate::specs::Numeral::numeral))]
+
 ghost use Rattle.std.specs.Prelude.{◌≡◌, ◌≤◌, ◌<◌, ◌^◌, ◌+◌, ◌%◌, length, IsTrue, IfSome};
 ghost use Rattle.ld_value.specs.Calendar.{in_digits};
 ghost use Rattle.ld_value.specs.Numeral.{numeral as spec_numeral};
@@ -43,7 +45,6 @@ fn digit(number: u64) -> u8
 }
 
 /// The number that 1 to `most` decimal digits write; None where the text is something else.
-#[tactic(auto, unfolding(crate::specs::Numeral::numeral))]
 pub(crate) fn numeral(text: &[u8], most: usize) -> Option<u64>
     requires { most ≤ 19 }
     ensures value { result ≡ spec_numeral most text.now }

@@ -1,4 +1,6 @@
 //! Durations in texts.
+#![tactic(auto, unfolding(crate::specs::Duration::duration_of, crate::specs::Duration::front_part, crate::specs::Duration::is_duration, crate::specs::Duration::seconds_if, crate::specs::Duration::seconds_of, crate::specs::Duration::span_text, crate::specs::Duration::time_in, crate::specs::Numeral::numeral))]
+
 ghost use Rattle.std.specs.Prelude.{◌≡◌, ◌↔◌, ℕ, ◌+◌, ◌++◌, ◌≤◌, ◌<◌, ◌^◌, length, Some, None, IfSome, option_copied, if◌then◌else◌};
 ghost use Rattle.std.specs.Option.{option_and_then};
 ghost use Rattle.ld_value.specs.Duration.{duration_of, IsDuration, seconds_if, time_in, front_part as spec_front_part, digit_count as spec_digit_count, is_part, part_number as spec_part_number, part_text, shown, parts_of, time_text, span_text};
@@ -20,7 +22,6 @@ pub fn read_duration(text: &str) -> Option<u64>
 }
 
 /// The seconds of the duration that the text writes.
-#[tactic(auto, unfolding(crate::specs::Duration::duration_of))]
 fn seconds_in(text: &[u8]) -> Option<u64>
     ensures { result ≡ duration_of text.now }
 {
@@ -37,7 +38,6 @@ fn seconds_in(text: &[u8]) -> Option<u64>
 
 /// The seconds of these days and of the parts below them, of which the text has one or more and
 /// nothing else.
-#[tactic(auto, unfolding(crate::specs::Duration::time_in))]
 fn read_time(days: Option<&[u8]>, text: &[u8]) -> Option<u64>
     ensures { result ≡ option_and_then seconds_if (time_in (option_copied days.entry) text.now) }
 {
@@ -54,7 +54,6 @@ fn read_time(days: Option<&[u8]>, text: &[u8]) -> Option<u64>
 }
 
 /// The part with this letter at the text's front, as its digits, and the text after it.
-#[tactic(auto, unfolding(crate::specs::Duration::front_part))]
 fn front_part(text: &[u8], letter: u8) -> (Option<&[u8]>, &[u8])
     ensures part { option_copied result.0 ≡ (spec_front_part letter text.now).0 }
     ensures rest { result.1.now ≡ (spec_front_part letter text.now).1 }
@@ -76,14 +75,20 @@ fn digit_count(text: &[u8]) -> usize
 
 /// The seconds of all parts together; None where none is there, one is not of 1 to 12 digits, or the
 /// sum is too large.
-#[tactic(auto, unfolding(crate::specs::Duration::seconds_if, crate::specs::Duration::seconds_of, crate::specs::Duration::is_duration))]
 fn total(
     days: Option<&[u8]>,
     hours: Option<&[u8]>,
     minutes: Option<&[u8]>,
     seconds: Option<&[u8]>,
 ) -> Option<u64>
-    ensures { result ≡ seconds_if (record { days = option_copied days.entry; hours = option_copied hours.entry; minutes = option_copied minutes.entry; seconds = option_copied seconds.entry }) }
+    ensures { result
+        ≡ seconds_if
+        (record {
+          days = option_copied days.entry;
+          hours = option_copied hours.entry;
+          minutes = option_copied minutes.entry;
+          seconds = option_copied seconds.entry;
+        }) }
 {
     if days.is_none() && hours.is_none() && minutes.is_none() && seconds.is_none() {
         return None;
@@ -98,9 +103,10 @@ fn total(
 }
 
 /// The number of a part, 0 where it is absent; None where it is not of 1 to 12 digits.
-#[tactic(auto, unfolding(crate::specs::Numeral::numeral))]
 fn part_number(part: Option<&[u8]>) -> Option<u64>
-    ensures value { result ≡ (if is_part (option_copied part.entry) then Some (spec_part_number (option_copied part.entry)) else None) }
+    ensures value { result
+        ≡ (if is_part (option_copied part.entry) then Some
+        (spec_part_number (option_copied part.entry)) else None) }
     ensures bound { IfSome result (λ n. n < 10 ^ 12) }
 {
     match part {
@@ -111,7 +117,6 @@ fn part_number(part: Option<&[u8]>) -> Option<u64>
 
 /// The text of a span of that many seconds: days, hours below 24, minutes below 60 and seconds below
 /// 60, zero parts left out; `PT0S` for none.
-#[tactic(auto, unfolding(crate::specs::Duration::span_text))]
 pub(crate) fn print_span(seconds: u64) -> Draft
     ensures { result ≡ span_text seconds }
 {

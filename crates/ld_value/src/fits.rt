@@ -1,4 +1,6 @@
 //! Whether a value fits the restrictions of a property.
+#![tactic(auto, unfolding(crate::specs::Values::fits_in))]
+
 ghost use Rattle.std.specs.Prelude.{◌≡◌, map, option_map, length, chars};
 ghost use Rattle.std.specs.List.{list_any};
 ghost use Rattle.ld_value.specs.Datum.{datum_of, same_datum};
@@ -12,7 +14,6 @@ use crate::moment::{FIRST_MOMENT, LAST_MOMENT};
 use crate::value::{Value, same_value};
 
 /// Whether the value is one of the datatype and meets each of the restrictions.
-#[tactic(auto, unfolding(crate::specs::Values::fits_in))]
 pub fn fits(kind: Kind, limits: &Limits, value: &Value) -> bool
     ensures { result ≡ fits_in kind (restrictions_of limits.now) (datum_of value.now) }
 {

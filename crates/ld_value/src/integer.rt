@@ -1,4 +1,6 @@
 //! Whole numbers in texts.
+#![tactic(auto, unfolding(crate::specs::Values::integer_of, crate::specs::Values::signed_numeral))]
+
 ghost use Rattle.std.specs.Prelude.{◌≡◌};
 ghost use Rattle.std.specs.Fmt.{signed_decimal};
 ghost use Rattle.ld_value.specs.Values.{integer_of};
@@ -8,7 +10,6 @@ use crate::draft::Draft;
 
 /// The whole number that an optional `-` and 1 to 19 digits write; None where the text is something
 /// else, or the number is none of 64 bits.
-#[tactic(auto, unfolding(crate::specs::Values::integer_of, crate::specs::Values::signed_numeral))]
 pub(crate) fn read_integer(text: &[u8]) -> Option<i64>
     ensures { result ≡ integer_of text.now }
 {

@@ -1,4 +1,6 @@
 //! Moments of the calendar, in UTC.
+#![tactic(auto, unfolding(crate::specs::Calendar::has_moment_form, crate::specs::Calendar::moment_of, crate::specs::Calendar::named_day, crate::specs::Calendar::named_second, crate::specs::Calendar::second_of))]
+
 ghost use Rattle.std.specs.Prelude.{◌≡◌, ◌+◌, ◌/◌, ◌%◌, ◌<◌, ◌≤◌, ◌^◌, IsTrue, Some, IfSome, option_map, take, drop, replicate};
 ghost use Rattle.std.specs.Str.{IsAscii};
 ghost use Rattle.jiff_core.specs.Calendar.{IsEpochDay};
@@ -20,7 +22,6 @@ pub const LAST_MOMENT: Moment = Moment(253_402_300_799);
 
 /// The moment that the text names by `YYYY-MM-DDTHH:MM:SSZ`; None exactly where the text has another
 /// form, or no such day or time of day exists.
-#[tactic(auto, unfolding(crate::specs::Calendar::moment_of))]
 pub fn read_moment(text: &str) -> Option<Moment>
     ensures value { option_map (λ m. m.0) result ≡ moment_of text.now }
     ensures years { IfSome result (λ m. IsMoment m.0) }
@@ -34,7 +35,6 @@ pub fn read_moment(text: &str) -> Option<Moment>
 }
 
 /// The moment that a text of the form names; None where no such day or time of day exists.
-#[tactic(auto, unfolding(crate::specs::Calendar::moment_of))]
 fn named_moment(bytes: &[u8]) -> Option<Moment>
     requires { IsTrue (has_moment_form bytes.now) }
     ensures { option_map (λ m. m.0) result ≡ moment_of bytes.now }
@@ -90,7 +90,6 @@ fn year_month_day(day: i64) -> (u64, u64, u64)
 }
 
 /// Whether the bytes have the form of a moment's text.
-#[tactic(auto, unfolding(crate::specs::Calendar::has_moment_form))]
 fn has_form(bytes: &[u8]) -> bool
     ensures { result ≡ has_moment_form bytes.now }
 {
@@ -123,7 +122,6 @@ fn stands_for(pattern: u8, byte: u8) -> bool
 }
 
 /// The number of the day that a moment's text names, counted from 1970-01-01.
-#[tactic(auto, unfolding(crate::specs::Calendar::named_day))]
 fn read_day(bytes: &[u8]) -> Option<i64>
     requires { IsTrue (has_moment_form bytes.now) }
     ensures value { result ≡ named_day bytes.now }
@@ -136,7 +134,6 @@ fn read_day(bytes: &[u8]) -> Option<i64>
 }
 
 /// The second of the day that a moment's text names.
-#[tactic(auto, unfolding(crate::specs::Calendar::named_second))]
 fn read_second(bytes: &[u8]) -> Option<u32>
     requires { IsTrue (has_moment_form bytes.now) }
     ensures value { result ≡ named_second bytes.now }
@@ -161,7 +158,6 @@ fn part(bytes: &[u8], from: usize, count: usize) -> u64
 }
 
 /// The second of the day; None where there is no such time of day.
-#[tactic(auto, unfolding(crate::specs::Calendar::second_of))]
 fn second_number(hour: u64, minute: u64, second: u64) -> Option<u32>
     ensures value { result ≡ second_of hour minute second }
     ensures bound { IfSome result (λ s. s < 86400) }

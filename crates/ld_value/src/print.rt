@@ -1,4 +1,6 @@
 //! Printing values.
+#![tactic(auto, unfolding(crate::specs::Values::text_of), using(crate::proofs::Laws::printed_back))]
+
 ghost use Rattle.std.specs.Prelude.{◌≡◌, ◌≤◌, ◌++◌, ℕ, List, length, Some, OnOk, OnErr, IsOk};
 ghost use Rattle.ld_base.specs.Roomy.{KeepsRoom};
 ghost use Rattle.ld_value.specs.declared.kind.Kind.{Kind};
@@ -14,7 +16,6 @@ use ld_base::text::Text;
 
 /// Appends the value's text; a moment lies in the years 1 to 9999. Where memory is wanting the bytes
 /// stay as they were, which cannot come within the spare room.
-#[tactic(auto, using(crate::proofs::Laws::printed_back), unfolding(crate::specs::Values::text_of))]
 pub fn print_value(value: &Value, out: &mut Text) -> Result<(), NoMemory>
     requires { IsPrintable (datum_of value.now) }
     ensures ok { OnOk result (out.new.bytes ≡ out.old.bytes ++ text_of (datum_of value.now)) }

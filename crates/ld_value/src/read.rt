@@ -1,4 +1,6 @@
 //! Reading values from texts.
+#![tactic(auto, unfolding(crate::specs::Values::truth_of, crate::specs::Values::value_of))]
+
 ghost use Rattle.std.specs.Prelude.{◌≡◌, ◌↔◌, IsTrue, IfOk, IfSome, Some, None, Err, option_map, false};
 ghost use Rattle.ld_value.specs.Datum.{datum_of};
 ghost use Rattle.ld_value.specs.Values.{value_of, is_value, is_scalar, IsPrintable, text_if as spec_text_if, truth_of};
@@ -15,7 +17,6 @@ use std::alloc::Global;
 
 /// The value that the text has as one of the datatype. `BadValue` comes exactly where it has none, and
 /// `NoMemory` only where the value is a text.
-#[tactic(auto, unfolding(crate::specs::Values::value_of))]
 pub fn read_value(alloc: Global, kind: Kind, text: &str) -> Result<Value, ValueFault>
     ensures ok { IfOk result (λ v. value_of kind text.now ≡ Some (datum_of v)) }
     ensures bad { (result ≡ Err ValueFault.BadValue) ↔ (value_of kind text.now ≡ None) }
@@ -43,7 +44,6 @@ fn text_if(alloc: Global, good: bool, text: &str) -> Result<Value, ValueFault>
 
 /// The value that the text has as one of a datatype other than string, text and uri, whose values take
 /// no memory; None exactly where it has none.
-#[tactic(auto, unfolding(crate::specs::Values::value_of))]
 pub fn read_scalar(kind: Kind, text: &str) -> Option<Value>
     requires { IsTrue (is_scalar kind) }
     ensures value { option_map datum_of result ≡ value_of kind text.now }
@@ -60,7 +60,6 @@ pub fn read_scalar(kind: Kind, text: &str) -> Option<Value>
 }
 
 /// The truth value that the text names.
-#[tactic(auto, unfolding(crate::specs::Values::truth_of))]
 fn read_truth(text: &str) -> Option<bool>
     ensures { result ≡ truth_of text.now }
 {

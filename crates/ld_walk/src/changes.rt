@@ -1,4 +1,6 @@
 //! Changes of properties, and notices.
+#![tactic(auto, unfolding(crate::specs::CommonParts::change_parts, crate::specs::CommonParts::notice_parts))]
+
 ghost use Rattle.std.specs.Prelude.{◌≡◌, ◌∷◌, ◌++◌, [], OnOk};
 ghost use Rattle.ld_model.specs.Counting.{each_numbered};
 ghost use Rattle.ld_walk.specs.CommonParts.{change_parts, notice_parts, nth_change_parts, nth_notice_parts};
@@ -20,7 +22,9 @@ pub fn list_changes<'a>(
     by_run: bool,
     changes: &'a [Change],
 ) -> Result<(), NoMemory>
-    ensures { OnOk result (walk.new ≡ added walk.old (each_numbered (nth_change_parts walk.old.at by_run) changes.now)) }
+    ensures { OnOk result
+        (walk.new
+        ≡ added walk.old (each_numbered (nth_change_parts walk.old.at by_run) changes.now)) }
 {
     for (i, change) in changes.iter().enumerate() {
         walk.enter_nth("change", number(i)?)?;
@@ -31,7 +35,6 @@ pub fn list_changes<'a>(
 }
 
 /// Lists a change, for the run as a whole or for one person.
-#[tactic(auto, unfolding(crate::specs::CommonParts::change_parts))]
 pub fn list_change<'a>(
     walk: &mut Walk<'a>,
     by_run: bool,
@@ -50,7 +53,8 @@ pub fn list_change<'a>(
 
 /// Lists notices.
 pub fn list_notices<'a>(walk: &mut Walk<'a>, notices: &'a [Notice]) -> Result<(), NoMemory>
-    ensures { OnOk result (walk.new ≡ added walk.old (each_numbered (nth_notice_parts walk.old.at) notices.now)) }
+    ensures { OnOk result
+        (walk.new ≡ added walk.old (each_numbered (nth_notice_parts walk.old.at) notices.now)) }
 {
     for (i, notice) in notices.iter().enumerate() {
         walk.enter_nth("notify", number(i)?)?;
@@ -61,7 +65,6 @@ pub fn list_notices<'a>(walk: &mut Walk<'a>, notices: &'a [Notice]) -> Result<()
 }
 
 /// Lists a notice.
-#[tactic(auto, unfolding(crate::specs::CommonParts::notice_parts))]
 pub fn list_notice<'a>(walk: &mut Walk<'a>, notice: &'a Notice) -> Result<(), NoMemory>
     ensures { OnOk result (walk.new ≡ added walk.old (notice_parts walk.old.at notice.now)) }
 {

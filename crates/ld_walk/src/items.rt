@@ -20,7 +20,8 @@ pub fn list_shown<'a>(
     identifier: &'a Id,
     visible: bool,
 ) -> Result<(), NoMemory>
-    ensures { OnOk result (walk.new ≡ added walk.old (shown_part walk.old.at place identifier.now visible ∷ [])) }
+    ensures { OnOk result
+        (walk.new ≡ added walk.old (shown_part walk.old.at place identifier.now visible ∷ [])) }
 {
     walk.put(
         Level::A,
@@ -34,7 +35,8 @@ pub fn list_unshown<'a>(
     place: Place,
     identifier: &'a Id,
 ) -> Result<(), NoMemory>
-    ensures { OnOk result (walk.new ≡ added walk.old (unshown_part walk.old.at place identifier.now ∷ [])) }
+    ensures { OnOk result
+        (walk.new ≡ added walk.old (unshown_part walk.old.at place identifier.now ∷ [])) }
 {
     walk.put(
         Level::A,
@@ -78,7 +80,8 @@ pub fn list_reference<'a>(
     wanted: Wanted,
     target: &'a Id,
 ) -> Result<(), NoMemory>
-    ensures { OnOk result (walk.new ≡ added walk.old (reference_part walk.old.at name.now wanted target.now ∷ [])) }
+    ensures { OnOk result
+        (walk.new ≡ added walk.old (reference_part walk.old.at name.now wanted target.now ∷ [])) }
 {
     walk.put_member(name, Level::A, What::Refers(wanted, target))
 }
@@ -90,7 +93,9 @@ pub fn list_optional_reference<'a>(
     wanted: Wanted,
     target: &'a Option<Id>,
 ) -> Result<(), NoMemory>
-    ensures { OnOk result (walk.new ≡ added walk.old (optional_reference_parts walk.old.at name.now wanted target.now)) }
+    ensures { OnOk result
+        (walk.new
+        ≡ added walk.old (optional_reference_parts walk.old.at name.now wanted target.now)) }
 {
     match target {
         Some(target) => list_reference(walk, name, wanted, target),
@@ -105,7 +110,8 @@ pub fn list_references<'a>(
     wanted: Wanted,
     targets: &'a [Id],
 ) -> Result<(), NoMemory>
-    ensures { OnOk result (walk.new ≡ added walk.old (references_parts walk.old.at name.now wanted targets.now)) }
+    ensures { OnOk result
+        (walk.new ≡ added walk.old (references_parts walk.old.at name.now wanted targets.now)) }
 {
     if targets.is_empty() {
         return Ok(());

@@ -1,4 +1,6 @@
 //! Places in the documents of a unit, of which no text is written before one is asked for.
+#![tactic(auto, using(crate::proofs::PlaceLaws::below_more, crate::proofs::PlaceLaws::count_places, crate::proofs::PlaceLaws::places_more))]
+
 ghost use Rattle.std.specs.Prelude.{◌≡◌, ◌<◌, ◌∷◌, ◌++◌, [], true, length, IfOk, OnOk, OnErr};
 ghost use Rattle.ld_walk.specs.PlaceRows.{place_at, place_by, is_below};
 
@@ -56,7 +58,6 @@ impl Places {
     }
 
     /// Appends a place. Where memory is wanting the list stays as it was.
-    #[tactic(auto, using(crate::proofs::PlaceLaws::places_more, crate::proofs::PlaceLaws::below_more, crate::proofs::PlaceLaws::count_places))]
     pub fn push(&mut self, row: PlaceRow) -> Result<(), NoMemory>
         requires { is_below (length self.old) row ≡ true }
         ensures ok { OnOk result (self.new ≡ self.old ++ place_by self.old row ∷ []) }
@@ -67,7 +68,6 @@ impl Places {
     }
 
     /// The number of places.
-    #[tactic(auto, using(crate::proofs::PlaceLaws::count_places))]
     pub fn len(&self) -> usize
         ensures { result ≡ length self.now }
     {
@@ -91,7 +91,8 @@ impl Places {
     /// Appends the text of the place of this number, and gives its file.
     pub fn write(&self, alloc: Global, number: u32, out: &mut Text) -> Result<FileNo, NoMemory>
         ensures file { IfOk result (λ file. file ≡ (place_at self.now number).file) }
-        ensures place { OnOk result (out.new.bytes ≡ out.old.bytes ++ (place_at self.now number).place) }
+        ensures place { OnOk result
+            (out.new.bytes ≡ out.old.bytes ++ (place_at self.now number).place) }
     {
         let row = self.row(number);
         match row.step {

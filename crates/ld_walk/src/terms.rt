@@ -54,7 +54,8 @@ fn any_reads_clock(terms: &[Term]) -> bool
 
 /// Lists a leaf that refers to nothing.
 pub fn list_plain_leaf<'a>(walk: &mut Walk<'a>, of_members: bool) -> Result<(), NoMemory>
-    ensures { OnOk result (walk.new ≡ added walk.old (plain_part walk.old.at (Leaf of_members) ∷ [])) }
+    ensures { OnOk result
+        (walk.new ≡ added walk.old (plain_part walk.old.at (Leaf of_members) ∷ [])) }
 {
     walk.put(Level::A, What::Leaf(of_members))
 }
@@ -67,7 +68,8 @@ pub fn list_leaf<'a>(
     wanted: Wanted,
     target: &'a Id,
 ) -> Result<(), NoMemory>
-    ensures { OnOk result (walk.new ≡ added walk.old (leaf_parts walk.old.at of_members name.now wanted target.now)) }
+    ensures { OnOk result
+        (walk.new ≡ added walk.old (leaf_parts walk.old.at of_members name.now wanted target.now)) }
 {
     list_plain_leaf(walk, of_members)?;
     list_reference(walk, name, wanted, target)
@@ -93,7 +95,8 @@ pub fn list_term<'a>(
     clock: bool,
     term: &'a Term,
 ) -> Result<(), NoMemory>
-    ensures { OnOk result (walk.new ≡ added walk.old (term_parts walk.old.at of_members clock term.now)) }
+    ensures { OnOk result
+        (walk.new ≡ added walk.old (term_parts walk.old.at of_members clock term.now)) }
 {
     match &*term.form {
         TermForm::Property(id) => list_leaf(walk, of_members, "property", Wanted::Property, id),
@@ -125,7 +128,9 @@ pub fn list_operand<'a>(
     index: u32,
     term: &'a Term,
 ) -> Result<(), NoMemory>
-    ensures { OnOk result (walk.new ≡ added walk.old (term_parts (nth walk.old.at name.now index) of_members clock term.now)) }
+    ensures { OnOk result
+        (walk.new
+        ≡ added walk.old (term_parts (nth walk.old.at name.now index) of_members clock term.now)) }
 {
     walk.enter_nth(name, index)?;
     list_term(walk, of_members, clock, term)?;
@@ -141,7 +146,9 @@ fn list_terms<'a>(
     name: &'static str,
     terms: &'a [Term],
 ) -> Result<(), NoMemory>
-    ensures { OnOk result (walk.new ≡ added walk.old (terms_parts (member walk.old.at name.now) of_members 0 (terms_from terms.now))) }
+    ensures { OnOk result
+        (walk.new ≡ added walk.old
+        (terms_parts (member walk.old.at name.now) of_members 0 (terms_from terms.now))) }
 {
     for (i, term) in terms.iter().enumerate() {
         list_operand(walk, of_members, false, name, number(i)?, term)?;
@@ -158,7 +165,9 @@ fn list_pair<'a>(
     a: &'a Term,
     b: &'a Term,
 ) -> Result<(), NoMemory>
-    ensures { OnOk result (walk.new ≡ added walk.old (term_parts (nth walk.old.at name.now 0) of_members false a.now ++ term_parts (nth walk.old.at name.now 1) of_members false b.now)) }
+    ensures { OnOk result
+        (walk.new ≡ added walk.old (term_parts (nth walk.old.at name.now 0) of_members false a.now
+        ++ term_parts (nth walk.old.at name.now 1) of_members false b.now)) }
 {
     list_operand(walk, of_members, false, name, 0, a)?;
     list_operand(walk, of_members, false, name, 1, b)

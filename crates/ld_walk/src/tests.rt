@@ -47,7 +47,11 @@ fn list_comparison<'a>(
     a: &'a Term,
     b: &'a Term,
 ) -> Result<(), NoMemory>
-    ensures { OnOk result (walk.new ≡ added walk.old (term_parts (nth walk.old.at name.now 0) of_members (not (reads_clock b.now)) a.now ++ term_parts (nth walk.old.at name.now 1) of_members (not (reads_clock a.now)) b.now)) }
+    ensures { OnOk result
+        (walk.new
+        ≡ added walk.old
+        (term_parts (nth walk.old.at name.now 0) of_members (not (reads_clock b.now)) a.now
+        ++ term_parts (nth walk.old.at name.now 1) of_members (not (reads_clock a.now)) b.now)) }
 {
     list_operand(walk, of_members, !reads_clock(b), name, 0, a)?;
     list_operand(walk, of_members, !reads_clock(a), name, 1, b)
@@ -61,7 +65,8 @@ fn list_inner<'a>(
     name: &'static str,
     test: &'a Test,
 ) -> Result<(), NoMemory>
-    ensures { OnOk result (walk.new ≡ added walk.old (test_parts (member walk.old.at name.now) of_members test.now)) }
+    ensures { OnOk result
+        (walk.new ≡ added walk.old (test_parts (member walk.old.at name.now) of_members test.now)) }
 {
     walk.enter(name)?;
     list_test(walk, of_members, test)?;
@@ -77,7 +82,9 @@ fn list_tests<'a>(
     name: &'static str,
     tests: &'a [Test],
 ) -> Result<(), NoMemory>
-    ensures { OnOk result (walk.new ≡ added walk.old (tests_parts (member walk.old.at name.now) of_members 0 (tests_from tests.now))) }
+    ensures { OnOk result
+        (walk.new ≡ added walk.old
+        (tests_parts (member walk.old.at name.now) of_members 0 (tests_from tests.now))) }
 {
     for (i, test) in tests.iter().enumerate() {
         list_nth_test(walk, of_members, name, number(i)?, test)?;
@@ -94,7 +101,9 @@ fn list_nth_test<'a>(
     index: u32,
     test: &'a Test,
 ) -> Result<(), NoMemory>
-    ensures { OnOk result (walk.new ≡ added walk.old (test_parts (nth walk.old.at name.now index) of_members test.now)) }
+    ensures { OnOk result
+        (walk.new
+        ≡ added walk.old (test_parts (nth walk.old.at name.now index) of_members test.now)) }
 {
     walk.enter_nth(name, index)?;
     list_test(walk, of_members, test)?;
@@ -111,7 +120,9 @@ fn list_users<'a>(
     role: &'a Id,
     test: &'a Test,
 ) -> Result<(), NoMemory>
-    ensures { OnOk result (walk.new ≡ added walk.old (test_parts walk.old.at of_members (users_test role.now test.now))) }
+    ensures { OnOk result
+        (walk.new
+        ≡ added walk.old (test_parts walk.old.at of_members (users_test role.now test.now))) }
 {
     if of_members {
         walk.put(Level::A, What::LeftOut)?;

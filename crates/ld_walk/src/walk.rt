@@ -43,7 +43,8 @@ impl<'a> Model for Walk<'a> {
 impl<'a> Walk<'a> {
     /// A walk that stands before the first document.
     pub fn new(alloc: Global) -> Result<Walk<'a>, NoMemory>
-        ensures { IfOk result (λ walk. walk ≡ record { at = root file.Roles; back = []; parts = [] }) }
+        ensures { IfOk result
+            (λ walk. walk ≡ record { at = root file.Roles; back = []; parts = [] }) }
     {
         let mut places = Places::new(alloc);
         places.push(PlaceRow {
@@ -103,7 +104,9 @@ impl<'a> Walk<'a> {
 
     /// Lists what stands at this place.
     pub fn put(&mut self, level: Level, what: What<'a>) -> Result<(), NoMemory>
-        ensures { OnOk result (self.new ≡ added self.old (record { at = self.old.at; level = level; what = what_of what.entry } ∷ [])) }
+        ensures { OnOk result
+            (self.new ≡ added self.old
+            (record { at = self.old.at; level = level; what = what_of what.entry } ∷ [])) }
     {
         self.parts.push(PartRow {
             at: self.at,
@@ -120,7 +123,11 @@ impl<'a> Walk<'a> {
         level: Level,
         what: What<'a>,
     ) -> Result<(), NoMemory>
-        ensures { OnOk result (self.new ≡ added self.old (record { at = member self.old.at name.now; level = level; what = what_of what.entry } ∷ [])) }
+        ensures { OnOk result
+            (self.new
+            ≡ added self.old
+            (record { at = member self.old.at name.now; level = level; what = what_of what.entry }
+            ∷ [])) }
     {
         self.enter(name)?;
         self.put(level, what)?;

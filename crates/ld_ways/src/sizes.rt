@@ -22,7 +22,9 @@ pub fn expanded_sizes(
     edges: &[Vec<usize>],
 ) -> Result<Vec<u64>, NoMemory>
     requires { length own.now ≡ length edges.now }
-    ensures { IfOk result (λ sizes. sizes.items ≡ map (min 1000000) (expanded_sizes own.now (map (λ next. next.items) edges.now))) }
+    ensures { IfOk result
+        (λ sizes. sizes.items
+        ≡ map (min 1000000) (expanded_sizes own.now (map (λ next. next.items) edges.now))) }
 {
     let mut sizes = vec![in alloc; 0; edges.len()]?;
     for _ in 0..edges.len() {
@@ -43,7 +45,11 @@ fn next_sizes(
     sizes: &[u64],
 ) -> Result<Vec<u64>, NoMemory>
     requires { length own.now ≡ length edges.now }
-    ensures { IfOk result (λ after. (g : Graph) (k : ℕ) → g ≡ map (λ next. next.items) edges.now → sizes.now ≡ map (min 1000000) (map (expanded_within own.now g k) (numbers_below (length g))) → after.items ≡ map (min 1000000) (map (expanded_within own.now g (k + 1)) (numbers_below (length g)))) }
+    ensures { IfOk result (λ after. (g : Graph) (k : ℕ) → g ≡ map (λ next. next.items) edges.now
+        → sizes.now
+        ≡ map (min 1000000) (map (expanded_within own.now g k) (numbers_below (length g)))
+        → after.items
+        ≡ map (min 1000000) (map (expanded_within own.now g (k + 1)) (numbers_below (length g)))) }
 {
     let mut next = Vec::new(alloc);
     for node in 0..edges.len() {
@@ -54,7 +60,8 @@ fn next_sizes(
 
 /// A node's own size and those of the nodes to which it leads, or `GREATEST` where that is less.
 fn size_from(own: u64, next: &[usize], sizes: &[u64]) -> u64
-    ensures { result ≡ min 1000000 (own + sum_by (λ node. number_or_zero (slice_get sizes.now node)) next.now) }
+    ensures { result
+        ≡ min 1000000 (own + sum_by (λ node. number_or_zero (slice_get sizes.now node)) next.now) }
 {
     let mut sum = own.min(GREATEST);
     for node in next {

@@ -56,7 +56,8 @@ pub(crate) fn find_unit<'a>(units: &'a [Rc<PreparedUnit>], id: &Id) -> Option<&'
 
 /// The first of the units that has the identifier.
 fn first_named<'a>(units: &'a [Rc<PreparedUnit>], id: &Id) -> Option<&'a Rc<PreparedUnit>>
-    ensures { option_copied result ≡ find (λ unit. bytes_eq unit.value.identifier id.now) units.now }
+    ensures { option_copied result
+        ≡ find (λ unit. bytes_eq unit.value.identifier id.now) units.now }
 {
     units.iter().find(|unit| has_identifier(unit, id))
 }

@@ -1,4 +1,6 @@
 //! When a thing is completed, and what follows.
+#![tactic(auto, unfolding(crate::specs::Listing::completed_parts, crate::specs::Listing::completion_parts, crate::specs::Listing::ending_parts, crate::specs::Listing::follows_parts, crate::specs::Listing::on_completion_parts, crate::specs::Listing::value_set_parts))]
+
 ghost use Rattle.std.specs.Prelude.{◌≡◌, ◌∷◌, ◌++◌, [], codes, OnOk};
 ghost use Rattle.ld_walk.specs.ExpressionParts.{plain_part, test_parts};
 ghost use Rattle.ld_walk.specs.Parts.{Types, Tested};
@@ -22,27 +24,27 @@ use ld_walk::tests::list_test;
 use ld_walk::walk::Walk;
 
 /// Lists when a thing, or the unit, is completed, and what follows.
-#[tactic(auto, unfolding(crate::specs::Listing::ending_parts))]
 pub(crate) fn list_ending<'a>(
     walk: &mut Walk<'a>,
     thing: Kind,
     complete: &'a Option<Completion>,
     follows: &'a Option<OnCompletion>,
 ) -> Result<(), NoMemory>
-    ensures { OnOk result (walk.new ≡ added walk.old (ending_parts walk.old.at thing complete.now follows.now)) }
+    ensures { OnOk result
+        (walk.new ≡ added walk.old (ending_parts walk.old.at thing complete.now follows.now)) }
 {
     list_completion(walk, thing, complete)?;
     list_on_completion(walk, thing, complete.is_some(), follows)
 }
 
 /// Lists when a thing is completed, if it is said.
-#[tactic(auto, unfolding(crate::specs::Listing::completion_parts))]
 fn list_completion<'a>(
     walk: &mut Walk<'a>,
     thing: Kind,
     complete: &'a Option<Completion>,
 ) -> Result<(), NoMemory>
-    ensures { OnOk result (walk.new ≡ added walk.old (completion_parts walk.old.at thing complete.now)) }
+    ensures { OnOk result
+        (walk.new ≡ added walk.old (completion_parts walk.old.at thing complete.now)) }
 {
     let Some(complete) = complete else {
         return Ok(());
@@ -69,13 +71,13 @@ fn completion_level(complete: &Completion) -> Level
 }
 
 /// Lists what the completion of a thing refers to.
-#[tactic(auto, unfolding(crate::specs::Listing::completed_parts))]
 fn list_completed<'a>(
     walk: &mut Walk<'a>,
     thing: Kind,
     complete: &'a Completion,
 ) -> Result<(), NoMemory>
-    ensures { OnOk result (walk.new ≡ added walk.old (completed_parts walk.old.at thing complete.now)) }
+    ensures { OnOk result
+        (walk.new ≡ added walk.old (completed_parts walk.old.at thing complete.now)) }
 {
     match complete {
         Completion::WhenPropertyValueIsSet(property, value) => {
@@ -116,14 +118,16 @@ fn wanted_parts(thing: Kind) -> Wanted
 }
 
 /// Lists a property that is to have a value, and the text of that value.
-#[tactic(auto, unfolding(crate::specs::Listing::value_set_parts))]
 fn list_value_set<'a>(
     walk: &mut Walk<'a>,
     by_run: bool,
     property: &'a Id,
     value: &'a Option<PlainText>,
 ) -> Result<(), NoMemory>
-    ensures { OnOk result (walk.new ≡ added walk.old (value_set_parts (member walk.old.at (codes "when-property-value-is-set")) by_run property.now value.now)) }
+    ensures { OnOk result
+        (walk.new
+        ≡ added walk.old (value_set_parts (member walk.old.at (codes "when-property-value-is-set"))
+        by_run property.now value.now)) }
 {
     walk.enter("when-property-value-is-set")?;
     list_plain_leaf(walk, false)?;
@@ -136,7 +140,8 @@ fn list_value_set<'a>(
 
 /// Lists that the property is named for the run as a whole, where it is.
 fn list_of_run<'a>(walk: &mut Walk<'a>, by_run: bool, property: &'a Id) -> Result<(), NoMemory>
-    ensures { OnOk result (walk.new ≡ added walk.old (of_run_parts walk.old.at by_run property.now)) }
+    ensures { OnOk result
+        (walk.new ≡ added walk.old (of_run_parts walk.old.at by_run property.now)) }
 {
     if !by_run {
         return Ok(());
@@ -151,7 +156,8 @@ fn list_value<'a>(
     property: &'a Id,
     value: &'a Option<PlainText>,
 ) -> Result<(), NoMemory>
-    ensures { OnOk result (walk.new ≡ added walk.old (value_parts walk.old.at property.now value.now)) }
+    ensures { OnOk result
+        (walk.new ≡ added walk.old (value_parts walk.old.at property.now value.now)) }
 {
     match value {
         Some(text) => {
@@ -168,7 +174,11 @@ fn list_condition_true<'a>(
     role: &'a Id,
     test: &'a Test,
 ) -> Result<(), NoMemory>
-    ensures { OnOk result (walk.new ≡ added walk.old (condition_true_parts (member walk.old.at (codes "when-condition-true")) role.now test.now)) }
+    ensures { OnOk result
+        (walk.new
+        ≡ added walk.old
+        (condition_true_parts (member walk.old.at (codes "when-condition-true")) role.now
+        test.now)) }
 {
     walk.enter("when-condition-true")?;
     list_asked(walk, role, test)?;
@@ -178,7 +188,8 @@ fn list_condition_true<'a>(
 
 /// Lists a role, and the test that is asked of each of its members.
 fn list_asked<'a>(walk: &mut Walk<'a>, role: &'a Id, test: &'a Test) -> Result<(), NoMemory>
-    ensures { OnOk result (walk.new ≡ added walk.old (condition_true_parts walk.old.at role.now test.now)) }
+    ensures { OnOk result
+        (walk.new ≡ added walk.old (condition_true_parts walk.old.at role.now test.now)) }
 {
     list_reference(walk, "role", Wanted::Role, role)?;
     list_tested(walk, "expression", true, test)?;
@@ -192,7 +203,10 @@ pub(crate) fn list_tested<'a>(
     of_members: bool,
     test: &'a Test,
 ) -> Result<(), NoMemory>
-    ensures { OnOk result (walk.new ≡ added walk.old (plain_part (member walk.old.at name.now) (Types (Tested test.now)) ∷ test_parts (member walk.old.at name.now) of_members test.now)) }
+    ensures { OnOk result
+        (walk.new
+        ≡ added walk.old (plain_part (member walk.old.at name.now) (Types (Tested test.now))
+        ∷ test_parts (member walk.old.at name.now) of_members test.now)) }
 {
     walk.enter(name)?;
     walk.put(Level::A, What::Types(Typed::Tested(test)))?;
@@ -202,14 +216,14 @@ pub(crate) fn list_tested<'a>(
 }
 
 /// Lists what follows the completion of a thing, of which it is said, or not, when it is completed.
-#[tactic(auto, unfolding(crate::specs::Listing::on_completion_parts))]
 fn list_on_completion<'a>(
     walk: &mut Walk<'a>,
     thing: Kind,
     completes: bool,
     follows: &'a Option<OnCompletion>,
 ) -> Result<(), NoMemory>
-    ensures { OnOk result (walk.new ≡ added walk.old (on_completion_parts walk.old.at thing completes follows.now)) }
+    ensures { OnOk result
+        (walk.new ≡ added walk.old (on_completion_parts walk.old.at thing completes follows.now)) }
 {
     match follows {
         Some(follows) => {
@@ -223,14 +237,14 @@ fn list_on_completion<'a>(
 }
 
 /// Lists what follows: feedback, changes and notices.
-#[tactic(auto, unfolding(crate::specs::Listing::follows_parts))]
 fn list_follows<'a>(
     walk: &mut Walk<'a>,
     by_run: bool,
     completes: bool,
     follows: &'a OnCompletion,
 ) -> Result<(), NoMemory>
-    ensures { OnOk result (walk.new ≡ added walk.old (follows_parts walk.old.at by_run completes follows.now)) }
+    ensures { OnOk result
+        (walk.new ≡ added walk.old (follows_parts walk.old.at by_run completes follows.now)) }
 {
     walk.put(Level::A, What::Follows(completes))?;
     list_items(walk, "feedback", follows.feedback.as_slice())?;
@@ -247,7 +261,8 @@ fn list_level<'a, T>(
     level: Level,
     listed: &'a [T],
 ) -> Result<(), NoMemory>
-    ensures { OnOk result (walk.new ≡ added walk.old (list_level_parts walk.old.at name.now level listed.now)) }
+    ensures { OnOk result
+        (walk.new ≡ added walk.old (list_level_parts walk.old.at name.now level listed.now)) }
 {
     if listed.is_empty() {
         return Ok(());

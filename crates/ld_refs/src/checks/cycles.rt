@@ -1,4 +1,6 @@
 //! The check that no environment and no structure leads to itself by its references.
+#![tactic(auto, unfolding(crate::specs::Reaching::cycle_faults), using(ld_json::proofs::First::first_of_both))]
+
 ghost use Rattle.std.specs.Prelude.{◌≡◌, [], IfErr, IfOk, OnOk, codes, map, option_map};
 ghost use Rattle.ld_json.specs.Fault.{SaysFirst};
 ghost use Rattle.ld_refs.specs.Edges.{edges_of};
@@ -59,10 +61,11 @@ impl Drop for Graphs {
 
 /// That no environment reaches itself and no structure does. It gives the graphs for checks that
 /// follow. It takes time as the environments, structures and their references.
-#[tactic(auto, unfolding(crate::specs::Reaching::cycle_faults), using(ld_json::proofs::First::first_of_both))]
 pub(crate) fn check_cycles(alloc: Global, unit: &Unit, names: &Names) -> Result<Graphs, ReadFault>
-    ensures environments { IfOk result (λ graphs. edges_of graphs.environments.items ≡ environment_graph unit.now names.now) }
-    ensures structures { IfOk result (λ graphs. edges_of graphs.structures.items ≡ structure_graph unit.now names.now) }
+    ensures environments { IfOk result
+        (λ graphs. edges_of graphs.environments.items ≡ environment_graph unit.now names.now) }
+    ensures structures { IfOk result
+        (λ graphs. edges_of graphs.structures.items ≡ structure_graph unit.now names.now) }
     ensures faultless { OnOk result (cycle_faults unit.now names.now ≡ []) }
     ensures first { IfErr result (SaysFirst (cycle_faults unit.now names.now)) }
 {

@@ -27,7 +27,8 @@ pub(crate) trait PartCheck {
         what: What<'_>,
     ) -> Result<(), ReadFault>
         ensures faultless { OnOk result (faults self.now (part_seen at.now level what.entry) ≡ []) }
-        ensures first { IfErr result (SaysFirst (faults self.now (part_seen at.now level what.entry))) };
+        ensures first { IfErr result
+            (SaysFirst (faults self.now (part_seen at.now level what.entry))) };
 }
 
 /// That no part has a fault.

@@ -1,4 +1,6 @@
 //! The check of sizes: what the role-parts of a unit and the unit expand to.
+#![tactic(auto, unfolding(crate::specs::Extents::size_faults), using(ld_json::proofs::First::first_of_both))]
+
 ghost use Rattle.std.specs.Prelude.{◌≡◌, [], IfErr, OnOk, min, option_map, option_copied};
 ghost use Rattle.ld_json.specs.Fault.{SaysFirst};
 ghost use Rattle.ld_walk.specs.PartView.{what_of};
@@ -34,7 +36,6 @@ const UNIT_LIMIT: u64 = 200_000;
 
 /// That no role-part of the unit expands to more than its limit, nor the unit to more than its own,
 /// where these are the names, the graphs and the parts of the unit.
-#[tactic(auto, unfolding(crate::specs::Extents::size_faults))]
 pub(crate) fn check_extents(
     alloc: Global,
     unit: &Unit,
@@ -42,8 +43,10 @@ pub(crate) fn check_extents(
     graphs: &Graphs,
     listing: &Listing<'_>,
 ) -> Result<(), ReadFault>
-    requires environments { edges_of graphs.now.environments.items ≡ environment_graph unit.now names.now }
-    requires structures { edges_of graphs.now.structures.items ≡ structure_graph unit.now names.now }
+    requires environments { edges_of graphs.now.environments.items
+        ≡ environment_graph unit.now names.now }
+    requires structures { edges_of graphs.now.structures.items
+        ≡ structure_graph unit.now names.now }
     ensures faultless { OnOk result (size_faults unit.now names.now listing.now ≡ []) }
     ensures first { IfErr result (SaysFirst (size_faults unit.now names.now listing.now)) }
 {
@@ -67,9 +70,9 @@ struct Measure<'a> {
 
 impl<'a> Measure<'a> {
     /// That no role-part is too big, and the unit is not.
-    #[tactic(auto, using(ld_json::proofs::First::first_of_both))]
     fn check_all(&self, alloc: Global, listing: &Listing<'_>) -> Result<(), ReadFault>
-        ensures faultless { OnOk result (size_faults_with self.now.unit.now (sizes_by self.now.sizes.now)
+        ensures faultless { OnOk result
+            (size_faults_with self.now.unit.now (sizes_by self.now.sizes.now)
             self.now.names.now listing.now ≡ []) }
         ensures first { IfErr result (SaysFirst (size_faults_with self.now.unit.now
             (sizes_by self.now.sizes.now) self.now.names.now listing.now)) }

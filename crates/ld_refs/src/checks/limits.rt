@@ -1,4 +1,6 @@
 //! The checks of the limits on what a unit may have.
+#![tactic(auto, unfolding(crate::specs::Bounds::count_faults, crate::specs::Bounds::object_limit_faults), using(ld_json::proofs::First::first_of_both))]
+
 ghost use Rattle.std.specs.Prelude.{◌≡◌, ◌≤◌, [], IfErr, IfOk, OnOk, false, length};
 ghost use Rattle.ld_json.specs.Fault.{Says, SaysFirst};
 ghost use Rattle.ld_parts.specs.Listing.{method_at};
@@ -57,7 +59,6 @@ impl Counted {
 }
 
 /// That the objects keep to their limits.
-#[tactic(auto, unfolding(crate::specs::Bounds::object_limit_faults), using(ld_json::proofs::First::first_of_both))]
 pub(crate) fn check_objects(alloc: Global, listing: &Listing<'_>) -> Result<(), ReadFault>
     ensures faultless { OnOk result (object_limit_faults listing.now ≡ []) }
     ensures first { IfErr result (SaysFirst (object_limit_faults listing.now)) }
@@ -102,7 +103,6 @@ pub(crate) struct Counts {
 }
 
 /// That rules and leaves keep to their limits; the rules and the number of leaves.
-#[tactic(auto, unfolding(crate::specs::Bounds::count_faults), using(ld_json::proofs::First::first_of_both))]
 pub(crate) fn check_counts(alloc: Global, listing: &Listing<'_>) -> Result<Counts, ReadFault>
     ensures rules { IfOk result (λ counts. counts.rules.items ≡ rules_in listing.now) }
     ensures few_rules { IfOk result (λ counts. length counts.rules.items ≤ 600) }

@@ -93,7 +93,8 @@ fn note<'a>(
 /// That no two references of the list at the place are equal.
 fn check_list(alloc: Global, at: &Spot<'_>, ids: &[Id]) -> Result<(), ReadFault>
     ensures faultless { OnOk result (each_numbered (repeated_target at.now ids.now) ids.now ≡ []) }
-    ensures first { IfErr result (SaysFirst (each_numbered (repeated_target at.now ids.now) ids.now)) }
+    ensures first { IfErr result
+        (SaysFirst (each_numbered (repeated_target at.now ids.now) ids.now)) }
 {
     if ids.len() < 2 {
         return Ok(());

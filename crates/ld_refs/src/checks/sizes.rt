@@ -46,8 +46,10 @@ impl Sizes {
         names: &Names,
         graphs: &Graphs,
     ) -> Result<Sizes, NoMemory>
-        requires environments { edges_of graphs.now.environments.items ≡ environment_graph unit.now names.now }
-        requires structures { edges_of graphs.now.structures.items ≡ structure_graph unit.now names.now }
+        requires environments { edges_of graphs.now.environments.items
+            ≡ environment_graph unit.now names.now }
+        requires structures { edges_of graphs.now.structures.items
+            ≡ structure_graph unit.now names.now }
         ensures { IfOk result (λ sizes. sizes_by sizes ≡ capped (sizes_of unit.now names.now)) }
     {
         let own = own_environment_sizes(alloc, unit.environments.as_slice())?;
@@ -95,7 +97,9 @@ impl Sizes {
         names: &Names,
         activities: &[Activity],
     ) -> Result<Vec<u64>, NoMemory>
-        ensures { IfOk result (λ sizes. sizes.items ≡ map (min 1000000) (map (activity_size (sizes_by self.now) names.now) activities.now)) }
+        ensures { IfOk result
+            (λ sizes. sizes.items ≡ map (min 1000000)
+            (map (activity_size (sizes_by self.now) names.now) activities.now)) }
     {
         let mut sizes = Vec::new(alloc);
         for activity in activities {
@@ -120,7 +124,9 @@ impl Sizes {
         names: &Names,
         structures: &[Structure],
     ) -> Result<Vec<u64>, NoMemory>
-        ensures { IfOk result (λ own. own.items ≡ map (min 1000000) (map (own_structure_size (sizes_by self.now) names.now) structures.now)) }
+        ensures { IfOk result
+            (λ own. own.items ≡ map (min 1000000)
+            (map (own_structure_size (sizes_by self.now) names.now) structures.now)) }
     {
         let mut own = Vec::new(alloc);
         for structure in structures {
@@ -131,7 +137,8 @@ impl Sizes {
 
     /// The structure with its environments and the activities among its children.
     fn own_structure_size(&self, names: &Names, structure: &Structure) -> u64
-        ensures { result ≡ min 1000000 (own_structure_size (sizes_by self.now) names.now structure.now) }
+        ensures { result
+            ≡ min 1000000 (own_structure_size (sizes_by self.now) names.now structure.now) }
     {
         let size = self.add_named(names, 1, structure.environments.as_slice());
         self.add_named(names, size, structure.children.as_slice())
@@ -140,7 +147,8 @@ impl Sizes {
 
 /// What each environment has without those to which it refers.
 fn own_environment_sizes(alloc: Global, environments: &[Environment]) -> Result<Vec<u64>, NoMemory>
-    ensures { IfOk result (λ own. own.items ≡ map (min 1000000) (map own_environment_size environments.now)) }
+    ensures { IfOk result
+        (λ own. own.items ≡ map (min 1000000) (map own_environment_size environments.now)) }
 {
     let mut own = Vec::new(alloc);
     for environment in environments {

@@ -51,8 +51,10 @@ fn check_list(
     at: &Spot<'_>,
     ids: &[Id],
 ) -> Result<(), ReadFault>
-    ensures faultless { OnOk result (each_numbered (nth_target_fault names.now wanted at.now) ids.now ≡ []) }
-    ensures first { IfErr result (SaysFirst (each_numbered (nth_target_fault names.now wanted at.now) ids.now)) }
+    ensures faultless { OnOk result
+        (each_numbered (nth_target_fault names.now wanted at.now) ids.now ≡ []) }
+    ensures first { IfErr result
+        (SaysFirst (each_numbered (nth_target_fault names.now wanted at.now) ids.now)) }
 {
     for (i, id) in ids.iter().enumerate() {
         if let Some(code) = target_code(wanted, kind_of(names, id)) {

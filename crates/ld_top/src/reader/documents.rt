@@ -1,4 +1,6 @@
 //! The unit that the bytes of the six files stand for.
+#![tactic(auto, unfolding(crate::specs::Folder::docs_in, crate::specs::Folder::document_faults, crate::specs::Folder::json_faults, crate::specs::Folder::shape_faults, crate::specs::Folder::unit_of, crate::specs::Reading::content_faults, crate::specs::Reading::json_faults_of, ld_formats::specs::Units::unit, ld_refs::specs::Checks::check_faults), using(crate::proofs::Trees::no_tree, crate::proofs::Trees::tree_read, ld_json::proofs::First::first_of_both, ld_json::proofs::First::says_more))]
+
 ghost use Rattle.std.specs.Prelude.{◌≡◌, [], ◌∷◌, true, Some, IfOk, OnOk, IfErr};
 ghost use Rattle.ld_base.specs.Maybe.{◌>>=◌ as ◌then◌};
 ghost use Rattle.ld_json.specs.Fault.{SaysFirst};
@@ -23,7 +25,6 @@ use std::alloc::Global;
 
 /// The checked unit of these files, in their order, or the first fault of what they hold. Files and
 /// documents are let go of as soon as they are read.
-#[tactic(auto, unfolding(crate::specs::Reading::content_faults), using(ld_json::proofs::First::first_of_both))]
 pub(super) fn read_unit(alloc: Global, files: [Option<Bytes>; 6]) -> Result<Checked, ReadFault>
     ensures unit { IfOk result (λ checked. unit_of (docs_in (held_by files)) ≡ Some checked.unit) }
     ensures faultless { OnOk result (content_faults (held_by files) ≡ []) }
@@ -36,7 +37,6 @@ pub(super) fn read_unit(alloc: Global, files: [Option<Bytes>; 6]) -> Result<Chec
 }
 
 /// The documents in these files.
-#[tactic(auto, unfolding(crate::specs::Folder::docs_in, crate::specs::Folder::json_faults, crate::specs::Reading::json_faults_of), using(ld_json::proofs::First::first_of_both))]
 fn read_documents(alloc: Global, files: &[Option<Bytes>; 6]) -> Result<Docs, ReadFault>
     ensures docs { IfOk result (λ docs. docs ≡ docs_in (held_by files.now)) }
     ensures faultless { OnOk result (json_faults (held_by files.now) ≡ []) }
@@ -61,7 +61,6 @@ fn read_documents(alloc: Global, files: &[Option<Bytes>; 6]) -> Result<Docs, Rea
 }
 
 /// The documents in the last two of these files.
-#[tactic(auto, unfolding(crate::specs::Reading::json_faults_of), using(ld_json::proofs::First::first_of_both))]
 fn read_last_documents(
     alloc: Global,
     files: &[Option<Bytes>; 6],
@@ -81,7 +80,6 @@ fn read_last_documents(
 }
 
 /// The document in this file, if the file is there.
-#[tactic(auto, using(crate::proofs::Trees::tree_read, crate::proofs::Trees::no_tree))]
 fn read_document(
     alloc: Global,
     bytes: &Option<Bytes>,
@@ -104,7 +102,6 @@ fn read_document(
 }
 
 /// The checked unit of the documents.
-#[tactic(auto, unfolding(crate::specs::Folder::document_faults, ld_refs::specs::Checks::check_faults), using(ld_json::proofs::First::first_of_both))]
 fn checked_unit(alloc: Global, docs: Docs) -> Result<Checked, ReadFault>
     ensures unit { IfOk result (λ checked. unit_of docs ≡ Some checked.unit) }
     ensures faultless { OnOk result (document_faults docs ≡ []) }
@@ -116,7 +113,6 @@ fn checked_unit(alloc: Global, docs: Docs) -> Result<Checked, ReadFault>
 }
 
 /// The unit for which the documents stand.
-#[tactic(auto, unfolding(crate::specs::Folder::unit_of, crate::specs::Folder::shape_faults, ld_formats::specs::Units::unit), using(ld_json::proofs::First::says_more))]
 fn unit_in(alloc: Global, docs: Docs) -> Result<Unit, ReadFault>
     ensures unit { IfOk result (λ unit. unit_of docs ≡ Some unit) }
     ensures formed { IfOk result (λ unit. is_well_formed unit ≡ true) }

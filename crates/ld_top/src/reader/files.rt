@@ -1,4 +1,6 @@
 //! The files of a folder.
+#![tactic(auto, unfolding(crate::specs::Folder::presence_faults), using(ld_json::proofs::First::first_of_both))]
+
 ghost use Rattle.std.specs.Prelude.{◌≡◌, ◌≤◌, [], IfOk, OnOk, IfErr, map};
 ghost use Rattle.ld_base.specs.Outside.{Rose};
 ghost use Rattle.ld_top.specs.Folder.{all_files, held_in, is_required, presence_fault, presence_faults};
@@ -18,7 +20,6 @@ use std::alloc::Global;
 /// # Errors
 /// The first file that is too big or is wanting, `ShelfFault` only where the shelf's count of faults
 /// rose, and `NoMemory`. The files behind that are not asked for.
-#[tactic(auto, unfolding(crate::specs::Folder::presence_faults), using(ld_json::proofs::First::first_of_both))]
 pub(super) fn read_files<H: Shelf>(
     alloc: Global,
     shelf: &mut H,

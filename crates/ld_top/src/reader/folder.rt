@@ -1,4 +1,6 @@
 //! The checked unit that a folder of a shelf holds.
+#![tactic(auto, unfolding(crate::specs::Folder::folder_faults, crate::specs::Folder::unit_of_folder, crate::specs::Reading::content_faults), using(crate::proofs::FolderFiles::docs_of_folder, crate::proofs::FolderFiles::json_of_folder, ld_json::proofs::First::first_of_both))]
+
 ghost use Rattle.std.specs.Prelude.{◌≡◌, ◌≤◌, [], Some, IfOk, OnOk, IfErr};
 ghost use Rattle.ld_base.specs.Outside.{Rose};
 ghost use Rattle.ld_top.specs.Folder.{folder_faults, unit_of_folder};
@@ -19,7 +21,6 @@ use std::alloc::Global;
 /// # Errors
 /// `Refused` with the folder's first fault, `ShelfFault` only where the shelf's count of faults rose,
 /// and `NoMemory`.
-#[tactic(auto, unfolding(crate::specs::Folder::folder_faults, crate::specs::Folder::unit_of_folder, crate::specs::Reading::content_faults), using(ld_json::proofs::First::first_of_both, crate::proofs::FolderFiles::docs_of_folder, crate::proofs::FolderFiles::json_of_folder))]
 pub fn read_folder<H: Shelf>(
     alloc: Global,
     shelf: &mut H,

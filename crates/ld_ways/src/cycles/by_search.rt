@@ -41,7 +41,11 @@ fn one_step_more(
     end: usize,
     leading: &[bool],
 ) -> Result<Vec<bool>, NoMemory>
-    ensures { IfOk result (λ more. more.items ≡ map (λ next. list_any (λ c. nat_eq c end || unwrap_or (slice_get leading.now c) false) next.items) edges.now) }
+    ensures { IfOk result
+        (λ more. more.items
+        ≡ map
+        (λ next. list_any (λ c. nat_eq c end || unwrap_or (slice_get leading.now c) false)
+        next.items) edges.now) }
 {
     let mut more = Vec::with_capacity(alloc, edges.len())?;
     for next in edges {
@@ -52,7 +56,8 @@ fn one_step_more(
 
 /// Whether one of the nodes is the end or is told to lead there.
 fn any_leads(nodes: &[usize], end: usize, leading: &[bool]) -> bool
-    ensures { result ≡ list_any (λ c. nat_eq c end || unwrap_or (slice_get leading.now c) false) nodes.now }
+    ensures { result ≡ list_any (λ c. nat_eq c end || unwrap_or (slice_get leading.now c) false)
+        nodes.now }
 {
     nodes
         .iter()

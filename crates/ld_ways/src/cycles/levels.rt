@@ -8,7 +8,11 @@ use super::next_of;
 
 /// Whether no edge leads to a node with a greater label.
 pub(super) fn never_rise(labels: &[usize], edges: &[Vec<usize>]) -> bool
-    ensures { IsTrue result → (node : ℕ) → list_all (λ target. nat_le (unwrap_or (slice_get labels.now target) 0) (unwrap_or (slice_get labels.now node) 0)) (next_of (map (λ next. next.items) edges.now) node) ≡ true }
+    ensures { IsTrue result → (node : ℕ)
+        → list_all
+        (λ target. nat_le (unwrap_or (slice_get labels.now target) 0)
+        (unwrap_or (slice_get labels.now node) 0))
+        (next_of (map (λ next. next.items) edges.now) node) ≡ true }
 {
     for node in 0..edges.len() {
         if !falls_or_stays(labels, node, next_of(edges, node)) {
@@ -20,7 +24,9 @@ pub(super) fn never_rise(labels: &[usize], edges: &[Vec<usize>]) -> bool
 
 /// Whether none of the nodes has a greater label than this.
 fn falls_or_stays(labels: &[usize], node: usize, next: &[usize]) -> bool
-    ensures { result ≡ list_all (λ target. nat_le (unwrap_or (slice_get labels.now target) 0) (unwrap_or (slice_get labels.now node) 0)) next.now }
+    ensures { result
+        ≡ list_all (λ target. nat_le (unwrap_or (slice_get labels.now target) 0)
+        (unwrap_or (slice_get labels.now node) 0)) next.now }
 {
     next.iter().all(|target| label_of(labels, *target) <= label_of(labels, node))
 }
@@ -28,8 +34,18 @@ fn falls_or_stays(labels: &[usize], node: usize, next: &[usize]) -> bool
 /// The first node with an edge to one whose label is not less.
 pub(super) fn first_level(labels: &[usize], edges: &[Vec<usize>]) -> Option<usize>
     ensures within { IfSome result (λ first. first < length edges.now) }
-    ensures before { IfSome result (λ first. (node : ℕ) → node < first → list_any (λ target. nat_le (unwrap_or (slice_get labels.now node) 0) (unwrap_or (slice_get labels.now target) 0)) (next_of (map (λ next. next.items) edges.now) node) ≡ false) }
-    ensures none { IfNone result ((node : ℕ) → node < length edges.now → list_any (λ target. nat_le (unwrap_or (slice_get labels.now node) 0) (unwrap_or (slice_get labels.now target) 0)) (next_of (map (λ next. next.items) edges.now) node) ≡ false) }
+    ensures before { IfSome result
+        (λ first. (node : ℕ) → node < first
+        → list_any
+        (λ target. nat_le (unwrap_or (slice_get labels.now node) 0)
+        (unwrap_or (slice_get labels.now target) 0))
+        (next_of (map (λ next. next.items) edges.now) node) ≡ false) }
+    ensures none { IfNone result
+        ((node : ℕ) → node < length edges.now
+        → list_any
+        (λ target. nat_le (unwrap_or (slice_get labels.now node) 0)
+        (unwrap_or (slice_get labels.now target) 0))
+        (next_of (map (λ next. next.items) edges.now) node) ≡ false) }
 {
     for node in 0..edges.len() {
         if stays(labels, node, next_of(edges, node)) {
@@ -41,7 +57,9 @@ pub(super) fn first_level(labels: &[usize], edges: &[Vec<usize>]) -> Option<usiz
 
 /// Whether the label of one of the nodes is not less than this one's.
 fn stays(labels: &[usize], node: usize, next: &[usize]) -> bool
-    ensures { result ≡ list_any (λ target. nat_le (unwrap_or (slice_get labels.now node) 0) (unwrap_or (slice_get labels.now target) 0)) next.now }
+    ensures { result
+        ≡ list_any (λ target. nat_le (unwrap_or (slice_get labels.now node) 0)
+        (unwrap_or (slice_get labels.now target) 0)) next.now }
 {
     next.iter().any(|target| label_of(labels, node) <= label_of(labels, *target))
 }

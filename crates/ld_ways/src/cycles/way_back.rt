@@ -13,7 +13,8 @@ pub(super) fn leads_back(
     edges: &[Vec<usize>],
     start: usize,
 ) -> Result<bool, NoMemory>
-    ensures { IfOk result (λ back. IsTrue back → is_on_cycle (map (λ next. next.items) edges.now) start ≡ true) }
+    ensures { IfOk result
+        (λ back. IsTrue back → is_on_cycle (map (λ next. next.items) edges.now) start ≡ true) }
 {
     let mut seen = none_seen(alloc, edges.len())?;
     let mut reached = Vec::new(alloc);
@@ -34,7 +35,8 @@ pub(super) fn leads_back(
 /// Puts those of the nodes that were not seen behind those that are reached. An error may leave some
 /// of them there.
 fn reach(next: &[usize], seen: &mut [bool], reached: &mut Vec<usize>) -> Result<(), NoMemory>
-    ensures { (test : ℕ → Bool) → list_all test reached.old.items ≡ true → list_all test next.now ≡ true → list_all test reached.new.items ≡ true }
+    ensures { (test : ℕ → Bool) → list_all test reached.old.items ≡ true → list_all test next.now
+        ≡ true → list_all test reached.new.items ≡ true }
 {
     for node in next {
         if see(seen, *node) {
