@@ -12,6 +12,7 @@ mod integer;
 pub mod kind;
 pub mod limits;
 pub mod moment;
+mod moment_parts;
 pub mod print;
 pub mod read;
 pub mod value;

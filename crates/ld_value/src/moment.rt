@@ -1,13 +1,12 @@
 //! Moments of the calendar, in UTC.
-#![tactic(auto, unfolding(crate::specs::Calendar::has_moment_form, crate::specs::Calendar::moment_of, crate::specs::Calendar::named_day, crate::specs::Calendar::named_second, crate::specs::Calendar::second_of))]
+#![tactic(auto, unfolding(crate::specs::Calendar::moment_of))]
 
-ghost use Rattle.std.specs.Prelude.{◌≡◌, ◌+◌, ◌/◌, ◌%◌, ◌<◌, ◌≤◌, ◌^◌, IsTrue, Some, IfSome, option_map, take, drop, replicate};
+ghost use Rattle.std.specs.Prelude.{◌≡◌, ◌/◌, ◌%◌, IsTrue, Some, IfSome, option_map};
 ghost use Rattle.std.specs.Str.{IsAscii};
-ghost use Rattle.jiff_core.specs.Calendar.{IsEpochDay};
-ghost use Rattle.ld_value.specs.Calendar.{moment_of, text_of_moment, moment_text, IsMoment, IsDay, year_of, month_of, day_of_month, has_moment_form, moment_pattern, part as spec_part, follows as spec_follows, stands_for as spec_stands_for, day_of, second_of, named_day, named_second};
+ghost use Rattle.ld_value.specs.Calendar.{moment_of, text_of_moment, moment_text, IsMoment, IsDay, year_of, month_of, day_of_month, has_moment_form};
 
-use crate::digits::{four_digits, number, two_digits};
-use jiff::civil::Date;
+use crate::digits::{four_digits, two_digits};
+use crate::moment_parts::{has_form, read_day, read_second};
 use jiff_core::civil;
 
 /// A moment: seconds since 1970-01-01T00:00:00Z, negative before it.
@@ -87,101 +86,4 @@ fn year_month_day(day: i64) -> (u64, u64, u64)
         u64::from(date.month),
         u64::from(date.day),
     )
-}
-
-/// Whether the bytes have the form of a moment's text.
-fn has_form(bytes: &[u8]) -> bool
-    ensures { result ≡ has_moment_form bytes.now }
-{
-    follows(b"0000-00-00T00:00:00Z", bytes)
-}
-
-/// Whether the bytes follow the pattern, in which `0` stands for any digit.
-fn follows(pattern: &[u8], bytes: &[u8]) -> bool
-    ensures { result ≡ spec_follows pattern.now bytes.now }
-{
-    if bytes.len() != pattern.len() {
-        return false;
-    }
-    for i in 0..pattern.len() {
-        if !stands_for(pattern[i], bytes[i]) {
-            return false;
-        }
-    }
-    true
-}
-
-/// Whether the byte of a pattern stands for this byte.
-fn stands_for(pattern: u8, byte: u8) -> bool
-    ensures { result ≡ spec_stands_for pattern byte }
-{
-    if pattern == b'0' {
-        return byte.is_ascii_digit();
-    }
-    byte == pattern
-}
-
-/// The number of the day that a moment's text names, counted from 1970-01-01.
-fn read_day(bytes: &[u8]) -> Option<i64>
-    requires { IsTrue (has_moment_form bytes.now) }
-    ensures value { result ≡ named_day bytes.now }
-    ensures bound { IfSome result IsEpochDay }
-{
-    let year = part(bytes, 0, 4);
-    let month = part(bytes, 5, 2);
-    let day = part(bytes, 8, 2);
-    day_number(year, month, day)
-}
-
-/// The second of the day that a moment's text names.
-fn read_second(bytes: &[u8]) -> Option<u32>
-    requires { IsTrue (has_moment_form bytes.now) }
-    ensures value { result ≡ named_second bytes.now }
-    ensures bound { IfSome result (λ s. s < 86400) }
-{
-    let hour = part(bytes, 11, 2);
-    let minute = part(bytes, 14, 2);
-    let second = part(bytes, 17, 2);
-    second_number(hour, minute, second)
-}
-
-/// The number that a moment's text writes in `count` digits from the place `from` on.
-fn part(bytes: &[u8], from: usize, count: usize) -> u64
-    requires form { IsTrue (has_moment_form bytes.now) }
-    requires digits { take count (drop from moment_pattern) ≡ replicate count 48 }
-    requires within { from + count ≤ 20 }
-    requires short { count ≤ 19 }
-    ensures value { result ≡ spec_part from count bytes.now }
-    ensures bound { result < 10 ^ count }
-{
-    number(&bytes[from..from + count])
-}
-
-/// The second of the day; None where there is no such time of day.
-fn second_number(hour: u64, minute: u64, second: u64) -> Option<u32>
-    ensures value { result ≡ second_of hour minute second }
-    ensures bound { IfSome result (λ s. s < 86400) }
-{
-    if hour > 23 || minute > 59 || second > 59 {
-        return None;
-    }
-    Some((3_600 * hour + 60 * minute + second) as u32)
-}
-
-/// The number of the day, counted from 1970-01-01; None where there is no such day in the years from
-/// 1 to 9999.
-fn day_number(year: u64, month: u64, day: u64) -> Option<i64>
-    requires year { year < 10000 }
-    requires month { month < 100 }
-    requires day { day < 100 }
-    ensures value { result ≡ day_of year month day }
-    ensures bound { IfSome result IsEpochDay }
-{
-    if year == 0 {
-        return None;
-    }
-    let Ok(date) = Date::new(year as i16, month as i8, day as i8) else {
-        return None;
-    };
-    Some(i64::from(date.to_plain().to_unix_epoch_day()))
 }

@@ -1,6 +1,6 @@
 use Rattle.std.proofs.Common.{arith}
 use Rattle.ld_value.proofs.Dates.{no_year_zero, no_day_cast, the_day_cast, day_number_casts}
-use Rattle.ld_value.proofs.moment.day_number.Goals as goal
+use Rattle.ld_value.proofs.moment_parts.day_number.Goals as goal
 
 pub returns-then-year-eq0-clause-value : goal.returns-then-year-eq0-clause-value
 returns-then-year-eq0-clause-value c = no_year_zero _ _ _ c.if-year-eq0.true

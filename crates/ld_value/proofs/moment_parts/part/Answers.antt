@@ -1,6 +1,6 @@
 use Rattle.std.proofs.Common.{◌≡◌, ◌+◌, ◌-◌, length, take, drop, arith, length-take, length-drop}
 use Rattle.ld_value.proofs.Pattern.{digits_of_moment, length-moment}
-use Rattle.ld_value.proofs.moment.part.Goals as goal
+use Rattle.ld_value.proofs.moment_parts.part.Goals as goal
 
 pub slice_bounds-number-end : goal.slice_bounds-number-end
 slice_bounds-number-end c = omega (arith, length-moment c.args.bytes.now c.requires.form)
