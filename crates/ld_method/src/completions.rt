@@ -5,7 +5,7 @@ ghost use Rattle.ld_formats.specs.Completions.{act_completion, play_completion, 
 ghost use Rattle.ld_json.specs.Access.{IsObject};
 ghost use Rattle.ld_shape.specs.Reading.{Answers};
 
-use crate::tests::MembersTest;
+use crate::test_forms::MembersTest;
 use ld_json::fault::ReadFault;
 use ld_json::node::Node;
 use ld_model::completion::{Completion, OnCompletion};

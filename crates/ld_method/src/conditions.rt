@@ -3,7 +3,7 @@
 
 ghost use Rattle.ld_formats.specs.Conditions.{action, condition, conditions_document};
 
-use crate::tests::TestShape;
+use crate::test_forms::TestShape;
 use ld_json::code::Code;
 use ld_json::fault::ReadFault;
 use ld_json::node::Node;

@@ -5,6 +5,6 @@
 pub mod completions;
 pub mod conditions;
 pub mod method;
-pub mod tests;
+pub mod test_forms;
 pub mod unit;
 pub mod whole;

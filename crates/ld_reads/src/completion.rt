@@ -12,7 +12,7 @@ ghost use Rattle.ld_reads.specs.Gathering.{FallsShort, Gathers};
 use crate::marks::{read_mark, read_marks};
 use crate::reader::Reader;
 use crate::terms::read_property;
-use crate::tests::read_users;
+use crate::test_reads::read_users;
 use ld_base::id::Id;
 use ld_base::memory::NoMemory;
 use ld_base::steps::Steps;

@@ -10,4 +10,4 @@ mod person_rules;
 mod reader;
 pub mod reads;
 mod terms;
-mod tests;
+mod test_reads;

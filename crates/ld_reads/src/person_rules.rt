@@ -11,7 +11,7 @@ ghost use Rattle.ld_reads.specs.Gathering.{FallsShort, Gathers};
 use crate::completion::read_completion;
 use crate::marks::read_marks;
 use crate::reader::Reader;
-use crate::tests::read_test;
+use crate::test_reads::read_test;
 use ld_base::memory::NoMemory;
 use ld_base::numbers::{PersonNo, RoleNo};
 use ld_base::steps::Steps;

@@ -5,6 +5,6 @@
 pub(crate) mod literals;
 pub(crate) mod properties;
 pub(crate) mod terms;
-pub(crate) mod tests;
+pub(crate) mod test_types;
 pub(crate) mod types;
 pub mod typing;

@@ -10,5 +10,5 @@ pub mod place;
 pub mod places;
 pub mod spot;
 pub mod terms;
-pub mod tests;
+pub mod test_parts;
 pub mod walk;

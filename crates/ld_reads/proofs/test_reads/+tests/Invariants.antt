@@ -8,7 +8,7 @@ use Rattle.ld_expr.specs.Seen.{everyone}
 use Rattle.ld_state.specs.RunState.{seen_in}
 use Rattle.ld_state.specs.StateView.{run_of}
 use Rattle.ld_reads.proofs.Gathered.{Remaining, of_members}
-use Rattle.ld_reads.proofs.tests.+tests.Given as goal
+use Rattle.ld_reads.proofs.test_reads.+tests.Given as goal
 
 abbrev pub invariant-read_tests-loop-test : goal.invariant-read_tests-loop-test
 invariant-read_tests-loop-test g l =

@@ -7,7 +7,7 @@ use Rattle.ld_json.proofs.First.{says_more}
 use Rattle.ld_json.specs.Access.{item_nodes}
 use Rattle.ld_shape.proofs.Depths.{depth-get, depth-at}
 use Rattle.ld_shape.proofs.Passing.{pass_faults, pass_value, stop_at}
-use Rattle.ld_method.proofs.tests.+tests.Goals as goal
+use Rattle.ld_method.proofs.test_forms.+tests.Goals as goal
 
 pub read_test-returns : goal.read_test-returns
 read_test-returns t c = rw (test_is c.args.node.now) c.read_one.ensures

@@ -3,7 +3,7 @@ use Rattle.ld_model.specs.Expressions.{tests_from, test_size, tests_size}
 use Rattle.ld_walk.specs.ExpressionParts.{tests_parts}
 use Rattle.ld_walk.specs.Places.{member}
 use Rattle.ld_walk.specs.Walks.{added}
-use Rattle.ld_walk.proofs.tests.+tests.Given as goal
+use Rattle.ld_walk.proofs.test_parts.+tests.Given as goal
 
 abbrev pub invariant-list_tests-loop-i : goal.invariant-list_tests-loop-i
 invariant-list_tests-loop-i l = added l.walk (tests_parts (member l.fn.walk.at l.name) l.of_members l.i (tests_from (drop l.i l.tests))) ≡ added l.fn.walk (tests_parts (member l.fn.walk.at l.name) l.of_members 0 (tests_from l.tests))

@@ -1,4 +1,4 @@
-//! Tests.
+//! The parts of tests.
 ghost use Rattle.std.specs.Prelude.{◌≡◌, ◌∷◌, ◌++◌, [], not, OnOk};
 ghost use Rattle.ld_model.specs.Expressions.{tests_from, users_test};
 ghost use Rattle.ld_walk.specs.ExpressionParts.{term_parts, test_parts, tests_parts, reads_clock, within_members};

@@ -1,6 +1,6 @@
 use Rattle.std.proofs.Common.{arith}
 use Rattle.ld_walk.proofs.ExpressionSizes.{test_within}
-use Rattle.ld_walk.proofs.tests.+tests.Goals as goal
+use Rattle.ld_walk.proofs.test_parts.+tests.Goals as goal
 
 pub list_tests-list_nth_test-requires : goal.list_tests-list_nth_test-requires
 list_tests-list_nth_test-requires t c =

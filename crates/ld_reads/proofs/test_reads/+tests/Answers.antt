@@ -13,7 +13,7 @@ use Rattle.ld_state.specs.StateView.{run_of}
 use Rattle.ld_reads.specs.Gathering.{FallsShort, Gathers, cells_if}
 use Rattle.ld_reads.proofs.Gathered.{falls_short, gathers_both, gathers_on, members_counted, next_member, of_members, range_counted, short_first, short_then}
 use Rattle.ld_reads.proofs.Reading.{on_err, on_ok, so_err, tests_counted, users_within}
-use Rattle.ld_reads.proofs.tests.+tests.Goals as goal
+use Rattle.ld_reads.proofs.test_reads.+tests.Goals as goal
 
 -- ---- a member after another
 

@@ -1,4 +1,4 @@
-//! Tests.
+//! The readers of tests.
 #![tactic(auto, unfolding(ld_formats::specs::Tests::of_members), using(ld_json::proofs::First::says_more))]
 
 ghost use Rattle.std.specs.Prelude.{◌≡◌, IfOk, IfErr, codes};
