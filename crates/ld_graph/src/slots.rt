@@ -109,8 +109,8 @@ impl SlotList {
         self.slots.as_slice()
     }
 
-    /// Whether the slot is in the list.
-    fn contains(&self, slot: u32) -> bool
+    /// Whether the slot is in the list: it looks at those of one bucket alone.
+    pub fn contains(&self, slot: u32) -> bool
         ensures yes { result ≡ true → Contains self.now.items slot }
         ensures no { result ≡ false → Contains self.now.items slot → ⊥ }
     {

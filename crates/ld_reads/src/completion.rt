@@ -45,13 +45,13 @@ pub(crate) fn read_completion<L: Ledger>(
         (completing_of about.entry) completion.now) }
 {
     match completion {
-        Some(completion) => read_rule(reader, about, completion, list, steps),
+        Some(completion) => read_completion_rule(reader, about, completion, list, steps),
         None => Ok(()),
     }
 }
 
 /// Gathers what is read to know whether the completion rule holds.
-fn read_rule<L: Ledger>(
+fn read_completion_rule<L: Ledger>(
     reader: &Reader<'_>,
     about: Completing<'_>,
     completion: &Completion,

@@ -110,7 +110,7 @@ fn read_part<L: Ledger>(
     ensures cost { steps.new ≤ steps.old + length (part_looks reader.now.unit.now
         (seen_in reader.now.unit.now (run_of reader.now.state.now)) act.now part.now) }
 {
-    read_opened(reader, act, list)?;
+    read_opened_act(reader, act, list)?;
     read_members(reader, &part.role, list)?;
     read_target(reader, part, list, steps)
 }
@@ -156,7 +156,7 @@ fn read_act<L: Ledger>(
     ensures cost { steps.new ≤ steps.old + length (act_looks reader.now.unit.now
         (seen_in reader.now.unit.now (run_of reader.now.state.now)) act.now) }
 {
-    read_opened(reader, act, list)?;
+    read_opened_act(reader, act, list)?;
     read_completion(
         reader,
         completing_act(reader, act),
@@ -224,7 +224,7 @@ fn read_unit<L: Ledger>(
 }
 
 /// Gathers what is read to know whether the act is opened.
-fn read_opened(reader: &Reader<'_>, act: &Act, list: &mut SlotList) -> Result<(), NoMemory>
+fn read_opened_act(reader: &Reader<'_>, act: &Act, list: &mut SlotList) -> Result<(), NoMemory>
     ensures gathers { OnOk result (Gathers reader.now.unit.now (run_of reader.now.state.now)
         (cell_list (opening_cell reader.now.unit.now act.now)) list.old list.new) }
     ensures short { OnErr result (FallsShort reader.now.unit.now (run_of reader.now.state.now)

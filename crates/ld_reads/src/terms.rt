@@ -59,7 +59,7 @@ pub(crate) fn read_term(
         TermForm::Subtract(a, b) => read_both(reader, owner, a, b, list),
         TermForm::Divide(a, b) => read_both(reader, owner, a, b, list),
         TermForm::CurrentDatetime => reader.put(CellName::Now, list),
-        TermForm::DatetimeActivityStarted(id) => read_opened(reader, owner, id, list),
+        TermForm::DatetimeActivityStarted(id) => read_opening(reader, owner, id, list),
         TermForm::TimeUnitOfLearningStarted => reader.put(CellName::Started, list),
     }
 }
@@ -106,7 +106,7 @@ pub(crate) fn read_both(
 }
 
 /// Gathers what is read for the moment at which the owner opened the thing.
-fn read_opened(
+fn read_opening(
     reader: &Reader<'_>,
     owner: Owner,
     id: &Id,

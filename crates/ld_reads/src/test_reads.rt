@@ -157,14 +157,14 @@ fn read_for_members<L: Ledger>(
         (members (seen_in reader.now.unit.now (run_of reader.now.state.now)) role.0))) }
 {
     for number in 0..reader.persons() {
-        read_for_person(reader, role, PersonNo(number), test, list, steps)?;
+        read_for_member(reader, role, PersonNo(number), test, list, steps)?;
     }
     Ok(())
 }
 
 /// Gathers what the test reads for the person, if the person is a member of the role.
 #[cycle(tests)]
-fn read_for_person<L: Ledger>(
+fn read_for_member<L: Ledger>(
     reader: &Reader<'_>,
     role: RoleNo,
     person: PersonNo,

@@ -153,6 +153,7 @@ fn slots_stand_once_in_their_order(rt: HostRuntime) -> Result<(), Fail> {
     assert_eq!(rt; list.len(), 3);
     assert_eq!(rt; list.get(2), Some(&9));
     assert_eq!(rt; list.get(3), None);
+    assert!(rt; list.contains(9) && !list.contains(6));
     list.clear();
     assert_eq!(rt; list.len(), 0);
     put(&mut list, 9);

@@ -8,15 +8,15 @@ use Rattle.ld_reads.proofs.Gathered.{gathers_both, short_first, short_then}
 use Rattle.ld_reads.proofs.Reading.{on_err, on_ok, so_err}
 use Rattle.ld_reads.proofs.method_rules.read_part.Goals as goal
 
-pub returns-in_err-read_opened-clause-short : goal.returns-in_err-read_opened-clause-short
-returns-in_err-read_opened-clause-short g c =
+pub returns-in_err-read_opened_act-clause-short : goal.returns-in_err-read_opened_act-clause-short
+returns-in_err-read_opened_act-clause-short g c =
     let unit = c.args.reader.now.unit.now in
     let run = run_of c.args.reader.now.state.now in
     let part = c.args.part.now in
     so_err c.from_residual.result
     (short_first unit run (cell_list (opening_cell unit c.args.act.now))
     (members_looks unit (seen_in unit run) part.role ++ target_looks unit (seen_in unit run) part)
-    c.args.list.now c.in_err-read_opened.ensures.short)
+    c.args.list.now c.in_err-read_opened_act.ensures.short)
 
 pub returns-in_err-read_members-clause-short : goal.returns-in_err-read_members-clause-short
 returns-in_err-read_members-clause-short g c =
@@ -27,15 +27,15 @@ returns-in_err-read_members-clause-short g c =
     let target = target_looks unit (seen_in unit run) part in
     so_err c.from_residual-in_err-read_members.result
     (short_then unit run (cell_list (opening_cell unit c.args.act.now)) (members ++ target)
-    c.args.list.now c.read_opened.new.list c.in_ok-read_opened.ensures.gathers
-    (short_first unit run members target c.read_opened.new.list c.in_err-read_members.ensures.short))
+    c.args.list.now c.read_opened_act.new.list c.in_ok-read_opened_act.ensures.gathers
+    (short_first unit run members target c.read_opened_act.new.list c.in_err-read_members.ensures.short))
 
 pub returns-clause-gathers : goal.returns-clause-gathers
 returns-clause-gathers g c =
     let unit = c.args.reader.now.unit.now in
     let run = run_of c.args.reader.now.state.now in
     on_ok c.read_target.result
-    (λ third. gathers_both unit run c.in_ok-read_opened.ensures.gathers
+    (λ third. gathers_both unit run c.in_ok-read_opened_act.ensures.gathers
     (gathers_both unit run c.in_ok-read_members.ensures.gathers third))
     c.read_target.ensures.gathers
 
@@ -48,8 +48,8 @@ returns-clause-short g c =
     let target = target_looks unit (seen_in unit run) part in
     on_err c.read_target.result
     (λ third. short_then unit run (cell_list (opening_cell unit c.args.act.now)) (members ++ target)
-    c.args.list.now c.read_opened.new.list c.in_ok-read_opened.ensures.gathers
-    (short_then unit run members target c.read_opened.new.list c.read_members.new.list
+    c.args.list.now c.read_opened_act.new.list c.in_ok-read_opened_act.ensures.gathers
+    (short_then unit run members target c.read_opened_act.new.list c.read_members.new.list
     c.in_ok-read_members.ensures.gathers third))
     c.read_target.ensures.short
 

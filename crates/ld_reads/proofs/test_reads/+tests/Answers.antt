@@ -17,8 +17,8 @@ use Rattle.ld_reads.proofs.test_reads.+tests.Goals as goal
 
 -- ---- a member after another
 
-pub read_for_members-returns-in_err-read_for_person-clause-short : goal.read_for_members-returns-in_err-read_for_person-clause-short
-read_for_members-returns-in_err-read_for_person-clause-short g t c =
+pub read_for_members-returns-in_err-read_for_member-clause-short : goal.read_for_members-returns-in_err-read_for_member-clause-short
+read_for_members-returns-in_err-read_for_member-clause-short g t c =
     let unit = c.args.reader.now.unit.now in
     let seen = seen_in unit (run_of c.args.reader.now.state.now) in
     let looks : ℕ → List CellName = λ p. test_looks unit seen (of_person p) c.args.test.now in
@@ -27,10 +27,10 @@ read_for_members-returns-in_err-read_for_person-clause-short g t c =
     let end = c.persons-number-end.result in
     so_err c.from_residual.result
     (falls_short (cells_if (member i) (looks i)) (of_members looks member (range_with_len (i + 1) (end - (i + 1)))) c.loop-number.invariant.0
-    (next_member looks member i end c.loop-number-test.true) c.in_err-read_for_person.ensures.short)
+    (next_member looks member i end c.loop-number-test.true) c.in_err-read_for_member.ensures.short)
 
-pub read_for_members-returns-in_err-read_for_person-clause-cost : goal.read_for_members-returns-in_err-read_for_person-clause-cost
-read_for_members-returns-in_err-read_for_person-clause-cost g t c =
+pub read_for_members-returns-in_err-read_for_member-clause-cost : goal.read_for_members-returns-in_err-read_for_member-clause-cost
+read_for_members-returns-in_err-read_for_member-clause-cost g t c =
     let unit = c.args.reader.now.unit.now in
     let seen = seen_in unit (run_of c.args.reader.now.state.now) in
     let looks : ℕ → List CellName = λ p. test_looks unit seen (of_person p) c.args.test.now in
@@ -39,7 +39,7 @@ read_for_members-returns-in_err-read_for_person-clause-cost g t c =
     let end = c.persons-number-end.result in
     let persons = range_counted i end c.loop-number-test.true in
     let cells = members_counted looks member i end c.loop-number-test.true in
-    omega (arith, persons, cells, c.read_for_person.ensures.cost, c.loop-number.invariant.1)
+    omega (arith, persons, cells, c.read_for_member.ensures.cost, c.loop-number.invariant.1)
 
 pub read_for_members-loop-number-preserved : goal.read_for_members-loop-number-preserved
 read_for_members-loop-number-preserved g t c =
@@ -52,12 +52,12 @@ read_for_members-loop-number-preserved g t c =
     let persons = range_counted i end c.loop-number-test.true in
     let cells = members_counted looks member i end c.loop-number-test.true in (
       gathers_on (cells_if (member i) (looks i)) (of_members looks member (range_with_len (i + 1) (end - (i + 1)))) c.loop-number.invariant.0
-          (next_member looks member i end c.loop-number-test.true) c.in_ok-read_for_person.ensures.gathers,
-      omega (arith, persons, cells, c.read_for_person.ensures.cost, c.loop-number.invariant.1),
+          (next_member looks member i end c.loop-number-test.true) c.in_ok-read_for_member.ensures.gathers,
+      omega (arith, persons, cells, c.read_for_member.ensures.cost, c.loop-number.invariant.1),
     )
 
-pub read_for_person-returns-clause-gathers : goal.read_for_person-returns-clause-gathers
-read_for_person-returns-clause-gathers g t c =
+pub read_for_member-returns-clause-gathers : goal.read_for_member-returns-clause-gathers
+read_for_member-returns-clause-gathers g t c =
     let unit = c.args.reader.now.unit.now in
     let run = run_of c.args.reader.now.state.now in
     let seen = seen_in unit run in
@@ -67,8 +67,8 @@ read_for_person-returns-clause-gathers g t c =
     (λ (member : Bool). OnOk c.read_test.result (Gathers unit run (cells_if member cells) c.args.list.now c.read_test.new.list))
     so c.read_test.ensures.gathers
 
-pub read_for_person-returns-clause-short : goal.read_for_person-returns-clause-short
-read_for_person-returns-clause-short g t c =
+pub read_for_member-returns-clause-short : goal.read_for_member-returns-clause-short
+read_for_member-returns-clause-short g t c =
     let unit = c.args.reader.now.unit.now in
     let run = run_of c.args.reader.now.state.now in
     let seen = seen_in unit run in

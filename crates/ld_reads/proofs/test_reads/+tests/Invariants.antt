@@ -34,8 +34,8 @@ decreases-read_test g l = 5 * test_size l.test.now
 abbrev pub decreases-read_tests : goal.decreases-read_tests
 decreases-read_tests g l = 5 * tests_size (tests_from l.tests.now) + 1
 
-abbrev pub decreases-read_for_person : goal.decreases-read_for_person
-decreases-read_for_person g l = 5 * test_size l.test.now + 1
+abbrev pub decreases-read_for_member : goal.decreases-read_for_member
+decreases-read_for_member g l = 5 * test_size l.test.now + 1
 
 abbrev pub decreases-read_for_members : goal.decreases-read_for_members
 decreases-read_for_members g l = 5 * test_size l.test.now + 2

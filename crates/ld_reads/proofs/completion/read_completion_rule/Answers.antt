@@ -1,4 +1,4 @@
-use Rattle.ld_reads.proofs.completion.read_rule.Goals as goal
+use Rattle.ld_reads.proofs.completion.read_completion_rule.Goals as goal
 
 pub returns-in-WhenConditionTrue-clause-gathers : goal.returns-in-WhenConditionTrue-clause-gathers
 returns-in-WhenConditionTrue-clause-gathers g c = rw (c.in-WhenConditionTrue.is) c.read_users.ensures.gathers
