@@ -15,5 +15,5 @@ abbrev pub is_named : List ℕ → List ℕ → File → Bool
 is_named folder name file = bytes_eq file.folder.bytes folder && bytes_eq file.file.bytes name
 
 -- The files as a map: the bytes of the first one in that folder and of that name.
-abbrev pub first_of : List File → Files
-first_of files folder name = option_map (λ file. file.bytes) (find (is_named folder name) files)
+abbrev pub map_of_files : List File → Files
+map_of_files files folder name = option_map (λ file. file.bytes) (find (is_named folder name) files)

@@ -5,3 +5,4 @@ pub mod Maybe
 pub mod Calls
 pub mod Files
 pub mod Memory
+pub mod Numbers

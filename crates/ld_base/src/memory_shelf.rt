@@ -3,7 +3,7 @@ ghost use Rattle.std.specs.Prelude.{◌≡◌, ◌≤◌, List, Option, Some, If
 ghost use Rattle.std.specs.List.{find};
 ghost use Rattle.ld_base.specs.Calls.{CallState, next_is_listed, after_call};
 ghost use Rattle.ld_base.specs.Outside.{Rose, HasThere, HasOver};
-ghost use Rattle.ld_base.specs.Files.{ShelfState, first_of, is_named};
+ghost use Rattle.ld_base.specs.Files.{ShelfState, map_of_files, is_named};
 
 use crate::bytes::CallList;
 use crate::calls::Calls;
@@ -39,7 +39,7 @@ impl MemoryShelf {
 }
 
 impl Shelf for MemoryShelf {
-    ghost files = { λ s. Some (first_of s.files) };
+    ghost files = { λ s. Some (map_of_files s.files) };
 
     ghost faults = { λ s. s.calls.faults };
 
@@ -55,19 +55,19 @@ impl Shelf for MemoryShelf {
         file: &str,
     ) -> Result<Option<Vec<u8>>, ShelfRefusal>
         ensures some { IfOk result
-            (λ found. IfSome found (λ bytes. HasThere (Some (first_of self.old.files)) folder.now
+            (λ found. IfSome found (λ bytes. HasThere (Some (map_of_files self.old.files)) folder.now
             file.now (Some bytes.items))) }
         ensures within { IfOk result
             (λ found. IfSome found (λ bytes. length bytes.items ≤ FILE_LIMIT)) }
         ensures none { IfOk result
             (λ found. IfNone found
-            (HasThere (Some (first_of self.old.files)) folder.now file.now None)) }
-        ensures over { result ≡ Err ShelfRefusal.TooBig → HasOver (Some (first_of self.old.files))
-            folder.now file.now FILE_LIMIT }
+            (HasThere (Some (map_of_files self.old.files)) folder.now file.now None)) }
+        ensures over { result ≡ Err ShelfRefusal.TooBig
+            → HasOver (Some (map_of_files self.old.files)) folder.now file.now FILE_LIMIT }
         ensures cause { result ≡ Err ShelfRefusal.Failed
             → Rose self.old.calls.faults self.new.calls.faults }
         ensures counts { self.old.calls.faults ≤ self.new.calls.faults }
-        ensures same { Some (first_of self.new.files) ≡ Some (first_of self.old.files) }
+        ensures same { Some (map_of_files self.new.files) ≡ Some (map_of_files self.old.files) }
 
         ensures fails { (result ≡ Err ShelfRefusal.Failed)
             ↔ IsTrue (next_is_listed self.old.calls) }

@@ -37,13 +37,13 @@ abbrev pub with_value : List (Option Datum) → ℕ → Option Value → List (O
 with_value cells slot value = slice_set cells slot (held value)
 
 -- The same cells with a mark, at which they and the spare are kept.
-abbrev pub marked : Stored → Stored
-marked s = record s { kept = Some (record { cells = s.cells; spare = s.spare }) }
+abbrev pub marked_cells : Stored → Stored
+marked_cells s = record s { kept = Some (record { cells = s.cells; spare = s.spare }) }
 
 -- The number of cells and the room for more together, which no call makes less.
-abbrev pub room_of : Stored → ℕ
-room_of s = length s.cells + s.room
+abbrev pub room_of_cells : Stored → ℕ
+room_of_cells s = length s.cells + s.room
 
 -- The room for cells did not shrink.
-abbrev pub KeepsRoom : Stored → Stored → Type 0
-KeepsRoom old new = room_of old ≤ room_of new
+abbrev pub KeepsCellRoom : Stored → Stored → Type 0
+KeepsCellRoom old new = room_of_cells old ≤ room_of_cells new

@@ -1,6 +1,6 @@
 //! The cells of a run's state.
 ghost use Rattle.std.specs.Prelude.{◌≡◌, ◌↔◌, ◌<◌, ◌≤◌, ◌+◌, ◌-◌, ◌^◌, ◌++◌, ◌∷◌, [], length, false, IfOk, OnOk, OnErr, IfErr, IsOk, IfSome, IsSome, IsTrue, option_copied};
-ghost use Rattle.ld_cells.specs.Stored.{Stored, Holds, KeepsRoom, held, marked, with_value};
+ghost use Rattle.ld_cells.specs.Stored.{Stored, Holds, KeepsCellRoom, held, marked_cells, with_value};
 
 use crate::change::Change;
 use crate::mark::Mark;
@@ -86,7 +86,7 @@ impl Cells {
         ensures within { 0 < self.old.room → IsOk result }
         ensures kept { self.new.kept ≡ self.old.kept }
         ensures spare { self.new.spare ≡ self.old.spare }
-        ensures room { KeepsRoom self.old self.new }
+        ensures room { KeepsCellRoom self.old self.new }
     {
         let slot = self.len();
         append(&mut self.values, value)?;
@@ -139,7 +139,7 @@ impl Cells {
     /// Keeps the present cells, to which `undo` goes back.
     pub fn mark(&mut self)
         requires { self.old.kept ≡ None }
-        ensures { self.new ≡ marked self.old }
+        ensures { self.new ≡ marked_cells self.old }
     {
         self.mark = Some(Mark {
             cells: self.values.len(),
@@ -155,7 +155,7 @@ impl Cells {
         ensures unmarked { self.new.kept ≡ None }
         ensures mark_spare { IfSome self.old.kept (λ kept. kept.spare ≤ self.new.spare) }
         ensures spare { self.old.spare ≤ self.new.spare }
-        ensures room { KeepsRoom self.old self.new }
+        ensures room { KeepsCellRoom self.old self.new }
     {
         let Some(mark) = self.mark.take() else {
             unreachable!();

@@ -76,7 +76,7 @@ jigsaw = same_with_all 3 Jigsaw.the_course Jigsaw.the_lines (omega arith) (omega
 
 pub last_moment : told 200 LastMoment.the_course LastMoment.the_lines ≡ told 1 LastMoment.the_course LastMoment.the_lines
 unfolding reply_block digits
-last_moment = same_with_all 1 LastMoment.the_course LastMoment.the_lines (omega arith) (omega arith) LastMoment.last_moment refl
+last_moment = same_with_all 1 LastMoment.the_course LastMoment.the_lines (omega arith) (omega arith) LastMoment.last_moment_told refl
 
 pub notice_each_time : told 200 NoticeEachTime.the_course NoticeEachTime.the_lines ≡ told 1 NoticeEachTime.the_course NoticeEachTime.the_lines
 unfolding reply_block digits
@@ -96,11 +96,11 @@ own_global_values = same_with_all 2 OwnGlobalValues.the_course OwnGlobalValues.t
 
 pub role_bounds : told 200 RoleBounds.the_course RoleBounds.the_lines ≡ told 3 RoleBounds.the_course RoleBounds.the_lines
 unfolding reply_block digits
-role_bounds = same_with_all 3 RoleBounds.the_course RoleBounds.the_lines (omega arith) (omega arith) RoleBounds.role_bounds refl
+role_bounds = same_with_all 3 RoleBounds.the_course RoleBounds.the_lines (omega arith) (omega arith) RoleBounds.role_bounds_told refl
 
-pub sum_out_of_range : told 200 (SumOutOfRange.the_course SumOutOfRange.one_more) SumOutOfRange.the_lines ≡ told 1 (SumOutOfRange.the_course SumOutOfRange.one_more) SumOutOfRange.the_lines
+pub sum_out_of_range : told 200 (SumOutOfRange.the_course SumOutOfRange.n_and_one) SumOutOfRange.the_lines ≡ told 1 (SumOutOfRange.the_course SumOutOfRange.n_and_one) SumOutOfRange.the_lines
 unfolding reply_block digits
-sum_out_of_range = same_with_all 1 (SumOutOfRange.the_course SumOutOfRange.one_more) SumOutOfRange.the_lines (omega arith) (omega arith) SumOutOfRange.sum_out_of_range refl
+sum_out_of_range = same_with_all 1 (SumOutOfRange.the_course SumOutOfRange.n_and_one) SumOutOfRange.the_lines (omega arith) (omega arith) SumOutOfRange.sum_out_of_range refl
 
 pub time_limits : told 200 TimeLimits.the_course TimeLimits.the_lines ≡ told 1 TimeLimits.the_course TimeLimits.the_lines
 unfolding reply_block digits

@@ -28,14 +28,14 @@ use Rattle.ld_firing.specs.Actions.{site_firing}
 use Rattle.ld_state.specs.RunState.{cell_of}
 use Rattle.ld_rules.specs.SiteTests.{site_test}
 use Rattle.ld_firing.specs.RunSettling.{run_settling}
-use Rattle.ld_run.specs.Checks.{admitted}
+use Rattle.ld_checks.specs.Checks.{admitted}
 use Rattle.ld_lines.specs.declared.command.RunCommand.TheVariants.{Enrol, Assign, Start, Complete, Tree}
 use Rattle.ld_run.specs.RunStep.{run_step}
 use Rattle.ld_tree.specs.Tree.{tree_lines, is_open}
 use Rattle.ld_lines.specs.declared.line.Line.{Line}
 use Rattle.ld_lines.specs.declared.line.Line.TheVariants.{Create}
 use Rattle.ld_world.specs.World.{world_step, reply_block}
-use Rattle.ld_courses.specs.Courses.{role, learner, enclosing, tutor, choice, structure, part, act, play, course, moment, at, told}
+use Rattle.ld_courses.specs.Courses.{a_role, learner, enclosing, tutor, choice, a_structure, a_part, an_act, the_play, course, a_moment, at, told}
 
 abbrev item : List ℕ → List ℕ → Item
 item id href = record { identifier = id; href = href; title = None; visible = true }
@@ -82,32 +82,32 @@ abbrev y : Activity
 y = record (choice (codes "y")) { kind = Support }
 
 abbrev a1 : Act
-a1 = record (act (codes "a1") (part (codes "rp1") (codes "learner") (codes "seq")
-    ∷ part (codes "rp2") (codes "tutor") (codes "y") ∷ [])
+a1 = record (an_act (codes "a1") (a_part (codes "rp1") (codes "learner") (codes "seq")
+    ∷ a_part (codes "rp2") (codes "tutor") (codes "y") ∷ [])
     (Some (WhenRolePartCompleted (codes "rp1"
     ∷ [])))) { on_completion = with_feedback (item (codes "fa") (codes "a.html")) }
 
 abbrev p1 : Play
-p1 = record (play (a1 ∷ [])) {
+p1 = record (the_play (a1 ∷ [])) {
   identifier = codes "p1";
   complete = Some WhenLastActCompleted;
   on_completion = with_feedback (item (codes "fp") (codes "p.html"));
 }
 
 abbrev p2 : Play
-p2 = record (play (act (codes "c1") (part (codes "rp4") (codes "tutor") (codes "y") ∷ []) None
+p2 = record (the_play (an_act (codes "c1") (a_part (codes "rp4") (codes "tutor") (codes "y") ∷ []) None
     ∷ [])) { identifier = codes "p2"; visible = false }
 
 abbrev p3 : Play
-p3 = record (play (act (codes "b1") (part (codes "rp3") (codes "learner") (codes "e2") ∷ []) None
+p3 = record (the_play (an_act (codes "b1") (a_part (codes "rp3") (codes "learner") (codes "e2") ∷ []) None
     ∷ [])) { identifier = codes "p3" }
 
 abbrev pub the_course : Course
-the_course = record (course (codes "t") (enclosing learner (role (codes "leader") Learner ∷ []) ∷ tutor
+the_course = record (course (codes "t") (enclosing learner (a_role (codes "leader") Learner ∷ []) ∷ tutor
     ∷ [])
     (x ∷ y ∷ choice (codes "z") ∷ choice (codes "z1") ∷ choice (codes "z2") ∷ [])
-    (structure (codes "seq") Sequence None (codes "x" ∷ codes "in" ∷ codes "z" ∷ [])
-    ∷ structure (codes "in") Selection (Some 1) (codes "z1" ∷ codes "z2" ∷ []) ∷ [])
+    (a_structure (codes "seq") Sequence None (codes "x" ∷ codes "in" ∷ codes "z" ∷ [])
+    ∷ a_structure (codes "in") Selection (Some 1) (codes "z1" ∷ codes "z2" ∷ []) ∷ [])
     []) {
       title = Some (codes "T");
       environments = e1 ∷ e2 ∷ [];
@@ -120,7 +120,7 @@ the_course = record (course (codes "t") (enclosing learner (role (codes "leader"
 
 abbrev pub the_lines : List Line
 the_lines =
-    Create (moment 8 0) (codes "r") (codes "t")
+    Create (a_moment 8 0) (codes "r") (codes "t")
     ∷ at 8 0 (Enrol (codes "bob"))
     ∷ at 8 0 (Enrol (codes "tim"))
     ∷ at 8 0 (Assign (codes "bob") (codes "leader"))

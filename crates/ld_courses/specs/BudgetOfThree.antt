@@ -20,22 +20,22 @@ use Rattle.ld_firing.specs.Actions.{site_firing}
 use Rattle.ld_state.specs.RunState.{cell_of}
 use Rattle.ld_rules.specs.SiteTests.{site_test}
 use Rattle.ld_firing.specs.RunSettling.{run_settling}
-use Rattle.ld_run.specs.Checks.{admitted}
+use Rattle.ld_checks.specs.Checks.{admitted}
 use Rattle.ld_lines.specs.declared.command.RunCommand.TheVariants.{Enrol, Assign, Start, Set}
 use Rattle.ld_run.specs.RunStep.{run_step}
 use Rattle.ld_tree.specs.Tree.{tree_lines, is_open}
 use Rattle.ld_lines.specs.declared.line.Line.{Line}
 use Rattle.ld_lines.specs.declared.line.Line.TheVariants.{Create}
 use Rattle.ld_world.specs.World.{world_step, reply_block}
-use Rattle.ld_courses.specs.Courses.{whole, is_equal, learner, choice, course, one_part, property, with_conditions, condition, moment, at, told}
+use Rattle.ld_courses.specs.Courses.{whole, is_equal, learner, choice, course, one_part, a_property, with_conditions, a_condition, a_moment, at, told}
 
 abbrev follows : List ℕ → List ℕ → Condition
 follows a b =
-    condition (is_equal (property_term a) (whole (codes "1")))
+    a_condition (is_equal (property_term a) (whole (codes "1")))
     (Change (record { property = b; value = whole (codes "1") }) ∷ []) []
 
 abbrev number : List ℕ → PropertyOf
-number id = property id Loc IntegerKind None
+number id = a_property id Loc IntegerKind None
 
 abbrev pub the_course : Course
 the_course = record (with_conditions (map number (codes "p0" ∷ codes "p1" ∷ codes "p2" ∷ codes "p3"
@@ -48,7 +48,7 @@ the_course = record (with_conditions (map number (codes "p0" ∷ codes "p1" ∷ 
 
 abbrev pub the_lines : List Line
 the_lines =
-    Create (moment 8 0) (codes "r") (codes "u")
+    Create (a_moment 8 0) (codes "r") (codes "u")
     ∷ at 8 0 (Enrol (codes "ann"))
     ∷ at 8 0 (Assign (codes "ann") (codes "learner"))
     ∷ at 9 0 Start

@@ -33,8 +33,8 @@ use Rattle.ld_world.specs.World.{seated_world}
 
 -- ---- parts
 
-abbrev pub role : List ℕ → RoleKind → List RoleRow
-role id kind = record {
+abbrev pub a_role : List ℕ → RoleKind → List RoleRow
+a_role id kind = record {
   identifier = id;
   kind = kind;
   title = None;
@@ -46,17 +46,17 @@ role id kind = record {
 } ∷ []
 
 abbrev pub learner : List RoleRow
-learner = role (codes "learner") Learner
+learner = a_role (codes "learner") Learner
 
 -- A role, and roles within it.
 abbrev pub enclosing : List RoleRow → List (List RoleRow) → List RoleRow
 enclosing outer inner = outer ++ rows_within inner
 
 abbrev pub tutor : List RoleRow
-tutor = role (codes "tutor") Staff
+tutor = a_role (codes "tutor") Staff
 
-abbrev pub activity : List ℕ → Bool → Completion → Activity
-activity id visible complete = record {
+abbrev pub an_activity : List ℕ → Bool → Completion → Activity
+an_activity id visible complete = record {
   identifier =
       id;
   kind = Learning;
@@ -73,10 +73,10 @@ activity id visible complete = record {
 
 -- An activity that is completed by choice.
 abbrev pub choice : List ℕ → Activity
-choice id = activity id true UserChoice
+choice id = an_activity id true UserChoice
 
-abbrev pub structure : List ℕ → StructureKind → Option ℕ → List (List ℕ) → Structure
-structure id kind number children = record {
+abbrev pub a_structure : List ℕ → StructureKind → Option ℕ → List (List ℕ) → Structure
+a_structure id kind number children = record {
   identifier = id;
   kind = kind;
   title = None;
@@ -86,15 +86,15 @@ structure id kind number children = record {
   children = children;
 }
 
-abbrev pub part : List ℕ → List ℕ → List ℕ → RolePart
-part id role target = record { identifier = id; title = None; role = role; target = target }
+abbrev pub a_part : List ℕ → List ℕ → List ℕ → RolePart
+a_part id role target = record { identifier = id; title = None; role = role; target = target }
 
-abbrev pub act : List ℕ → List RolePart → Option Completion → Act
-act id parts complete =
+abbrev pub an_act : List ℕ → List RolePart → Option Completion → Act
+an_act id parts complete =
     record { identifier = id; title = None; role_parts = parts; complete = complete; on_completion = None }
 
-abbrev pub play : List Act → Play
-play acts =
+abbrev pub the_play : List Act → Play
+the_play acts =
     record {
       identifier =
           codes "p";
@@ -123,16 +123,16 @@ course id roles activities structures acts = record {
   metadata = None;
   learning_objectives = [];
   prerequisites = [];
-  method = record { plays = play acts ∷ []; complete = None; on_completion = None };
+  method = record { plays = the_play acts ∷ []; complete = None; on_completion = None };
   conditions = [];
 }
 
 -- One act `a` of one part `rp` of the role `learner`, which refers to this.
 abbrev pub one_part : List ℕ → List Act
-one_part target = act (codes "a") (part (codes "rp") (codes "learner") target ∷ []) None ∷ []
+one_part target = an_act (codes "a") (a_part (codes "rp") (codes "learner") target ∷ []) None ∷ []
 
-abbrev pub property : List ℕ → PropertyKind → Kind → Option (List ℕ) → Property
-property id kind datatype initial = record {
+abbrev pub a_property : List ℕ → PropertyKind → Kind → Option (List ℕ) → Property
+a_property id kind datatype initial = record {
   identifier = id;
   kind = kind;
   datatype = datatype;
@@ -168,8 +168,8 @@ is_greater a b = compare_test greater a b
 abbrev pub are_both : TestOf → TestOf → TestOf
 are_both a b = all_test (test_and a (test_and b no_test))
 
-abbrev pub condition : TestOf → List Action → List Action → Condition
-condition holds then_do else_do = record { test = holds; yes = then_do; no = else_do }
+abbrev pub a_condition : TestOf → List Action → List Action → Condition
+a_condition holds then_do else_do = record { test = holds; yes = then_do; no = else_do }
 
 abbrev pub with_conditions : List Property → List Condition → Course → Course
 with_conditions properties conditions unit = record unit { properties = properties; conditions = conditions }
@@ -180,8 +180,8 @@ with_conditions properties conditions unit = record unit { properties = properti
 abbrev pub clock : ℕ → ℕ → ℤ
 clock hour minute = pos (1704067200 + 3600 * hour + 60 * minute)
 
-abbrev pub moment : ℕ → ℕ → Moment
-moment hour minute = record { 0 = clock hour minute }
+abbrev pub a_moment : ℕ → ℕ → Moment
+a_moment hour minute = record { 0 = clock hour minute }
 
 -- So many seconds after the first moment of 1970.
 abbrev pub after_1970 : ℕ → Moment
@@ -189,12 +189,12 @@ after_1970 seconds = record { 0 = pos seconds }
 
 -- A command of the run `r`.
 abbrev pub at : ℕ → ℕ → RunCommand → Line
-at hour minute command = OfRun (moment hour minute) (codes "r") command
+at hour minute command = OfRun (a_moment hour minute) (codes "r") command
 
 -- The run `r` is made, and `ann`, a learner, is enrolled.
 abbrev pub setup : List ℕ → List Line
 setup unit =
-    Create (moment 8 0) (codes "r") unit
+    Create (a_moment 8 0) (codes "r") unit
     ∷ at 8 0 (Enrol (codes "ann"))
     ∷ at 8 0 (Assign (codes "ann") (codes "learner")) ∷ []
 

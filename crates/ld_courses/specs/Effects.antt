@@ -26,20 +26,20 @@ use Rattle.ld_firing.specs.Actions.{site_firing}
 use Rattle.ld_state.specs.RunState.{cell_of}
 use Rattle.ld_rules.specs.SiteTests.{site_test}
 use Rattle.ld_firing.specs.RunSettling.{run_settling}
-use Rattle.ld_run.specs.Checks.{admitted}
+use Rattle.ld_checks.specs.Checks.{admitted}
 use Rattle.ld_lines.specs.declared.command.RunCommand.TheVariants.{Enrol, Assign, Start, Complete, Get, Outbox, Tick}
 use Rattle.ld_run.specs.RunStep.{run_step}
 use Rattle.ld_tree.specs.Tree.{tree_lines, is_open}
 use Rattle.ld_lines.specs.declared.line.Line.{Line}
 use Rattle.ld_lines.specs.declared.line.Line.TheVariants.{Create}
 use Rattle.ld_world.specs.World.{world_step, reply_block}
-use Rattle.ld_courses.specs.Courses.{whole, span, is_greater, sum_of_two, less_by, learner, activity, choice, part, act, course, property, with_conditions, condition, clock, moment, at, told}
+use Rattle.ld_courses.specs.Courses.{whole, span, is_greater, sum_of_two, less_by, learner, an_activity, choice, a_part, an_act, course, a_property, with_conditions, a_condition, clock, a_moment, at, told}
 
 abbrev score : PropertyOf
-score = property (codes "score") LocPers IntegerKind (Some (codes "0"))
+score = a_property (codes "score") LocPers IntegerKind (Some (codes "0"))
 
 abbrev total : PropertyOf
-total = record (property (codes "total") Loc IntegerKind (Some (codes "4"))) {
+total = record (a_property (codes "total") Loc IntegerKind (Some (codes "4"))) {
   restrictions = Some (record {
     min_inclusive = None;
     max_inclusive = Some (codes "5");
@@ -62,8 +62,8 @@ x next = record (choice (codes "x")) {
 }
 
 abbrev a : TermOf → TermOf → Act
-a next_score next_total = record (act (codes "a")
-    (part (codes "rp1") (codes "learner") (codes "x") ∷ part (codes "rp2") (codes "learner") (codes "w")
+a next_score next_total = record (an_act (codes "a")
+    (a_part (codes "rp1") (codes "learner") (codes "x") ∷ a_part (codes "rp2") (codes "learner") (codes "w")
     ∷ [])
     (Some (WhenConditionTrue (codes "learner")
     (is_greater (property_term (codes "score")) (whole (codes "0")))))) {
@@ -76,16 +76,16 @@ a next_score next_total = record (act (codes "a")
 
 abbrev pub the_course : TermOf → TermOf → TermOf → Course
 the_course next_score next_total elapsed = with_conditions (score ∷ total ∷ [])
-    (condition (done_test (codes "a")) (Change (set_to (codes "total") next_total) ∷ []) []
-    ∷ condition (is_greater elapsed (span (codes "PT1H"))) (Notify (note (codes "Late") None) ∷ []) [] ∷ [])
+    (a_condition (done_test (codes "a")) (Change (set_to (codes "total") next_total) ∷ []) []
+    ∷ a_condition (is_greater elapsed (span (codes "PT1H"))) (Notify (note (codes "Late") None) ∷ []) [] ∷ [])
     (course (codes "u") (learner ∷ [])
-    (x next_score ∷ activity (codes "w") true (WhenPropertyValueIsSet (codes "total") (Some (codes "5")))
+    (x next_score ∷ an_activity (codes "w") true (WhenPropertyValueIsSet (codes "total") (Some (codes "5")))
     ∷ [])
     [] (a next_score next_total ∷ []))
 
 abbrev pub the_lines : List Line
 the_lines =
-    Create (moment 8 0) (codes "r") (codes "u")
+    Create (a_moment 8 0) (codes "r") (codes "u")
     ∷ at 8 0 (Enrol (codes "ann"))
     ∷ at 8 0 (Assign (codes "ann") (codes "learner"))
     ∷ at 8 0 (Enrol (codes "bob"))

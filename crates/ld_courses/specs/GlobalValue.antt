@@ -19,7 +19,7 @@ use Rattle.ld_firing.specs.Actions.{site_firing}
 use Rattle.ld_state.specs.RunState.{cell_of}
 use Rattle.ld_rules.specs.SiteTests.{site_test}
 use Rattle.ld_firing.specs.RunSettling.{run_settling}
-use Rattle.ld_run.specs.Checks.{admitted}
+use Rattle.ld_checks.specs.Checks.{admitted}
 use Rattle.ld_lines.specs.declared.command.RunCommand.TheVariants.{Enrol, Assign, Start, Set, Tree, Outbox, Tick}
 use Rattle.ld_lines.specs.declared.command.RunCommand.{RunCommand}
 use Rattle.ld_run.specs.RunStep.{run_step}
@@ -27,37 +27,37 @@ use Rattle.ld_tree.specs.Tree.{tree_lines, is_open}
 use Rattle.ld_lines.specs.declared.line.Line.{Line}
 use Rattle.ld_lines.specs.declared.line.Line.TheVariants.{Create, OfRun, GlobalSet, GlobalGet}
 use Rattle.ld_world.specs.World.{world_step, reply_block}
-use Rattle.ld_courses.specs.Courses.{whole, is_greater, learner, choice, course, one_part, property, with_conditions, condition, clock, moment, at, told}
+use Rattle.ld_courses.specs.Courses.{whole, is_greater, learner, choice, course, one_part, a_property, with_conditions, a_condition, clock, a_moment, at, told}
 
 abbrev pub the_course : Course
 the_course = with_conditions
-    (record (property (codes "g") Glob IntegerKind (Some (codes "0"))) { uri = Some (codes "urn:g") } ∷ [])
-    (condition (is_greater (property_term (codes "g")) (whole (codes "0")))
+    (record (a_property (codes "g") Glob IntegerKind (Some (codes "0"))) { uri = Some (codes "urn:g") } ∷ [])
+    (a_condition (is_greater (property_term (codes "g")) (whole (codes "0")))
     (Notify (record { roles = codes "learner" ∷ []; subject = Some (codes "G"); activity = None }) ∷ []) []
     ∷ [])
     (course (codes "u") (learner ∷ []) (choice (codes "read") ∷ []) [] (one_part (codes "read")))
 
 abbrev in_s : ℕ → ℕ → RunCommand → Line
-in_s hour minute command = OfRun (moment hour minute) (codes "s") command
+in_s hour minute command = OfRun (a_moment hour minute) (codes "s") command
 
 abbrev pub the_lines : List Line
 the_lines =
-    Create (moment 8 0) (codes "r") (codes "u")
+    Create (a_moment 8 0) (codes "r") (codes "u")
     ∷ at 8 0 (Enrol (codes "ann"))
     ∷ at 8 0 (Assign (codes "ann") (codes "learner"))
     ∷ at 9 0 Start
-    ∷ Create (moment 8 0) (codes "s") (codes "u")
+    ∷ Create (a_moment 8 0) (codes "s") (codes "u")
     ∷ in_s 8 0 (Enrol (codes "ann"))
     ∷ in_s 8 0 (Assign (codes "ann") (codes "learner"))
     ∷ in_s 9 0 Start
     ∷ at 10 0 (Set (codes "ann") (codes "g") (codes "5"))
     ∷ in_s 11 0 (Tree (codes "ann"))
     ∷ in_s 11 5 (Outbox (codes "ann"))
-    ∷ GlobalGet (moment 8 0) (codes "urn:g") None
-    ∷ GlobalSet (moment 8 0) (codes "urn:g") None (codes "x")
-    ∷ GlobalSet (moment 8 0) (codes "urn:g") (Some (codes "ann")) (codes "6")
-    ∷ GlobalSet (moment 8 0) (codes "urn:h") None (codes "1")
-    ∷ GlobalSet (moment 8 0) (codes "urn:g") None (codes "0")
+    ∷ GlobalGet (a_moment 8 0) (codes "urn:g") None
+    ∷ GlobalSet (a_moment 8 0) (codes "urn:g") None (codes "x")
+    ∷ GlobalSet (a_moment 8 0) (codes "urn:g") (Some (codes "ann")) (codes "6")
+    ∷ GlobalSet (a_moment 8 0) (codes "urn:h") None (codes "1")
+    ∷ GlobalSet (a_moment 8 0) (codes "urn:g") None (codes "0")
     ∷ at 11 6 Tick ∷ []
 
 pub global_value : told 1 the_course the_lines ≡

@@ -22,17 +22,17 @@ use Rattle.ld_firing.specs.Actions.{site_firing}
 use Rattle.ld_state.specs.RunState.{cell_of}
 use Rattle.ld_rules.specs.SiteTests.{site_test}
 use Rattle.ld_firing.specs.RunSettling.{run_settling}
-use Rattle.ld_run.specs.Checks.{admitted}
+use Rattle.ld_checks.specs.Checks.{admitted}
 use Rattle.ld_lines.specs.declared.command.RunCommand.TheVariants.{Enrol, Assign, Start, Complete, Tree, Outbox}
 use Rattle.ld_run.specs.RunStep.{run_step}
 use Rattle.ld_tree.specs.Tree.{tree_lines, is_open}
 use Rattle.ld_lines.specs.declared.line.Line.{Line}
 use Rattle.ld_lines.specs.declared.line.Line.TheVariants.{Create}
 use Rattle.ld_world.specs.World.{world_step, reply_block}
-use Rattle.ld_courses.specs.Courses.{learner, tutor, choice, structure, part, act, play, course, with_conditions, condition, clock, moment, at, told}
+use Rattle.ld_courses.specs.Courses.{learner, tutor, choice, a_structure, a_part, an_act, the_play, course, with_conditions, a_condition, clock, a_moment, at, told}
 
 abbrev sends : List ℕ → List ℕ → Condition
-sends id subject = condition (done_test id) (Notify (record {
+sends id subject = a_condition (done_test id) (Notify (record {
   roles = codes "tutor"
       ∷ [];
   subject = Some subject;
@@ -40,7 +40,7 @@ sends id subject = condition (done_test id) (Notify (record {
 }) ∷ []) []
 
 abbrev both : List ℕ → List ℕ → List ℕ → List ℕ → List ℕ → Act
-both id p q s w = act id (part p (codes "learner") s ∷ part q (codes "tutor") w
+both id p q s w = an_act id (a_part p (codes "learner") s ∷ a_part q (codes "tutor") w
     ∷ []) (Some (WhenRolePartCompleted (p ∷ q ∷ [])))
 
 abbrev pub the_course : Course
@@ -48,10 +48,10 @@ the_course = record (with_conditions [] (sends (codes "e01") (codes "Expert e01"
     ∷ sends (codes "e02") (codes "Expert e02") ∷ [])
     (course (codes "jigsaw") (learner ∷ tutor ∷ []) (map choice (codes "e01" ∷ codes "e02" ∷ codes "w1"
     ∷ []))
-    (structure (codes "s1") Selection (Some 1) (codes "e01" ∷ codes "e02" ∷ []) ∷ [])
+    (a_structure (codes "s1") Selection (Some 1) (codes "e01" ∷ codes "e02" ∷ []) ∷ [])
     [])) {
       method = record {
-        plays = record (play (both (codes "a1") (codes "rp1") (codes "rp2") (codes "s1") (codes "w1")
+        plays = record (the_play (both (codes "a1") (codes "rp1") (codes "rp2") (codes "s1") (codes "w1")
             ∷ [])) { complete = Some WhenLastActCompleted } ∷ [];
         complete = Some (WhenPlayCompleted (codes "p" ∷ []));
         on_completion = None;
@@ -60,7 +60,7 @@ the_course = record (with_conditions [] (sends (codes "e01") (codes "Expert e01"
 
 abbrev pub the_lines : List Line
 the_lines =
-    Create (moment 8 0) (codes "r") (codes "jigsaw")
+    Create (a_moment 8 0) (codes "r") (codes "jigsaw")
     ∷ at 8 0 (Enrol (codes "l01"))
     ∷ at 8 0 (Enrol (codes "l02"))
     ∷ at 8 0 (Enrol (codes "t01"))

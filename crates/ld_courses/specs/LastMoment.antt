@@ -15,30 +15,30 @@ use Rattle.ld_firing.specs.Actions.{site_firing}
 use Rattle.ld_state.specs.RunState.{cell_of}
 use Rattle.ld_rules.specs.SiteTests.{site_test}
 use Rattle.ld_firing.specs.RunSettling.{run_settling}
-use Rattle.ld_run.specs.Checks.{admitted}
+use Rattle.ld_checks.specs.Checks.{admitted}
 use Rattle.ld_lines.specs.declared.command.RunCommand.TheVariants.{Enrol, Assign, Start, Tick}
 use Rattle.ld_run.specs.RunStep.{run_step}
 use Rattle.ld_tree.specs.Tree.{tree_lines, is_open}
 use Rattle.ld_lines.specs.declared.line.Line.{Line}
 use Rattle.ld_lines.specs.declared.line.Line.TheVariants.{Create, OfRun}
 use Rattle.ld_world.specs.World.{world_step, reply_block}
-use Rattle.ld_courses.specs.Courses.{after_1970, learner, choice, course, one_part, clock, moment, at, told}
+use Rattle.ld_courses.specs.Courses.{after_1970, learner, choice, course, one_part, clock, a_moment, at, told}
 
 abbrev pub the_course : Course
 the_course = course (codes "u") (learner ∷ []) (choice (codes "read") ∷ []) [] (one_part (codes "read"))
 
 abbrev pub the_lines : List Line
 the_lines =
-    Create (moment 8 0) (codes "r") (codes "u")
+    Create (a_moment 8 0) (codes "r") (codes "u")
     ∷ at 8 0 (Enrol (codes "ann"))
     ∷ at 8 0 (Assign (codes "ann") (codes "learner"))
     ∷ at 9 0 Start
     ∷ OfRun (after_1970 1704099599) (codes "r") Tick
-    ∷ Create (moment 7 0) (codes "s") (codes "u")
-    ∷ OfRun (moment 7 0) (codes "s") (Enrol (codes "ann"))
+    ∷ Create (a_moment 7 0) (codes "s") (codes "u")
+    ∷ OfRun (a_moment 7 0) (codes "s") (Enrol (codes "ann"))
     ∷ at 9 0 Tick ∷ []
 
-pub last_moment : told 1 the_course the_lines ≡
+pub last_moment_told : told 1 the_course the_lines ≡
     codes "ok create\n"
     ∷ codes "ok enrol turns=0 fired=0 rejected=0 sent=0\n"
     ∷ codes "ok assign turns=0 fired=0 rejected=0 sent=0\n"
@@ -48,4 +48,4 @@ pub last_moment : told 1 the_course the_lines ≡
     ∷ codes "ok enrol turns=0 fired=0 rejected=0 sent=0\n"
     ∷ codes "ok tick turns=0 fired=0 rejected=0 sent=0\n" ∷ []
 unfolding world_step reply_block run_step admitted visited fired_below after_sweeps all_firings run_settling site_test site_firing value_set_parts condition_true_parts completed_parts completion_parts follows_parts on_completion_parts role_part property_parts_at object_parts_at service_parts environment_parts_at parts_before_items ending_parts activity_parts_at structure_parts_at role_part_parts_at act_parts_at play_parts_at method_parts unit_parts action_parts condition_parts_at middle_parts parts_of named_by change_parts notice_parts cell_of begins_as tree_lines is_open digits escape_byte value_of text_of truth_of integer_of signed_numeral numeral fits_in
-last_moment = refl
+last_moment_told = refl

@@ -19,27 +19,27 @@ use Rattle.ld_firing.specs.Actions.{site_firing}
 use Rattle.ld_state.specs.RunState.{cell_of}
 use Rattle.ld_rules.specs.SiteTests.{site_test}
 use Rattle.ld_firing.specs.RunSettling.{run_settling}
-use Rattle.ld_run.specs.Checks.{admitted}
+use Rattle.ld_checks.specs.Checks.{admitted}
 use Rattle.ld_lines.specs.declared.command.RunCommand.TheVariants.{Enrol, Assign, Start, Set, Outbox}
 use Rattle.ld_run.specs.RunStep.{run_step}
 use Rattle.ld_tree.specs.Tree.{tree_lines, is_open}
 use Rattle.ld_lines.specs.declared.line.Line.{Line}
 use Rattle.ld_lines.specs.declared.line.Line.TheVariants.{Create}
 use Rattle.ld_world.specs.World.{world_step, reply_block}
-use Rattle.ld_courses.specs.Courses.{whole, is_greater, learner, choice, course, one_part, property, with_conditions, condition, clock, moment, at, told}
+use Rattle.ld_courses.specs.Courses.{whole, is_greater, learner, choice, course, one_part, a_property, with_conditions, a_condition, clock, a_moment, at, told}
 
 abbrev pub the_course : Course
 the_course = with_conditions
-    (property (codes "n") Loc IntegerKind (Some (codes "1")) ∷ property (codes "m") Loc IntegerKind None
+    (a_property (codes "n") Loc IntegerKind (Some (codes "1")) ∷ a_property (codes "m") Loc IntegerKind None
     ∷ [])
-    (condition (is_greater (property_term (codes "n")) (whole (codes "0")))
+    (a_condition (is_greater (property_term (codes "n")) (whole (codes "0")))
     (Notify (record { roles = codes "learner" ∷ []; subject = Some (codes "Go"); activity = None }) ∷ []) []
     ∷ [])
     (course (codes "u") (learner ∷ []) (choice (codes "read") ∷ []) [] (one_part (codes "read")))
 
 abbrev pub the_lines : List Line
 the_lines =
-    Create (moment 8 0) (codes "r") (codes "u")
+    Create (a_moment 8 0) (codes "r") (codes "u")
     ∷ at 8 0 (Enrol (codes "ann"))
     ∷ at 8 0 (Assign (codes "ann") (codes "learner"))
     ∷ at 9 0 Start

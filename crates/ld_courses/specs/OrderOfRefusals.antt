@@ -14,23 +14,23 @@ use Rattle.ld_firing.specs.Actions.{site_firing}
 use Rattle.ld_state.specs.RunState.{cell_of}
 use Rattle.ld_rules.specs.SiteTests.{site_test}
 use Rattle.ld_firing.specs.RunSettling.{run_settling}
-use Rattle.ld_run.specs.Checks.{admitted}
+use Rattle.ld_checks.specs.Checks.{admitted}
 use Rattle.ld_lines.specs.declared.command.RunCommand.TheVariants.{Tree}
 use Rattle.ld_run.specs.RunStep.{run_step}
 use Rattle.ld_tree.specs.Tree.{tree_lines, is_open}
 use Rattle.ld_lines.specs.declared.line.Line.{Line}
 use Rattle.ld_lines.specs.declared.line.Line.TheVariants.{Create, OfRun}
 use Rattle.ld_world.specs.World.{world_step, reply_block}
-use Rattle.ld_courses.specs.Courses.{learner, choice, course, one_part, moment, at, told}
+use Rattle.ld_courses.specs.Courses.{learner, choice, course, one_part, a_moment, at, told}
 
 abbrev pub the_course : Course
 the_course = course (codes "u") (learner ∷ []) (choice (codes "read") ∷ []) [] (one_part (codes "read"))
 
 abbrev pub the_lines : List Line
 the_lines =
-    Create (moment 8 0) (codes "r") (codes "u")
+    Create (a_moment 8 0) (codes "r") (codes "u")
     ∷ at 8 0 (Tree (codes "ann"))
-    ∷ OfRun (moment 8 0) (codes "q") (Tree (codes "ann")) ∷ []
+    ∷ OfRun (a_moment 8 0) (codes "q") (Tree (codes "ann")) ∷ []
 
 pub order_of_refusals : told 1 the_course the_lines ≡
     codes "ok create\n"

@@ -19,20 +19,20 @@ use Rattle.ld_firing.specs.Actions.{site_firing}
 use Rattle.ld_state.specs.RunState.{cell_of}
 use Rattle.ld_rules.specs.SiteTests.{site_test}
 use Rattle.ld_firing.specs.RunSettling.{run_settling}
-use Rattle.ld_run.specs.Checks.{admitted}
+use Rattle.ld_checks.specs.Checks.{admitted}
 use Rattle.ld_lines.specs.declared.command.RunCommand.TheVariants.{Enrol, Assign, Drop, Start, Open, Complete, Set, Clear, Get, Tree}
 use Rattle.ld_run.specs.RunStep.{run_step}
 use Rattle.ld_tree.specs.Tree.{tree_lines, is_open}
 use Rattle.ld_lines.specs.declared.line.Line.{Line}
 use Rattle.ld_lines.specs.declared.line.Line.TheVariants.{Create}
 use Rattle.ld_world.specs.World.{world_step, reply_block}
-use Rattle.ld_courses.specs.Courses.{learner, tutor, activity, choice, course, one_part, property, with_conditions, moment, at, told}
+use Rattle.ld_courses.specs.Courses.{learner, tutor, an_activity, choice, course, one_part, a_property, with_conditions, a_moment, at, told}
 
 abbrev n : PropertyOf
-n = property (codes "n") Loc IntegerKind None
+n = a_property (codes "n") Loc IntegerKind None
 
 abbrev team : PropertyOf
-team = record (property (codes "team") LocRole StringKind None) { role = Some (codes "tutor") }
+team = record (a_property (codes "team") LocRole StringKind None) { role = Some (codes "tutor") }
 
 abbrev needed : RoleRow → RoleRow
 needed row = record row { min_persons = 1 }
@@ -40,14 +40,14 @@ needed row = record row { min_persons = 1 }
 abbrev pub the_course : Course
 the_course = with_conditions (n ∷ team ∷ []) []
     (course (codes "u") (map needed learner ∷ tutor ∷ [])
-    (choice (codes "read") ∷ activity (codes "timed") true (TimeLimit 86400)
+    (choice (codes "read") ∷ an_activity (codes "timed") true (TimeLimit 86400)
     ∷ []) [] (one_part (codes "read")))
 
 abbrev pub the_lines : List Line
 the_lines =
-    Create (moment 8 0) (codes "q") (codes "nope")
-    ∷ Create (moment 8 0) (codes "r") (codes "u")
-    ∷ Create (moment 8 0) (codes "r") (codes "u")
+    Create (a_moment 8 0) (codes "q") (codes "nope")
+    ∷ Create (a_moment 8 0) (codes "r") (codes "u")
+    ∷ Create (a_moment 8 0) (codes "r") (codes "u")
     ∷ at 8 0 (Enrol (codes "ann"))
     ∷ at 8 0 (Enrol (codes "ann"))
     ∷ at 8 0 Start

@@ -16,39 +16,39 @@ use Rattle.ld_firing.specs.Actions.{site_firing}
 use Rattle.ld_state.specs.RunState.{cell_of}
 use Rattle.ld_rules.specs.SiteTests.{site_test}
 use Rattle.ld_firing.specs.RunSettling.{run_settling}
-use Rattle.ld_run.specs.Checks.{admitted}
+use Rattle.ld_checks.specs.Checks.{admitted}
 use Rattle.ld_lines.specs.declared.command.RunCommand.TheVariants.{Enrol, Start, Set, Clear, Get}
 use Rattle.ld_run.specs.RunStep.{run_step}
 use Rattle.ld_tree.specs.Tree.{tree_lines, is_open}
 use Rattle.ld_lines.specs.declared.line.Line.{Line}
 use Rattle.ld_lines.specs.declared.line.Line.TheVariants.{Create, GlobalSet, GlobalGet}
 use Rattle.ld_world.specs.World.{world_step, reply_block}
-use Rattle.ld_courses.specs.Courses.{learner, choice, course, one_part, property, with_conditions, moment, at, told}
+use Rattle.ld_courses.specs.Courses.{learner, choice, course, one_part, a_property, with_conditions, a_moment, at, told}
 
 abbrev pub the_course : Course
 the_course = with_conditions
-    (record (property (codes "g") GlobPers IntegerKind (Some (codes "0"))) { uri = Some (codes "urn:g") } ∷ [])
+    (record (a_property (codes "g") GlobPers IntegerKind (Some (codes "0"))) { uri = Some (codes "urn:g") } ∷ [])
     []
     (course (codes "u") (learner ∷ []) (choice (codes "read") ∷ []) [] (one_part (codes "read")))
 
 abbrev pub the_lines : List Line
 the_lines =
-    Create (moment 8 0) (codes "r") (codes "u")
-    ∷ GlobalSet (moment 8 0) (codes "urn:g") (Some (codes "ann")) (codes "4")
-    ∷ GlobalSet (moment 8 0) (codes "urn:g") None (codes "4")
+    Create (a_moment 8 0) (codes "r") (codes "u")
+    ∷ GlobalSet (a_moment 8 0) (codes "urn:g") (Some (codes "ann")) (codes "4")
+    ∷ GlobalSet (a_moment 8 0) (codes "urn:g") None (codes "4")
     ∷ at 8 0 (Enrol (codes "ann"))
     ∷ at 8 0 (Enrol (codes "bob"))
     ∷ at 9 0 Start
     ∷ at 9 0 (Get (codes "ann") (codes "g"))
     ∷ at 9 0 (Get (codes "bob") (codes "g"))
     ∷ at 9 1 (Set (codes "bob") (codes "g") (codes "9"))
-    ∷ GlobalGet (moment 8 0) (codes "urn:g") (Some (codes "bob"))
-    ∷ GlobalGet (moment 8 0) (codes "urn:g") (Some (codes "ann"))
-    ∷ GlobalGet (moment 8 0) (codes "urn:g") (Some (codes "zoe"))
-    ∷ GlobalGet (moment 8 0) (codes "urn:g") None
+    ∷ GlobalGet (a_moment 8 0) (codes "urn:g") (Some (codes "bob"))
+    ∷ GlobalGet (a_moment 8 0) (codes "urn:g") (Some (codes "ann"))
+    ∷ GlobalGet (a_moment 8 0) (codes "urn:g") (Some (codes "zoe"))
+    ∷ GlobalGet (a_moment 8 0) (codes "urn:g") None
     ∷ at 9 2 (Clear (codes "ann") (codes "g"))
-    ∷ GlobalGet (moment 8 0) (codes "urn:g") (Some (codes "ann"))
-    ∷ GlobalSet (moment 8 0) (codes "urn:g") (Some (codes "ann")) (codes "7")
+    ∷ GlobalGet (a_moment 8 0) (codes "urn:g") (Some (codes "ann"))
+    ∷ GlobalSet (a_moment 8 0) (codes "urn:g") (Some (codes "ann")) (codes "7")
     ∷ at 9 3 (Get (codes "ann") (codes "g")) ∷ []
 
 pub own_global_values : told 2 the_course the_lines ≡

@@ -17,22 +17,22 @@ use Rattle.ld_firing.specs.Actions.{site_firing}
 use Rattle.ld_state.specs.RunState.{cell_of}
 use Rattle.ld_rules.specs.SiteTests.{site_test}
 use Rattle.ld_firing.specs.RunSettling.{run_settling}
-use Rattle.ld_run.specs.Checks.{admitted}
+use Rattle.ld_checks.specs.Checks.{admitted}
 use Rattle.ld_lines.specs.declared.command.RunCommand.TheVariants.{Enrol, Assign, Drop}
 use Rattle.ld_run.specs.RunStep.{run_step}
 use Rattle.ld_tree.specs.Tree.{tree_lines, is_open}
 use Rattle.ld_lines.specs.declared.line.Line.{Line}
 use Rattle.ld_lines.specs.declared.line.Line.TheVariants.{Create}
 use Rattle.ld_world.specs.World.{world_step, reply_block}
-use Rattle.ld_courses.specs.Courses.{role, learner, enclosing, choice, course, one_part, moment, at, told}
+use Rattle.ld_courses.specs.Courses.{a_role, learner, enclosing, choice, course, one_part, a_moment, at, told}
 
 abbrev limited : RoleRow → RoleRow
 limited row = record row { max_persons = Some 2; match_persons = ExclusivelyInRoles }
 
 -- A group of at most two, who are either its chairs or its scribes.
 abbrev group : List RoleRow
-group = enclosing (map limited (role (codes "group") Staff)) (role (codes "chair") Staff
-    ∷ role (codes "scribe") Staff ∷ [])
+group = enclosing (map limited (a_role (codes "group") Staff)) (a_role (codes "chair") Staff
+    ∷ a_role (codes "scribe") Staff ∷ [])
 
 abbrev pub the_course : Course
 the_course = course (codes "u") (learner ∷ group ∷ []) (choice (codes "read")
@@ -40,7 +40,7 @@ the_course = course (codes "u") (learner ∷ group ∷ []) (choice (codes "read"
 
 abbrev pub the_lines : List Line
 the_lines =
-    Create (moment 8 0) (codes "r") (codes "u")
+    Create (a_moment 8 0) (codes "r") (codes "u")
     ∷ at 8 0 (Enrol (codes "ann"))
     ∷ at 8 0 (Enrol (codes "bob"))
     ∷ at 8 0 (Enrol (codes "cy"))
@@ -54,7 +54,7 @@ the_lines =
     ∷ at 8 0 (Drop (codes "bob") (codes "chair"))
     ∷ at 8 0 (Drop (codes "bob") (codes "group")) ∷ []
 
-pub role_bounds : told 3 the_course the_lines ≡
+pub role_bounds_told : told 3 the_course the_lines ≡
     codes "ok create\n"
     ∷ codes "ok enrol turns=0 fired=0 rejected=0 sent=0\n"
     ∷ codes "ok enrol turns=0 fired=0 rejected=0 sent=0\n"
@@ -69,4 +69,4 @@ pub role_bounds : told 3 the_course the_lines ≡
     ∷ codes "no 13 not-held\n"
     ∷ codes "ok drop turns=0 fired=0 rejected=0 sent=0\n" ∷ []
 unfolding world_step reply_block run_step admitted visited fired_below after_sweeps all_firings run_settling site_test site_firing value_set_parts condition_true_parts completed_parts completion_parts follows_parts on_completion_parts role_part property_parts_at object_parts_at service_parts environment_parts_at parts_before_items ending_parts activity_parts_at structure_parts_at role_part_parts_at act_parts_at play_parts_at method_parts unit_parts action_parts condition_parts_at middle_parts parts_of named_by change_parts notice_parts cell_of begins_as tree_lines is_open digits escape_byte value_of text_of truth_of integer_of signed_numeral numeral fits_in
-role_bounds = refl
+role_bounds_told = refl

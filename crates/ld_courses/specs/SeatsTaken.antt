@@ -5,14 +5,14 @@ use Rattle.ld_lines.specs.declared.command.RunCommand.TheVariants.{Enrol}
 use Rattle.ld_lines.specs.declared.line.Line.{Line}
 use Rattle.ld_lines.specs.declared.line.Line.TheVariants.{Create}
 use Rattle.ld_state.specs.RunCells.{begins_as}
-use Rattle.ld_run.specs.Checks.{admitted}
+use Rattle.ld_checks.specs.Checks.{admitted}
 use Rattle.ld_run.specs.RunStep.{run_step}
 use Rattle.ld_world.specs.World.{world_step, reply_block}
-use Rattle.ld_courses.specs.Courses.{learner, choice, course, one_part, moment, at, told}
+use Rattle.ld_courses.specs.Courses.{learner, choice, course, one_part, a_moment, at, told}
 
 abbrev the_lines : List Line
 the_lines =
-    Create (moment 8 0) (codes "r") (codes "u")
+    Create (a_moment 8 0) (codes "r") (codes "u")
     ∷ at 8 0 (Enrol (codes "ann"))
     ∷ at 8 0 (Enrol (codes "ann"))
     ∷ at 8 0 (Enrol (codes "bob")) ∷ []

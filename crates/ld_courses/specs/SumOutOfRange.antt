@@ -18,36 +18,36 @@ use Rattle.ld_firing.specs.Actions.{site_firing}
 use Rattle.ld_state.specs.RunState.{cell_of}
 use Rattle.ld_rules.specs.SiteTests.{site_test}
 use Rattle.ld_firing.specs.RunSettling.{run_settling}
-use Rattle.ld_run.specs.Checks.{admitted}
+use Rattle.ld_checks.specs.Checks.{admitted}
 use Rattle.ld_lines.specs.declared.command.RunCommand.TheVariants.{Enrol, Assign, Start, Set, Get}
 use Rattle.ld_run.specs.RunStep.{run_step}
 use Rattle.ld_tree.specs.Tree.{tree_lines, is_open}
 use Rattle.ld_lines.specs.declared.line.Line.{Line}
 use Rattle.ld_lines.specs.declared.line.Line.TheVariants.{Create}
 use Rattle.ld_world.specs.World.{world_step, reply_block}
-use Rattle.ld_courses.specs.Courses.{whole, truth, is_equal, sum_of_two, learner, choice, course, one_part, property, with_conditions, condition, moment, at, told}
+use Rattle.ld_courses.specs.Courses.{whole, truth, is_equal, sum_of_two, learner, choice, course, one_part, a_property, with_conditions, a_condition, a_moment, at, told}
 
 abbrev pub the_course : TermOf → Course
 the_course more = with_conditions
-    (property (codes "n") Loc IntegerKind (Some (codes "9223372036854775807"))
-    ∷ property (codes "go") Loc BooleanKind (Some (codes "false")) ∷ [])
-    (condition (is_equal (property_term (codes "go")) (truth (codes "true")))
+    (a_property (codes "n") Loc IntegerKind (Some (codes "9223372036854775807"))
+    ∷ a_property (codes "go") Loc BooleanKind (Some (codes "false")) ∷ [])
+    (a_condition (is_equal (property_term (codes "go")) (truth (codes "true")))
     (Change (record { property = codes "n"; value = more }) ∷ []) [] ∷ [])
     (course (codes "u") (learner ∷ []) (choice (codes "read") ∷ []) [] (one_part (codes "read")))
 
 abbrev pub the_lines : List Line
 the_lines =
-    Create (moment 8 0) (codes "r") (codes "u")
+    Create (a_moment 8 0) (codes "r") (codes "u")
     ∷ at 8 0 (Enrol (codes "ann"))
     ∷ at 8 0 (Assign (codes "ann") (codes "learner"))
     ∷ at 9 0 Start
     ∷ at 10 0 (Set (codes "ann") (codes "go") (codes "true"))
     ∷ at 10 0 (Get (codes "ann") (codes "n")) ∷ []
 
-abbrev pub one_more : TermOf
-one_more = sum_of_two (property_term (codes "n")) (whole (codes "1"))
+abbrev pub n_and_one : TermOf
+n_and_one = sum_of_two (property_term (codes "n")) (whole (codes "1"))
 
-pub sum_out_of_range : told 1 (the_course one_more) the_lines ≡
+pub sum_out_of_range : told 1 (the_course n_and_one) the_lines ≡
     codes "ok create\n"
     ∷ codes "ok enrol turns=0 fired=0 rejected=0 sent=0\n"
     ∷ codes "ok assign turns=0 fired=0 rejected=0 sent=0\n"

@@ -16,26 +16,26 @@ use Rattle.ld_firing.specs.Actions.{site_firing}
 use Rattle.ld_state.specs.RunState.{cell_of}
 use Rattle.ld_rules.specs.SiteTests.{site_test}
 use Rattle.ld_firing.specs.RunSettling.{run_settling}
-use Rattle.ld_run.specs.Checks.{admitted}
+use Rattle.ld_checks.specs.Checks.{admitted}
 use Rattle.ld_lines.specs.declared.command.RunCommand.TheVariants.{Enrol, Assign, Start, Complete, Tree, Report}
 use Rattle.ld_run.specs.RunStep.{run_step}
 use Rattle.ld_tree.specs.Tree.{tree_lines, is_open}
 use Rattle.ld_lines.specs.declared.line.Line.{Line}
 use Rattle.ld_lines.specs.declared.line.Line.TheVariants.{Create}
 use Rattle.ld_world.specs.World.{world_step, reply_block}
-use Rattle.ld_courses.specs.Courses.{learner, tutor, choice, part, act, course, clock, moment, at, told}
+use Rattle.ld_courses.specs.Courses.{learner, tutor, choice, a_part, an_act, course, clock, a_moment, at, told}
 
 abbrev pub the_course : Course
 the_course = course (codes "u") (learner ∷ tutor ∷ []) (choice (codes "x") ∷ choice (codes "y")
     ∷ choice (codes "z") ∷ []) []
-    (act (codes "a1") (part (codes "rp1") (codes "learner") (codes "x")
-    ∷ part (codes "rp2") (codes "tutor") (codes "y") ∷ [])
+    (an_act (codes "a1") (a_part (codes "rp1") (codes "learner") (codes "x")
+    ∷ a_part (codes "rp2") (codes "tutor") (codes "y") ∷ [])
     (Some (WhenRolePartCompleted (codes "rp1" ∷ codes "rp2" ∷ [])))
-    ∷ act (codes "a2") (part (codes "rp3") (codes "learner") (codes "z") ∷ []) None ∷ [])
+    ∷ an_act (codes "a2") (a_part (codes "rp3") (codes "learner") (codes "z") ∷ []) None ∷ [])
 
 abbrev pub the_lines : List Line
 the_lines =
-    Create (moment 8 0) (codes "r") (codes "u")
+    Create (a_moment 8 0) (codes "r") (codes "u")
     ∷ at 8 0 (Enrol (codes "ann"))
     ∷ at 8 0 (Assign (codes "ann") (codes "learner"))
     ∷ at 8 0 (Enrol (codes "bob"))

@@ -19,14 +19,14 @@ use Rattle.ld_firing.specs.Actions.{site_firing}
 use Rattle.ld_state.specs.RunState.{cell_of}
 use Rattle.ld_rules.specs.SiteTests.{site_test}
 use Rattle.ld_firing.specs.RunSettling.{run_settling}
-use Rattle.ld_run.specs.Checks.{admitted}
+use Rattle.ld_checks.specs.Checks.{admitted}
 use Rattle.ld_lines.specs.declared.command.RunCommand.TheVariants.{Enrol, Assign, Start, Set, Get}
 use Rattle.ld_run.specs.RunStep.{run_step}
 use Rattle.ld_tree.specs.Tree.{tree_lines, is_open}
 use Rattle.ld_lines.specs.declared.line.Line.{Line}
 use Rattle.ld_lines.specs.declared.line.Line.TheVariants.{Create}
 use Rattle.ld_world.specs.World.{world_step, reply_block}
-use Rattle.ld_courses.specs.Courses.{truth, is_equal, are_both, learner, choice, course, one_part, property, with_conditions, condition, moment, at, told}
+use Rattle.ld_courses.specs.Courses.{truth, is_equal, are_both, learner, choice, course, one_part, a_property, with_conditions, a_condition, a_moment, at, told}
 
 abbrev has_truth : List ℕ → List ℕ → TestOf
 has_truth property value = is_equal (property_term property) (truth value)
@@ -36,18 +36,18 @@ flips property value = Change (record { property = property; value = truth value
 
 abbrev pub the_course : TestOf → Course
 the_course both = record (with_conditions
-    (property (codes "go") Loc BooleanKind (Some (codes "false"))
-    ∷ property (codes "b") Loc BooleanKind (Some (codes "false"))
-    ∷ property (codes "d") Loc BooleanKind (Some (codes "false")) ∷ [])
-    (condition both (flips (codes "d") (codes "true") ∷ []) (flips (codes "d") (codes "false") ∷ [])
-    ∷ condition (has_truth (codes "d") (codes "true")) (flips (codes "b") (codes "true")
+    (a_property (codes "go") Loc BooleanKind (Some (codes "false"))
+    ∷ a_property (codes "b") Loc BooleanKind (Some (codes "false"))
+    ∷ a_property (codes "d") Loc BooleanKind (Some (codes "false")) ∷ [])
+    (a_condition both (flips (codes "d") (codes "true") ∷ []) (flips (codes "d") (codes "false") ∷ [])
+    ∷ a_condition (has_truth (codes "d") (codes "true")) (flips (codes "b") (codes "true")
     ∷ []) (flips (codes "b") (codes "false") ∷ []) ∷ [])
     (course (codes "u") (learner ∷ []) (choice (codes "read")
     ∷ []) [] (one_part (codes "read")))) { turns = 4 }
 
 abbrev pub the_lines : List Line
 the_lines =
-    Create (moment 8 0) (codes "r") (codes "u")
+    Create (a_moment 8 0) (codes "r") (codes "u")
     ∷ at 8 0 (Enrol (codes "ann"))
     ∷ at 8 0 (Assign (codes "ann") (codes "learner"))
     ∷ at 9 0 Start

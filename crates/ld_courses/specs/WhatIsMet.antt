@@ -11,30 +11,30 @@ use Rattle.ld_lines.specs.declared.command.RunCommand.TheVariants.{Enrol, Assign
 use Rattle.ld_lines.specs.declared.line.Line.{Line}
 use Rattle.ld_lines.specs.declared.line.Line.TheVariants.{Create, OfRun, GlobalSet}
 use Rattle.ld_state.specs.RunCells.{begins_as}
-use Rattle.ld_run.specs.Checks.{admitted}
+use Rattle.ld_checks.specs.Checks.{admitted}
 use Rattle.ld_run.specs.RunStep.{run_step}
 use Rattle.ld_world.specs.World.{seated_world, world_step}
 use Rattle.ld_histories.specs.Histories.{met, nothing, the_unit, the_values}
-use Rattle.ld_courses.specs.Courses.{learner, choice, course, one_part, property, with_conditions, moment, at}
+use Rattle.ld_courses.specs.Courses.{learner, choice, course, one_part, a_property, with_conditions, a_moment, at}
 
 -- One global property of which each person has a value, one that all share, and one of the run.
 abbrev pub the_course : Course
 the_course = with_conditions
-    (record (property (codes "g") GlobPers IntegerKind (Some (codes "0"))) { uri = Some (codes "urn:g") }
-    ∷ record (property (codes "h") Glob IntegerKind (Some (codes "1"))) { uri = Some (codes "urn:h") }
-    ∷ property (codes "l") Loc IntegerKind (Some (codes "2")) ∷ [])
+    (record (a_property (codes "g") GlobPers IntegerKind (Some (codes "0"))) { uri = Some (codes "urn:g") }
+    ∷ record (a_property (codes "h") Glob IntegerKind (Some (codes "1"))) { uri = Some (codes "urn:h") }
+    ∷ a_property (codes "l") Loc IntegerKind (Some (codes "2")) ∷ [])
     []
     (course (codes "u") (learner ∷ []) (choice (codes "read") ∷ []) [] (one_part (codes "read")))
 
 abbrev pub the_lines : List Line
 the_lines =
     at 7 0 (Enrol (codes "ann"))
-    ∷ Create (moment 8 0) (codes "r") (codes "u")
-    ∷ Create (moment 8 0) (codes "s") (codes "u")
-    ∷ GlobalSet (moment 8 0) (codes "urn:g") (Some (codes "bob")) (codes "4")
+    ∷ Create (a_moment 8 0) (codes "r") (codes "u")
+    ∷ Create (a_moment 8 0) (codes "s") (codes "u")
+    ∷ GlobalSet (a_moment 8 0) (codes "urn:g") (Some (codes "bob")) (codes "4")
     ∷ at 8 0 (Enrol (codes "ann"))
-    ∷ GlobalSet (moment 8 0) (codes "urn:h") None (codes "5")
-    ∷ OfRun (moment 8 0) (codes "s") (Enrol (codes "zoe"))
+    ∷ GlobalSet (a_moment 8 0) (codes "urn:h") None (codes "5")
+    ∷ OfRun (a_moment 8 0) (codes "s") (Enrol (codes "zoe"))
     ∷ at 8 1 (Enrol (codes "bob"))
     ∷ at 8 2 (Assign (codes "ann") (codes "learner")) ∷ []
 
@@ -43,7 +43,7 @@ whole_number n = Some (number_datum (pos n))
 
 pub what_is_met : met (seated_world 2 (the_course ∷ [])) (codes "r") (map Some the_lines) ≡
     record { line = Some (at 7 0 (Enrol (codes "ann"))); meeting = nothing }
-    ∷ record { line = Some (Create (moment 8 0) (codes "r") (codes "u")); meeting = the_unit (Some the_course) }
+    ∷ record { line = Some (Create (a_moment 8 0) (codes "r") (codes "u")); meeting = the_unit (Some the_course) }
     ∷ record {
       line = Some (at 8 0 (Enrol (codes "ann")));
       meeting = the_values ((whole_number 0 ∷ []) ∷ (whole_number 1 ∷ []) ∷ [] ∷ []);

@@ -1,7 +1,7 @@
 -- What is seen of a run: its cells by name.
 use Rattle.std.specs.Prelude.{ℕ, ℤ, List, Option, Some, None, Bool, false}
+use Rattle.ld_base.specs.Numbers.{numbers_below}
 use Rattle.ld_value.specs.Datum.{Datum, truth_datum, moment_datum}
-use Rattle.ld_model.specs.Counting.{numbers_below}
 use Rattle.ld_model.specs.declared.cell.CellName.{CellName}
 use Rattle.ld_model.specs.declared.cell.CellName.TheVariants.{Prop, Vis, Member, Chosen, Opened, ActOpened, Mark}
 use Rattle.ld_model.specs.declared.cell.Owner.{Owner}

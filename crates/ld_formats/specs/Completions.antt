@@ -28,9 +28,9 @@ abbrev pub value_set_in : Completion → Option (List ℕ × Option (List ℕ))
 value_set_in (WhenPropertyValueIsSet property value) = Some (property, value)
 value_set_in _ = None
 
-abbrev pub parts_in : Completion → Option (List (List ℕ))
-parts_in (WhenRolePartCompleted parts) = Some parts
-parts_in _ = None
+abbrev pub role_parts_in : Completion → Option (List (List ℕ))
+role_parts_in (WhenRolePartCompleted parts) = Some parts
+role_parts_in _ = None
 
 abbrev pub condition_in : Completion → Option (List ℕ × TestOf)
 condition_in (WhenConditionTrue role test) = Some (role, test)
@@ -62,7 +62,7 @@ by_value = case (codes "when-property-value-is-set") (λ p. WhenPropertyValueIsS
     (λ _. refl) value_set
 
 abbrev pub by_parts : Case Completion
-by_parts = case (codes "when-role-part-completed") (λ parts. WhenRolePartCompleted parts) parts_in
+by_parts = case (codes "when-role-part-completed") (λ parts. WhenRolePartCompleted parts) role_parts_in
     (λ _. refl) (list_of 1 identifier)
 
 abbrev pub by_condition : Case Completion

@@ -15,9 +15,9 @@ use Rattle.ld_formats.specs.Tests.{test}
 
 -- ---- what an action is made of
 
-abbrev pub shown_in : Action → Option (List (List ℕ))
-shown_in (Show things) = Some things
-shown_in _ = None
+abbrev pub things_shown_in : Action → Option (List (List ℕ))
+things_shown_in (Show things) = Some things
+things_shown_in _ = None
 
 abbrev pub hidden_in : Action → Option (List (List ℕ))
 hidden_in (Hide things) = Some things
@@ -36,7 +36,7 @@ notice_in _ = None
 -- What a condition does: it shows or hides things, changes a property, or sends a notice.
 unfoldable pub action : Shape Action
 action = sole
-    (case (codes "show") (λ things. Show things) shown_in (λ _. refl) (list_of 1 identifier)
+    (case (codes "show") (λ things. Show things) things_shown_in (λ _. refl) (list_of 1 identifier)
     ∷ case (codes "hide") (λ things. Hide things) hidden_in (λ _. refl) (list_of 1 identifier)
     ∷ case (codes "change") (λ one. Change one) change_in (λ _. refl) change
     ∷ case (codes "notify") (λ one. Notify one) notice_in (λ _. refl) notice

@@ -85,11 +85,11 @@ rows_formed kind n (rows ∷ more) is =
 -- ---- what an object of a role holds
 
 -- What is told of a role besides its identifier and its kind, and the roles within it.
-abbrev pub Told : Type 0
-Told = Option (List ℕ) × (CreateNew × (MatchPersons × (ℕ × (Option ℕ × List (List RoleRow)))))
+abbrev pub RoleTold : Type 0
+RoleTold = Option (List ℕ) × (CreateNew × (MatchPersons × (ℕ × (Option ℕ × List (List RoleRow)))))
 
 -- The members behind the identifier and the kind; the roles within are of this shape.
-unfoldable pub told_members : Shape (List RoleRow) → Members Told
+unfoldable pub told_members : Shape (List RoleRow) → Members RoleTold
 told_members inner =
     optional (codes "title") title
     and or_default (codes "create-new") NotAllowed creation refl
@@ -99,7 +99,7 @@ told_members inner =
     and list (codes "roles") inner
 
 -- A role of this kind with those within it.
-abbrev pub role_rows : RoleKind → List ℕ → Told → List RoleRow
+abbrev pub role_rows : RoleKind → List ℕ → RoleTold → List RoleRow
 role_rows kind id (caption, (create, (match, (least, (most, roles))))) =
     record {
       identifier = id;
@@ -123,7 +123,7 @@ tests_hold true false c d e f same g is equal next = cc
 tests_hold false b c d e f same g is equal next = cc
 
 -- What is read from an object of a role is so formed, where the roles within are.
-pub rows_keep : (kind : RoleKind) (inner : Formed (is_formed_role kind)) (p : List ℕ × Told)
+pub rows_keep : (kind : RoleKind) (inner : Formed (is_formed_role kind)) (p : List ℕ × RoleTold)
     → identifier.has_form p.0 && (told_members (shape_of inner)).shape.has_form p.1 ≡ true
     → is_formed_role kind (role_rows kind p.0 p.1) ≡ true
 unfolding told_members
@@ -155,7 +155,7 @@ abbrev pub role_kind : Placed → RoleKind
 role_kind node = unwrap_or ((needed_in (codes "kind") (one_of kind_words)).reading node).value Learner
 
 -- The members of a role at the top, the roles within which have this kind.
-abbrev pub role_members : RoleKind → Members (List ℕ × (RoleKind × Told))
+abbrev pub role_members : RoleKind → Members (List ℕ × (RoleKind × RoleTold))
 role_members kind =
     needed (codes "identifier") identifier
     and needed (codes "kind") (one_of kind_words)

@@ -107,8 +107,8 @@ structure_by key = object
     (structure_members key)
 
 -- What a structure tells of its key.
-abbrev pub key_of : Structure → StructureKey
-key_of x = (x.kind, Some (length x.children))
+abbrev pub structure_key_of : Structure → StructureKey
+structure_key_of x = (x.kind, Some (length x.children))
 
 as_many : {A : Type 0} (form : A → Bool) (array fits : Bool) (nodes : List Placed) (xs : Option (List A))
     → AreFormed form (length nodes) xs
@@ -140,7 +140,7 @@ both_keys key other k l None is are = tt
 both_keys key other k l (Some x) is are = λ i. (is i, are i)
 
 pub structure_has_key : (key : StructureKey) (node : Placed)
-    → HasKey key_of (structure_kind node, children_count node) ((structure_by key).reading node).value
+    → HasKey structure_key_of (structure_kind node, children_count node) ((structure_by key).reading node).value
 unfolding structure_by content_by
 structure_has_key key node =
     both_keys (λ x. x.kind) (λ x. Some (length x.children)) (structure_kind node) (children_count node) _
@@ -159,7 +159,7 @@ structure_has_key key node =
 
 -- A structure, whose children are done one after another, or some of them in any order.
 unfoldable pub structure : Shape Structure
-structure = by_key (λ node. (structure_kind node, children_count node)) structure_by key_of
+structure = by_key (λ node. (structure_kind node, children_count node)) structure_by structure_key_of
     (λ node. structure_has_key (structure_kind node, children_count node) node)
 
 -- The document of activities and structures.

@@ -125,8 +125,8 @@ unfolding conditions_document
 method_documents = pair (required_in file.Unit head) (document_or [] file.Conditions conditions_document refl)
 
 -- The unit of these parts, and of what its own document and that of the conditions tell.
-abbrev pub unit_of : Parts → Head × List Condition → Course
-unit_of parts (head, conditions) = record {
+abbrev pub unit_from : Parts → Head × List Condition → Course
+unit_from parts (head, conditions) = record {
   format = head.format;
   identifier = head.identifier;
   level = head.level;
@@ -144,8 +144,8 @@ unit_of parts (head, conditions) = record {
   conditions = conditions;
 }
 
-abbrev pub parts_of : Course → Parts
-parts_of unit = record {
+abbrev pub declared_parts : Course → Parts
+declared_parts unit = record {
   roles = unit.roles;
   properties = unit.properties;
   environments = unit.environments;
@@ -153,8 +153,8 @@ parts_of unit = record {
   structures = unit.structures;
 }
 
-abbrev pub told_of : Course → Head × List Condition
-told_of unit = (
+abbrev pub head_and_conditions : Course → Head × List Condition
+head_and_conditions unit = (
   record {
     format = unit.format;
     identifier = unit.identifier;
@@ -172,11 +172,11 @@ told_of unit = (
 
 -- The unit of these parts for which its own document and that of the conditions stand.
 abbrev pub method_with : Parts → UnitShape Course
-method_with parts = made (unit_of parts) told_of (λ _. refl) method_documents
+method_with parts = made (unit_from parts) head_and_conditions (λ _. refl) method_documents
 
 -- The unit for which the documents stand, or the faults of their shapes, document by document.
 unfoldable pub unit : UnitShape Course
-unit = made (λ x. unit_of x.0 x.1) (λ x. (parts_of x, told_of x)) (λ _. refl) (pair parts method_documents)
+unit = made (λ x. unit_from x.0 x.1) (λ x. (declared_parts x, head_and_conditions x)) (λ _. refl) (pair parts method_documents)
 
 -- Each member of the unit has its form and its range.
 unfoldable pub is_well_formed : Course → Bool

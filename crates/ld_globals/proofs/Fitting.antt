@@ -8,7 +8,7 @@ use Rattle.std.specs.Str.{bytes_eq}
 use Rattle.ld_base.specs.Roomy.{Roomy}
 use Rattle.ld_value.specs.Datum.{datum_of}
 use Rattle.ld_globals.specs.Declarations.{declaration_of, fits_declared}
-use Rattle.ld_globals.specs.Kept.{DeclareOnce, IsCell, IsWhole, key_of, pair_of, uri_in, written_of}
+use Rattle.ld_globals.specs.Kept.{DeclareOnce, IsCell, IsWhole, key_of, uri_and_declaration, entry_uri, written_of}
 use Rattle.ld_globals.specs.Store.{Key, Write, declared_in, same_key}
 use Rattle.ld_globals.specs.declared.cell.Cell.{Cell}
 use Rattle.ld_globals.specs.declared.declared.Declared.{Declared}
@@ -50,7 +50,7 @@ pub written-fits : (declared : List (Roomy × Declared)) (persons : List (List �
 written-fits declared persons cells key d w distinct all found written =
     let f = found-cell (key_of declared persons) key cells w written in
     let cell = all-there (IsCell declared persons) cells f.0 f.1 all f.2 in
-    let uri : key.uri ≡ cell.entry.0.bytes = ap (λ k. k.uri) (keys-equal key (key_of declared persons f.1.0) f.3) ∙ ap uri_in cell.there in
+    let uri : key.uri ≡ cell.entry.0.bytes = ap (λ k. k.uri) (keys-equal key (key_of declared persons f.1.0) f.3) ∙ ap entry_uri cell.there in
     let own = own-entry declared f.1.0.uri cell.entry key.uri distinct cell.there ((bytes_decides key.uri cell.entry.0.bytes).1 uri) in
     let both : Some cell.entry.1 ≡ Some d = sym own ∙ found in
     let same : cell.entry.1 ≡ d = cc in
@@ -58,7 +58,7 @@ written-fits declared persons cells key d w distinct all found written =
 
 -- A key of a uri that is not declared was never written.
 pub never-written : (declared : List (Roomy × Declared)) (persons : List (List ℕ)) (cells : List (KeyNumber × Cell)) (key : Key) → DeclareOnce declared → AllByRecursion (IsCell declared persons) cells
-    → declared_in (map pair_of declared) key.uri ≡ None → lookup (same_key key) (map (written_of declared persons) cells) ≡ None
+    → declared_in (map uri_and_declaration declared) key.uri ≡ None → lookup (same_key key) (map (written_of declared persons) cells) ≡ None
 never-written declared persons cells key distinct all none = by (lookup (same_key key) (map (written_of declared persons) cells)) refl
   where
     by : (o : Option Write) → lookup (same_key key) (map (written_of declared persons) cells) ≡ o → o ≡ None
@@ -66,7 +66,7 @@ never-written declared persons cells key distinct all none = by (lookup (same_ke
     by (Some w) found =
         let f = found-cell (key_of declared persons) key cells w found in
         let cell = all-there (IsCell declared persons) cells f.0 f.1 all f.2 in
-        let uri : key.uri ≡ cell.entry.0.bytes = ap (λ k. k.uri) (keys-equal key (key_of declared persons f.1.0) f.3) ∙ ap uri_in cell.there in
+        let uri : key.uri ≡ cell.entry.0.bytes = ap (λ k. k.uri) (keys-equal key (key_of declared persons f.1.0) f.3) ∙ ap entry_uri cell.there in
         let own = own-entry declared f.1.0.uri cell.entry key.uri distinct cell.there ((bytes_decides key.uri cell.entry.0.bytes).1 uri) in
         let both : None ≡ Some (declaration_of cell.entry.1) = sym none ∙ declared-found declared key.uri ∙ ap (option_map declaration_of) own in
         cc

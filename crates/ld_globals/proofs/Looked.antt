@@ -7,7 +7,7 @@ use Rattle.std.specs.Map.{lookup}
 use Rattle.std.specs.Str.{bytes_eq}
 use Rattle.ld_base.specs.Roomy.{Roomy}
 use Rattle.ld_globals.specs.Declarations.{declaration_of}
-use Rattle.ld_globals.specs.Kept.{pair_of}
+use Rattle.ld_globals.specs.Kept.{uri_and_declaration}
 use Rattle.ld_globals.specs.Store.{declared_in}
 use Rattle.ld_globals.specs.declared.declared.Declared.{Declared}
 
@@ -76,7 +76,7 @@ module _ {K : Type 0} (f : K → List ℕ) where
       by false is true same = absurd (true≢false (sym (eq-eqb i j (one-place ks i j a b distinct at there ((bytes_decides (f a) (f b)).0 same))) ∙ is))
 
 -- How a uri is declared among mapped entries.
-pub declared-found : (es : List (Roomy × Declared)) (uri : List ℕ) → declared_in (map pair_of es) uri ≡ option_map declaration_of (lookup (λ k. bytes_eq uri k.bytes) es)
+pub declared-found : (es : List (Roomy × Declared)) (uri : List ℕ) → declared_in (map uri_and_declaration es) uri ≡ option_map declaration_of (lookup (λ k. bytes_eq uri k.bytes) es)
 declared-found es uri = lookup-mapped (λ e. e.0.bytes) declaration_of (bytes_eq uri) (λ k. bytes_eq uri k.bytes) es (alike es)
   where
     alike : (fs : List (Roomy × Declared)) → AllByRecursion (λ e. bytes_eq uri e.0.bytes ≡ bytes_eq uri e.0.bytes) fs

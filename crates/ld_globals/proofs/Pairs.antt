@@ -8,7 +8,7 @@ use Rattle.std.specs.Map.{lookup}
 use Rattle.std.specs.Str.{bytes_eq}
 use Rattle.ld_base.specs.Roomy.{Roomy}
 use Rattle.ld_globals.specs.Declarations.{declaration_of}
-use Rattle.ld_globals.specs.Kept.{Extends, IsCell, IsWhole, pair_of, store_of, written_of}
+use Rattle.ld_globals.specs.Kept.{Extends, IsCell, IsWhole, uri_and_declaration, store_of, written_of}
 use Rattle.ld_globals.specs.Store.{Agrees, Differs, IsFirstToDiffer, with_declared}
 use Rattle.ld_globals.specs.declared.cell.Cell.{Cell}
 use Rattle.ld_globals.specs.declared.declared.Declared.{Declared}
@@ -41,18 +41,18 @@ all-taken P (y ∷ ys) (suc i) x there all here = let one : suc i + 1 ≡ suc (i
 -- ---- one pair more
 
 module _ (es : List (Roomy × Declared)) (uri : Roomy) (new : Declared) where
-  pub with-present : is_some (lookup (λ k. bytes_eq uri.bytes k.bytes) es) ≡ true → map pair_of es ≡ with_declared (map pair_of es) (pair_of (uri, new))
+  pub with-present : is_some (lookup (λ k. bytes_eq uri.bytes k.bytes) es) ≡ true → map uri_and_declaration es ≡ with_declared (map uri_and_declaration es) (uri_and_declaration (uri, new))
   with-present some = by (lookup (λ k. bytes_eq uri.bytes k.bytes) es) refl some
     where
-      by : (o : Option Declared) → lookup (λ k. bytes_eq uri.bytes k.bytes) es ≡ o → is_some o ≡ true → map pair_of es ≡ with_declared (map pair_of es) (pair_of (uri, new))
+      by : (o : Option Declared) → lookup (λ k. bytes_eq uri.bytes k.bytes) es ≡ o → is_some o ≡ true → map uri_and_declaration es ≡ with_declared (map uri_and_declaration es) (uri_and_declaration (uri, new))
       by None found some = cc
       by (Some d) found some = rw (declared-found es uri.bytes, found) refl
 
-  pub with-absent : is_some (lookup (λ k. bytes_eq uri.bytes k.bytes) es) ≡ false → map pair_of (es ++ (uri, new) ∷ []) ≡ with_declared (map pair_of es) (pair_of (uri, new))
+  pub with-absent : is_some (lookup (λ k. bytes_eq uri.bytes k.bytes) es) ≡ false → map uri_and_declaration (es ++ (uri, new) ∷ []) ≡ with_declared (map uri_and_declaration es) (uri_and_declaration (uri, new))
   with-absent none = by (lookup (λ k. bytes_eq uri.bytes k.bytes) es) refl none
     where
-      by : (o : Option Declared) → lookup (λ k. bytes_eq uri.bytes k.bytes) es ≡ o → is_some o ≡ false → map pair_of (es ++ (uri, new) ∷ []) ≡ with_declared (map pair_of es) (pair_of (uri, new))
-      by None found none = rw (declared-found es uri.bytes, found) (map-append pair_of es ((uri, new) ∷ []))
+      by : (o : Option Declared) → lookup (λ k. bytes_eq uri.bytes k.bytes) es ≡ o → is_some o ≡ false → map uri_and_declaration (es ++ (uri, new) ∷ []) ≡ with_declared (map uri_and_declaration es) (uri_and_declaration (uri, new))
+      by None found none = rw (declared-found es uri.bytes, found) (map-append uri_and_declaration es ((uri, new) ∷ []))
       by (Some d) found none = cc
 
   pub none-found : is_some (lookup (λ k. bytes_eq uri.bytes k.bytes) es) ≡ false → lookup (λ k. bytes_eq uri.bytes k.bytes) es ≡ None
@@ -82,8 +82,8 @@ pub extends-none : (a : List (Roomy × Declared)) → Extends a a
 extends-none a = ([], sym (append-nil a), tt)
 
 -- A pair of the list is the first to differ, where it differs and those before it do not.
-pub first-to-differ : (es pairs : List (Roomy × Declared)) (place : ℕ) (uri : Roomy) (new : Declared) → slice_get pairs place ≡ Some (uri, new) → Differs (store_of es [] [] 0 0) (pair_of (uri, new)) → AllByRecursion (Agrees (store_of es [] [] 0 0)) (take place (map pair_of pairs)) → IsFirstToDiffer (store_of es [] [] 0 0) (map pair_of pairs) place
-first-to-differ es pairs place uri new there differs before = record { pair = pair_of (uri, new); there = slice_get-map pair_of pairs place ∙ ap (option_map pair_of) there; differs = differs; before = before }
+pub first-to-differ : (es pairs : List (Roomy × Declared)) (place : ℕ) (uri : Roomy) (new : Declared) → slice_get pairs place ≡ Some (uri, new) → Differs (store_of es [] [] 0 0) (uri_and_declaration (uri, new)) → AllByRecursion (Agrees (store_of es [] [] 0 0)) (take place (map uri_and_declaration pairs)) → IsFirstToDiffer (store_of es [] [] 0 0) (map uri_and_declaration pairs) place
+first-to-differ es pairs place uri new there differs before = record { pair = uri_and_declaration (uri, new); there = slice_get-map uri_and_declaration pairs place ∙ ap (option_map uri_and_declaration) there; differs = differs; before = before }
 
-pub taken-on : (es pairs : List (Roomy × Declared)) (place : ℕ) (uri : Roomy) (new : Declared) → slice_get pairs place ≡ Some (uri, new) → Agrees (store_of es [] [] 0 0) (pair_of (uri, new)) → AllByRecursion (Agrees (store_of es [] [] 0 0)) (take place (map pair_of pairs)) → AllByRecursion (Agrees (store_of es [] [] 0 0)) (take (place + 1) (map pair_of pairs))
-taken-on es pairs place uri new there agrees before = all-taken (Agrees (store_of es [] [] 0 0)) (map pair_of pairs) place (pair_of (uri, new)) (slice_get-map pair_of pairs place ∙ ap (option_map pair_of) there) before agrees
+pub taken-on : (es pairs : List (Roomy × Declared)) (place : ℕ) (uri : Roomy) (new : Declared) → slice_get pairs place ≡ Some (uri, new) → Agrees (store_of es [] [] 0 0) (uri_and_declaration (uri, new)) → AllByRecursion (Agrees (store_of es [] [] 0 0)) (take place (map uri_and_declaration pairs)) → AllByRecursion (Agrees (store_of es [] [] 0 0)) (take (place + 1) (map uri_and_declaration pairs))
+taken-on es pairs place uri new there agrees before = all-taken (Agrees (store_of es [] [] 0 0)) (map uri_and_declaration pairs) place (uri_and_declaration (uri, new)) (slice_get-map uri_and_declaration pairs place ∙ ap (option_map uri_and_declaration) there) before agrees

@@ -8,7 +8,7 @@ use Rattle.std.specs.Option.{option_map_or}
 use Rattle.std.proofs.lemmas.Option.{slice_get_past}
 use Rattle.lru.proofs.Splits.{all_both, all_unmap}
 use Rattle.lru.specs.LruCache.{demoted}
-use Rattle.ld_globals.specs.Kept.{IsTied, number_in}
+use Rattle.ld_globals.specs.Kept.{IsTied, write_number_in}
 use Rattle.ld_globals.specs.declared.cell.Cell.{Cell}
 use Rattle.ld_globals.specs.declared.key_number.KeyNumber.{KeyNumber}
 use Rattle.ld_globals.specs.Recent.{Falls, IsRecency, Grows}
@@ -132,4 +132,4 @@ others-left slot (e ∷ es) distinct = by (others-left slot es distinct.1) (nat_
 
 -- Slots that were never used have no cell.
 pub tied-grown : (cells : List (KeyNumber × Cell)) (old new : List (ℕ × ℕ)) → length cells ≤ length old → AllByRecursion (IsTied cells) old → Grows old new → AllByRecursion (IsTied cells) new
-tied-grown cells old new fewer tied grows = subst (AllByRecursion (IsTied cells)) (sym grows.all) (all_both (IsTied cells) old grows.added tied (all-weaker grows.added (λ e unused. let far = unused.1 in unused.0 ∙ sym (ap number_in (slice_get_past cells e.0 (omega (arith, far, fewer))))) grows.unused))
+tied-grown cells old new fewer tied grows = subst (AllByRecursion (IsTied cells)) (sym grows.all) (all_both (IsTied cells) old grows.added tied (all-weaker grows.added (λ e unused. let far = unused.1 in unused.0 ∙ sym (ap write_number_in (slice_get_past cells e.0 (omega (arith, far, fewer))))) grows.unused))

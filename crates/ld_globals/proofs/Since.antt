@@ -9,7 +9,7 @@ use Rattle.std.specs.Option.{option_eq}
 use Rattle.lru.proofs.Splits.{Contains-cons, Contains-head, Contains-nil, Contains-tail, all_at, all_from, all_map, all_unmap}
 use Rattle.std.specs.Str.{bytes_eq}
 use Rattle.ld_base.specs.Roomy.{Roomy}
-use Rattle.ld_globals.specs.Kept.{IsCell, IsCounted, IsFilled, IsNumbered, IsNumbering, IsNumberOf, IsPersonNumber, IsTied, is_later, key_at_slot, key_in, key_of, number_in, same_number, text_in, uri_in, write_of, written_of}
+use Rattle.ld_globals.specs.Kept.{IsCell, IsCounted, IsFilled, IsNumbered, IsNumbering, IsNumberOf, IsPersonNumber, IsTied, is_later, key_at_slot, key_in, key_of, write_number_in, same_number, person_text, entry_uri, write_of, written_of}
 use Rattle.ld_globals.specs.Recent.{Falls, IsRecency}
 use Rattle.ld_globals.specs.Store.{Key, Write, bound_of, comes_after, is_since, last_stamp, same_key}
 use Rattle.ld_globals.specs.declared.cell.Cell.{Cell}
@@ -169,18 +169,18 @@ keys-equal a b same =
 
 module _ (declared : List (Roomy × Declared)) (persons : List (List ℕ)) (cells : List (KeyNumber × Cell)) (numbering : IsNumbering declared persons) (all : AllByRecursion (IsCell declared persons) cells) (own : IsDistinct same_number (keys_of cells)) where
   its-number : (c : KeyNumber × Cell) → IsCell declared persons c → IsNumberOf declared persons (key_of declared persons c.0) c.0
-  its-number c cell = record { entry = cell.entry; there = cell.there; same = (bytes_decides (key_of declared persons c.0).uri cell.entry.0.bytes).1 (ap uri_in cell.there); person = by c.0.person cell.person }
+  its-number c cell = record { entry = cell.entry; there = cell.there; same = (bytes_decides (key_of declared persons c.0).uri cell.entry.0.bytes).1 (ap entry_uri cell.there); person = by c.0.person cell.person }
     where
-      by : (q : Option ℕ) → IsNumbered persons q → IsPersonNumber persons (option_map (λ p. text_in (slice_get persons p)) q) q
+      by : (q : Option ℕ) → IsNumbered persons q → IsPersonNumber persons (option_map (λ p. person_text (slice_get persons p)) q) q
       by None there = tt
-      by (Some p) there = there.1 ∙ ap Some (sym (ap text_in there.1))
+      by (Some p) there = there.1 ∙ ap Some (sym (ap person_text there.1))
 
   pub filled : (b : ℕ) (e : ℕ × ℕ) → IsTied cells e → is_later b e ≡ true → (c : KeyNumber × Cell) × (slice_get cells e.0 ≡ Some c) × (nat_lt b c.1.number ≡ true) × IsCell declared persons c
   filled b e tied is = by (slice_get cells e.0) refl
     where
       by : (o : Option (KeyNumber × Cell)) → slice_get cells e.0 ≡ o → (c : KeyNumber × Cell) × (slice_get cells e.0 ≡ Some c) × (nat_lt b c.1.number ≡ true) × IsCell declared persons c
-      by None at = let none = tied ∙ ap number_in at in let high = ltb-true b e.1 is in absurd (omega (arith, none, high))
-      by (Some c) at = (c, at, ap (nat_lt b) (sym (tied ∙ ap number_in at)) ∙ is, all-there (IsCell declared persons) cells e.0 c all at)
+      by None at = let none = tied ∙ ap write_number_in at in let high = ltb-true b e.1 is in absurd (omega (arith, none, high))
+      by (Some c) at = (c, at, ap (nat_lt b) (sym (tied ∙ ap write_number_in at)) ∙ is, all-there (IsCell declared persons) cells e.0 c all at)
 
   last-of : (i : ℕ) (c : KeyNumber × Cell) → slice_get cells i ≡ Some c → lookup (same_key (key_of declared persons c.0)) (map (written_of declared persons) cells) ≡ Some (write_of c.1)
   last-of i c at = written-found declared persons numbering same_number (λ a b. refl) (key_of declared persons c.0) c.0 cells (its-number c (all-there (IsCell declared persons) cells i c all at)) all ∙ ap (option_map write_of) (own-cell cells i c own at)
@@ -213,7 +213,7 @@ module _ (declared : List (Roomy × Declared)) (persons : List (List ℕ)) (cell
             let at = f.2 in
             let within = slice_get_within cells f.0 f.1 at in
             let slot = looked-in f.0 es (recency.1 f.0 (omega (arith, within, fewer))) in
-            let number : slot.0 ≡ f.1.1.number = all_at (IsTied cells) es (f.0, slot.0) tied slot.1 ∙ ap number_in at in
+            let number : slot.0 ≡ f.1.1.number = all_at (IsTied cells) es (f.0, slot.0) tied slot.1 ∙ ap write_number_in at in
             let some = (all-there (IsCounted top) cells f.0 f.1 counted at).0 in
             let comes : comes_after stamp (write_of f.1.1) ≡ true = ap (comes_after stamp) f.4 ∙ since in
             let high : is_later (bound_of stamp) (f.0, slot.0) ≡ true = ap (nat_lt (bound_of stamp)) number ∙ bound-after stamp (write_of f.1.1) some comes in

@@ -10,7 +10,7 @@ use Rattle.indexmap.specs.IndexMap.{insert_entry}
 use Rattle.ld_base.specs.Roomy.{Roomy}
 use Rattle.ld_value.specs.Datum.{Datum, datum_of, same_datum}
 use Rattle.ld_globals.specs.Declarations.{Declaration, declaration_of, fits_declared, suits}
-use Rattle.ld_globals.specs.Kept.{pair_of, IsCell, IsCounted, IsNumbered, IsNumbering, IsNumberOf, IsPersonNumber, IsTied, key_of, number_in, same_number, write_of, written_of}
+use Rattle.ld_globals.specs.Kept.{uri_and_declaration, IsCell, IsCounted, IsNumbered, IsNumbering, IsNumberOf, IsPersonNumber, IsTied, key_of, write_number_in, same_number, write_of, written_of}
 use Rattle.ld_globals.specs.Store.{Key, Store, declared_in, next_stamp, put_in, same_key, value_at}
 use Rattle.ld_globals.specs.declared.cell.Cell.{Cell}
 use Rattle.ld_globals.specs.declared.declared.Declared.{Declared}
@@ -141,17 +141,17 @@ module _ (declared : List (Roomy × Declared)) (persons added : List (List ℕ))
   tied-after [] tied others = tt
   tied-after (e ∷ es) tied others =
       let other : e.0 ≢ position_or_len (same_number k) (keys_of cells) = λ same. true≢false (sym (eq-eqb (position_or_len (same_number k) (keys_of cells)) e.0 (sym same)) ∙ others.0) in
-      (tied.0 ∙ sym (ap number_in (inserted-other same_number k c cells e.0 other)), tied-after es tied.1 others.1)
+      (tied.0 ∙ sym (ap write_number_in (inserted-other same_number k c cells e.0 other)), tied-after es tied.1 others.1)
 
   pub tied-first : IsTied (insert_entry same_number cells k c) (position_or_len (same_number k) (keys_of cells), c.number)
-  tied-first = let there = inserted-there same_number k c cells in sym (ap number_in there.1)
+  tied-first = let there = inserted-there same_number k c cells in sym (ap write_number_in there.1)
 
 -- All numbers of slots are of writes of the store.
 pub numbers-counted : (cells : List (KeyNumber × Cell)) (stamp next : ℕ) → stamp ≤ next → AllByRecursion (IsCounted stamp) cells → (es : List (ℕ × ℕ)) → AllByRecursion (IsTied cells) es → AllByRecursion (λ e. e.1 ≤ next) es
 numbers-counted cells stamp next more counted [] tied = tt
 numbers-counted cells stamp next more counted (e ∷ es) tied = (subst (λ n. n ≤ next) (sym tied.0) (below (slice_get cells e.0) (λ c there. all-there (IsCounted stamp) cells e.0 c counted there)), numbers-counted cells stamp next more counted es tied.1)
   where
-    below : (c : Option (KeyNumber × Cell)) → ((d : KeyNumber × Cell) → c ≡ Some d → IsCounted stamp d) → number_in c ≤ next
+    below : (c : Option (KeyNumber × Cell)) → ((d : KeyNumber × Cell) → c ≡ Some d → IsCounted stamp d) → write_number_in c ≤ next
     below None each = omega arith
     below (Some d) each = let less = (each d refl).1 in omega (arith, less, more)
 
@@ -170,14 +170,14 @@ module _ (declared : List (Roomy × Declared)) (persons : List (List ℕ)) (key 
       record { entry = number.entry; there = number.there; person = person.0; suited = subst (λ b. IsTrue (suits number.entry.1.kind b)) (sym person.1) (subst (λ t. IsTrue (suits t.kind (is_some key.person))) (sym is) suited); fitting = subst (λ t. IsTrue (fits_declared t (option_map datum_of c.value))) (sym is) fitting }
 
 -- How a uri is declared tells the entry that declares it.
-pub declaring : (es : List (Roomy × Declared)) (uri : List ℕ) (d : Declaration) → declared_in (map pair_of es) uri ≡ Some d → (e : Declared) × (lookup (λ k. bytes_eq uri k.bytes) es ≡ Some e)
+pub declaring : (es : List (Roomy × Declared)) (uri : List ℕ) (d : Declaration) → declared_in (map uri_and_declaration es) uri ≡ Some d → (e : Declared) × (lookup (λ k. bytes_eq uri k.bytes) es ≡ Some e)
 declaring es uri d is = by (lookup (λ k. bytes_eq uri k.bytes) es) refl (sym (declared-found es uri) ∙ is)
   where
     by : (o : Option Declared) → lookup (λ k. bytes_eq uri k.bytes) es ≡ o → option_map declaration_of (lookup (λ k. bytes_eq uri k.bytes) es) ≡ Some d → (e : Declared) × (lookup (λ k. bytes_eq uri k.bytes) es ≡ Some e)
     by None found is = let none : None ≡ Some d = sym (ap (option_map declaration_of) found) ∙ is in cc
     by (Some e) found is = (e, found)
 
-pub declaration-is : (es : List (Roomy × Declared)) (uri : List ℕ) (d : Declaration) (e : Declared) → declared_in (map pair_of es) uri ≡ Some d → lookup (λ k. bytes_eq uri k.bytes) es ≡ Some e → declaration_of e ≡ d
+pub declaration-is : (es : List (Roomy × Declared)) (uri : List ℕ) (d : Declaration) (e : Declared) → declared_in (map uri_and_declaration es) uri ≡ Some d → lookup (λ k. bytes_eq uri k.bytes) es ≡ Some e → declaration_of e ≡ d
 declaration-is es uri d e is found =
     let same : Some (declaration_of e) ≡ Some d = sym (ap (option_map declaration_of) found) ∙ sym (declared-found es uri) ∙ is in
     cc

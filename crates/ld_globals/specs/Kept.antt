@@ -15,22 +15,22 @@ use Rattle.ld_globals.specs.declared.faults.SetFault.{SetFault}
 use Rattle.ld_globals.specs.declared.key_number.KeyNumber.{KeyNumber}
 
 -- A uri and how it is declared.
-abbrev pub pair_of : Roomy × Declared → List ℕ × Declaration
-pair_of e = (e.0.bytes, declaration_of e.1)
+abbrev pub uri_and_declaration : Roomy × Declared → List ℕ × Declaration
+uri_and_declaration e = (e.0.bytes, declaration_of e.1)
 
 -- The uri of an entry; nothing where there is none.
-abbrev pub uri_in : Option (Roomy × Declared) → List ℕ
-uri_in None = []
-uri_in (Some e) = e.0.bytes
+abbrev pub entry_uri : Option (Roomy × Declared) → List ℕ
+entry_uri None = []
+entry_uri (Some e) = e.0.bytes
 
 -- The text of a person; nothing where there is none.
-abbrev pub text_in : Option (List ℕ) → List ℕ
-text_in None = []
-text_in (Some text) = text
+abbrev pub person_text : Option (List ℕ) → List ℕ
+person_text None = []
+person_text (Some text) = text
 
 -- The key of these numbers, over the lists of declarations and of persons.
 abbrev pub key_of : List (Roomy × Declared) → List (List ℕ) → KeyNumber → Key
-key_of declared persons k = record { uri = uri_in (slice_get declared k.uri); person = option_map (λ p. text_in (slice_get persons p)) k.person }
+key_of declared persons k = record { uri = entry_uri (slice_get declared k.uri); person = option_map (λ p. person_text (slice_get persons p)) k.person }
 
 -- The last write that the cell keeps.
 abbrev pub write_of : Cell → Write
@@ -43,7 +43,7 @@ written_of declared persons e = (key_of declared persons e.0, write_of e.1)
 -- The store that is kept so.
 abbrev pub store_of : List (Roomy × Declared) → List (List ℕ) → List (KeyNumber × Cell) → ℕ → ℕ → Store
 store_of declared persons cells stamp spare = record {
-  declared = map pair_of declared;
+  declared = map uri_and_declaration declared;
   written = map (written_of declared persons) cells;
   stamp = stamp;
   spare = spare;
@@ -55,7 +55,7 @@ declaring declared = store_of declared [] [] 0 0
 
 -- The uris and how they are declared.
 abbrev pub pairs_of : List (Roomy × Declared) → List (List ℕ × Declaration)
-pairs_of = map pair_of
+pairs_of = map uri_and_declaration
 
 -- The keys and their last writes.
 abbrev pub writes_of : List (Roomy × Declared) → List (List ℕ) → List (KeyNumber × Cell) → List (Key × Write)
@@ -121,13 +121,13 @@ abbrev pub IsCounted : ℕ → KeyNumber × Cell → Type 0
 IsCounted stamp e = (0 < e.1.number) × (e.1.number ≤ stamp)
 
 -- The number of the write in the cell of the slot, 0 where there is no such cell.
-abbrev pub number_in : Option (KeyNumber × Cell) → ℕ
-number_in None = 0
-number_in (Some e) = e.1.number
+abbrev pub write_number_in : Option (KeyNumber × Cell) → ℕ
+write_number_in None = 0
+write_number_in (Some e) = e.1.number
 
 -- The slot stands with the number of its cell's write.
 abbrev pub IsTied : List (KeyNumber × Cell) → ℕ × ℕ → Type 0
-IsTied cells e = e.1 ≡ number_in (slice_get cells e.0)
+IsTied cells e = e.1 ≡ write_number_in (slice_get cells e.0)
 
 -- What a key that is declared so is to be set to by the text, or why it is refused.
 abbrev pub read_in : Declared → Bool → List ℕ → Result Datum SetFault

@@ -4,7 +4,7 @@ ghost use Rattle.std.specs.List.{AllByRecursion, fold};
 ghost use Rattle.std.specs.Str.{bytes_eq};
 ghost use Rattle.indexmap.specs.IndexMap as by_key;
 ghost use Rattle.ld_base.specs.Roomy.{Roomy};
-ghost use Rattle.ld_globals.specs.Kept.{DeclareOnce, Extends, IsWhole, declaring, pair_of, pairs_of};
+ghost use Rattle.ld_globals.specs.Kept.{DeclareOnce, Extends, IsWhole, declaring, uri_and_declaration, pairs_of};
 ghost use Rattle.ld_globals.specs.Store.{Agrees, Differs, IsFirstToDiffer, with_declared};
 ghost use Rattle.ld_globals.specs.declared.declared.Declared.{Declared};
 
@@ -36,9 +36,9 @@ pub(crate) fn first_to_differ(
 /// Whether the uri is declared with other contents.
 fn differs(declared: &IndexMap<Text, Declared>, uri: &Text, contents: &Declared) -> bool
     ensures yes { IsTrue result → Differs (declaring declared.now.entries)
-        (pair_of (uri.now, contents.now)) }
+        (uri_and_declaration (uri.now, contents.now)) }
     ensures no { result ≡ false → Agrees (declaring declared.now.entries)
-        (pair_of (uri.now, contents.now)) }
+        (uri_and_declaration (uri.now, contents.now)) }
 {
     let Some(old) = declared.get(uri) else {
         return false;
@@ -66,7 +66,7 @@ fn declare_pair(declared: &mut IndexMap<Text, Declared>, uri: Text, contents: De
     requires room { 0 < by_key.spare declared.old }
     requires whole { IsWhole (uri, contents) }
     ensures pairs { pairs_of declared.new.entries
-        ≡ with_declared (pairs_of declared.old.entries) (pair_of (uri, contents)) }
+        ≡ with_declared (pairs_of declared.old.entries) (uri_and_declaration (uri, contents)) }
     ensures keeps { Extends declared.old.entries declared.new.entries }
     ensures unique { DeclareOnce declared.old.entries → DeclareOnce declared.new.entries }
     ensures spare { by_key.spare declared.old ≤ by_key.spare declared.new + 1 }

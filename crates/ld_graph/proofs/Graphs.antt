@@ -3,20 +3,20 @@ use Rattle.std.proofs.lemmas.Bool.{cases_eq}
 use Rattle.std.proofs.lemmas.List.{get_or-set_same, get_or-set_other, length-set, get_or_default, get_or-map, length-map}
 use Rattle.ld_graph.specs.declared.edge.Edge.{Edge}
 use Rattle.ld_graph.specs.Edges.{Edges, IsLinked, Changes}
-use Rattle.ld_graph.specs.Linked.{none_at, Among, Follows, FollowsBack, Linkage, row_of, rows_of, free_count}
-use Rattle.ld_graph.specs.Columns.{slots_of, sites_of, nexts_of, befores_of, site_nexts_of, HaveColumns, IsGraph, seen}
+use Rattle.ld_graph.specs.Linked.{none_at, Among, Follows, FollowsBack, Linkage, slots_of_site, rows_of, free_count}
+use Rattle.ld_graph.specs.Columns.{slots_of, edge_sites, nexts_of, befores_of, site_nexts_of, HaveColumns, IsGraph, seen}
 use Rattle.ld_graph.proofs.Chains.{among_split, follows_within, forget, prior_in, next_in, among_left, among_right}
 use Rattle.ld_graph.proofs.Linking.{site_edge, free_edge, free_first_is, linkage_less, linkage_more}
 use Rattle.ld_graph.proofs.Rowed.{among_contains, contains_among, row_edge, edge_row, row_kept, row_less, row_more, rows_at, rows_length, rows_set, free_less, free_more, free_some}
 
 pub seen_sites : (edges : List Edge) (sites slots spare : ℕ) (g : Edges) → seen edges sites slots spare ≡ g → length g.rows ≡ sites
 seen_sites edges sites slots spare g is =
-    ap (λ (x : Edges). length x.rows) (sym is) ∙ rows_length (slots_of edges) (sites_of edges) sites
+    ap (λ (x : Edges). length x.rows) (sym is) ∙ rows_length (slots_of edges) (edge_sites edges) sites
 
 pub seen_row : (edges : List Edge) (sites slots spare : ℕ) (g : Edges) → seen edges sites slots spare ≡ g → (i : ℕ) → i < sites
-    → get_or g.rows i [] ≡ row_of (slots_of edges) (sites_of edges) i
+    → get_or g.rows i [] ≡ slots_of_site (slots_of edges) (edge_sites edges) i
 seen_row edges sites slots spare g is i lt =
-    ap (λ (x : Edges). get_or x.rows i []) (sym is) ∙ rows_at (slots_of edges) (sites_of edges) sites i lt
+    ap (λ (x : Edges). get_or x.rows i []) (sym is) ∙ rows_at (slots_of edges) (edge_sites edges) sites i lt
 
 -- a list with no number is empty
 pub none_among : (xs : List ℕ) → ((x : ℕ) → Among xs x → ⊥) → xs ≡ []
@@ -39,8 +39,8 @@ led_first links first (x ∷ xs) f bound len = inr (let a = f.0 in let b = f.1 i
 
 module _ {slots sites next before site_next firsts site_firsts : List ℕ} {free : ℕ} (l : Linkage slots sites next before site_next firsts site_firsts free) where
   -- a site with no first edge has no edge
-  pub no_first : (i : ℕ) → i < length site_firsts → get_or site_firsts i none_at ≡ none_at → row_of slots sites i ≡ []
-  no_first i lt is = none_among (row_of slots sites i) (λ k h.
+  pub no_first : (i : ℕ) → i < length site_firsts → get_or site_firsts i none_at ≡ none_at → slots_of_site slots sites i ≡ []
+  no_first i lt is = none_among (slots_of_site slots sites i) (λ k h.
       let r = row_edge slots sites i k h in
       let p = l.by_site i (inl lt) in
       led_none site_next (get_or site_firsts i free) p.edges (let fit = l.edges_fit in let a = l.site_next_len in omega arith) p.follows
@@ -98,13 +98,13 @@ linkage_same {slots} {sites} {next} {before} {site_next} {firsts} {site_firsts} 
 -- the first edge of a site is taken away
 module _ {edges : List Edge} {firsts site_firsts : List ℕ} {free spare : ℕ} (g : IsGraph edges firsts site_firsts free spare)
     (site first : ℕ) (lt : site < length site_firsts) (is : get_or site_firsts site none_at ≡ first) (some : first ≢ none_at) where
-  pub first_there : (first < length edges) × (get_or (sites_of edges) first none_at ≡ site)
+  pub first_there : (first < length edges) × (get_or (edge_sites edges) first none_at ≡ site)
   first_there =
       let r = site_edge g.linked site first lt is some in
       let a = r.0 in let b = length-map edges (λ (e : Edge). e.slot) in
       (omega arith, r.1)
 
-  pub has_site : get_or (sites_of edges) first none_at ≢ none_at
+  pub has_site : get_or (edge_sites edges) first none_at ≢ none_at
   has_site q = let a = first_there.1 in let b = g.linked.sites_fit in omega arith
 
   pub beside_first : (edge : Edge) → edge ≡ get_or edges first edge
@@ -123,13 +123,13 @@ module _ {edges : List Edge} {firsts site_firsts : List ℕ} {free spare : ℕ} 
       )
 
   module _ (edge : Edge) (read : edge ≡ get_or edges first edge) {edges' edges'' : List Edge} {firsts' : List ℕ}
-      (parted : HaveColumns edges' (slots_of edges) (sites_of edges) (set (nexts_of edges) edge.before edge.next) (set (befores_of edges) edge.next edge.before) (site_nexts_of edges))
+      (parted : HaveColumns edges' (slots_of edges) (edge_sites edges) (set (nexts_of edges) edge.before edge.next) (set (befores_of edges) edge.next edge.before) (site_nexts_of edges))
       (front_case : edge.before ≡ none_at → firsts' ≡ set firsts edge.slot edge.next) (mid_case : edge.before ≢ none_at → firsts' ≡ firsts)
-      (freed : HaveColumns edges'' (set (slots_of edges') first none_at) (set (sites_of edges') first none_at) (nexts_of edges') (befores_of edges') (set (site_nexts_of edges') first free)) where
+      (freed : HaveColumns edges'' (set (slots_of edges') first none_at) (set (edge_sites edges') first none_at) (nexts_of edges') (befores_of edges') (set (site_nexts_of edges') first free)) where
     slots_less : slots_of edges'' ≡ set (slots_of edges) first none_at
     slots_less = freed.slots_are ∙ ap (λ (x : List ℕ). set x first none_at) parted.slots_are
 
-    sites_less : sites_of edges'' ≡ set (sites_of edges) first none_at
+    sites_less : edge_sites edges'' ≡ set (edge_sites edges) first none_at
     sites_less = freed.sites_are ∙ ap (λ (x : List ℕ). set x first none_at) parted.sites_are
 
     pub graph_less : IsGraph edges'' firsts' (set site_firsts site edge.site_next) first (spare + 1)
@@ -139,11 +139,11 @@ module _ {edges : List Edge} {firsts site_firsts : List ℕ} {free spare : ℕ} 
         let n = column_at (λ (e : Edge). e.next) edges first edge there read in
         let s = column_at (λ (e : Edge). e.slot) edges first edge there read in
         let x = column_at (λ (e : Edge). e.site_next) edges first edge there read in
-        let more = free_more (sites_of edges) first (omega (arith, length-map edges (λ (e : Edge). e.site))) has_site in
+        let more = free_more (edge_sites edges) first (omega (arith, length-map edges (λ (e : Edge). e.site))) has_site in
         let count = ap free_count sites_less in
         let had = g.spare_is in
         record {
-          linked = subst (λ (z : ℕ). Linkage (slots_of edges'') (sites_of edges'') (nexts_of edges'') (befores_of edges'') (site_nexts_of edges'') firsts' (set site_firsts site z) first) (sym x)
+          linked = subst (λ (z : ℕ). Linkage (slots_of edges'') (edge_sites edges'') (nexts_of edges'') (befores_of edges'') (site_nexts_of edges'') firsts' (set site_firsts site z) first) (sym x)
               (linkage_same slots_less sites_less
               (freed.nexts_are ∙ (parted.nexts_are ∙ (ap (λ (z : ℕ). set (nexts_of edges) z edge.next) b ∙ ap (λ (z : ℕ). set (nexts_of edges) (get_or (befores_of edges) first none_at) z) n)))
               (freed.befores_are ∙ (parted.befores_are ∙ (ap (λ (z : ℕ). set (befores_of edges) z edge.before) n ∙ ap (λ (z : ℕ). set (befores_of edges) (get_or (nexts_of edges) first none_at) z) b)))
@@ -160,11 +160,11 @@ module _ {edges : List Edge} {firsts site_firsts : List ℕ} {free spare : ℕ} 
       | inr q ↦ ap (λ (z : List ℕ). length z) (mid_case q)
     ]
 
-    row_after : length (row_of (slots_of edges'') (sites_of edges'') site) + 1 ≡ length (row_of (slots_of edges) (sites_of edges) site)
+    row_after : length (slots_of_site (slots_of edges'') (edge_sites edges'') site) + 1 ≡ length (slots_of_site (slots_of edges) (edge_sites edges) site)
     row_after =
-        ap (λ (z : List ℕ). length (row_of z (sites_of edges'') site) + 1) slots_less
-        ∙ (ap (λ (z : List ℕ). length (row_of (set (slots_of edges) first none_at) z site) + 1) sites_less
-        ∙ row_less (slots_of edges) (sites_of edges) first none_at none_at site
+        ap (λ (z : List ℕ). length (slots_of_site z (edge_sites edges'') site) + 1) slots_less
+        ∙ (ap (λ (z : List ℕ). length (slots_of_site (set (slots_of edges) first none_at) z site) + 1) sites_less
+        ∙ row_less (slots_of edges) (edge_sites edges) first none_at none_at site
         (let there = first_there.0 in omega (arith, length-map edges (λ (e : Edge). e.slot)))
         (let there = first_there.0 in omega (arith, length-map edges (λ (e : Edge). e.site)))
         first_there.1 (λ q. let a = g.linked.sites_fit in omega arith))
@@ -174,14 +174,14 @@ module _ {edges : List Edge} {firsts site_firsts : List ℕ} {free spare : ℕ} 
     changes_less old view =
         let fit = g.linked.sites_fit in
         record {
-          row = row_of (slots_of edges'') (sites_of edges'') site;
-          rows = ap (λ (n : ℕ). rows_of (slots_of edges'') (sites_of edges'') n) (length-set site_firsts site edge.site_next)
-              ∙ (rows_set (slots_of edges) (sites_of edges) (slots_of edges'') (sites_of edges'') (length site_firsts) site
+          row = slots_of_site (slots_of edges'') (edge_sites edges'') site;
+          rows = ap (λ (n : ℕ). rows_of (slots_of edges'') (edge_sites edges'') n) (length-set site_firsts site edge.site_next)
+              ∙ (rows_set (slots_of edges) (edge_sites edges) (slots_of edges'') (edge_sites edges'') (length site_firsts) site
               (λ j within ne.
-              ap (λ (z : List ℕ). row_of z (sites_of edges'') j) slots_less
-              ∙ (ap (λ (z : List ℕ). row_of (set (slots_of edges) first none_at) z j) sites_less
-              ∙ row_kept (slots_of edges) (sites_of edges) first none_at none_at j (λ q. ne (sym q ∙ first_there.1)) (λ q. omega arith)))
-              ∙ ap (λ (x : Edges). set x.rows site (row_of (slots_of edges'') (sites_of edges'') site)) view);
+              ap (λ (z : List ℕ). slots_of_site z (edge_sites edges'') j) slots_less
+              ∙ (ap (λ (z : List ℕ). slots_of_site (set (slots_of edges) first none_at) z j) sites_less
+              ∙ row_kept (slots_of edges) (edge_sites edges) first none_at none_at j (λ q. ne (sym q ∙ first_there.1)) (λ q. omega arith)))
+              ∙ ap (λ (x : Edges). set x.rows site (slots_of_site (slots_of edges'') (edge_sites edges'') site)) view);
           slots = firsts_same ∙ ap (λ (x : Edges). x.slots) view;
           balance =
               let r = seen_row edges (length site_firsts) (length firsts) spare old view site lt in
@@ -192,10 +192,10 @@ module _ {edges : List Edge} {firsts site_firsts : List ℕ} {free spare : ℕ} 
         }
 
     pub less_by_one : (old : Edges) → seen edges (length site_firsts) (length firsts) spare ≡ old
-        → length (get_or (rows_of (slots_of edges'') (sites_of edges'') (length (set site_firsts site edge.site_next))) site []) + 1 ≡ length (get_or old.rows site [])
+        → length (get_or (rows_of (slots_of edges'') (edge_sites edges'') (length (set site_firsts site edge.site_next))) site []) + 1 ≡ length (get_or old.rows site [])
     less_by_one old view =
         let r = ap (λ (z : List ℕ). length z) (seen_row edges (length site_firsts) (length firsts) spare old view site lt) in
-        let n = ap (λ (z : List ℕ). length z) (rows_at (slots_of edges'') (sites_of edges'') (length (set site_firsts site edge.site_next)) site
+        let n = ap (λ (z : List ℕ). length z) (rows_at (slots_of edges'') (edge_sites edges'') (length (set site_firsts site edge.site_next)) site
         (omega (arith, length-set site_firsts site edge.site_next))) in
         let a = row_after in
         omega arith
@@ -203,41 +203,41 @@ module _ {edges : List Edge} {firsts site_firsts : List ℕ} {free spare : ℕ} 
 -- an edge is put
 module _ {edges : List Edge} {firsts site_firsts : List ℕ} {free spare : ℕ} (g : IsGraph edges firsts site_firsts free spare)
     (slot site : ℕ) (slot_lt : slot < length firsts) (lt : site < length site_firsts) (room : 0 < spare) where
-  pub free_is : (free < length edges) × (get_or (sites_of edges) free none_at ≡ none_at) × (free ≢ none_at)
+  pub free_is : (free < length edges) × (get_or (edge_sites edges) free none_at ≡ none_at) × (free ≢ none_at)
   free_is =
       let had = g.spare_is in
-      let e = free_some (sites_of edges) (omega arith) in
+      let e = free_some (edge_sites edges) (omega arith) in
       let some : free ≢ none_at = free_there g.linked e.0 e.1 e.2 in
       let f = free_edge g.linked some site lt in
       let a = f.0 in
       (omega (arith, length-map edges (λ (e : Edge). e.slot)), f.1, some)
 
-  module _ (new : (h : ℕ) → h < length (slots_of edges) → get_or (slots_of edges) h none_at ≡ slot → get_or (sites_of edges) h none_at ≡ site → ⊥)
+  module _ (new : (h : ℕ) → h < length (slots_of edges) → get_or (slots_of edges) h none_at ≡ slot → get_or (edge_sites edges) h none_at ≡ site → ⊥)
       (next site_next next_free spare' : ℕ) (next_is : next ≡ get_or firsts slot none_at) (site_next_is : site_next ≡ get_or site_firsts site none_at)
       (next_free_is : next_free ≡ get_or (site_nexts_of edges) free none_at) (one_less : spare' + 1 ≡ spare)
       {edges' edges'' : List Edge}
-      (written : HaveColumns edges' (set (slots_of edges) free slot) (set (sites_of edges) free site) (set (nexts_of edges) free next) (set (befores_of edges) free none_at) (set (site_nexts_of edges) free site_next))
-      (named : HaveColumns edges'' (slots_of edges') (sites_of edges') (nexts_of edges') (set (befores_of edges') next free) (site_nexts_of edges')) where
+      (written : HaveColumns edges' (set (slots_of edges) free slot) (set (edge_sites edges) free site) (set (nexts_of edges) free next) (set (befores_of edges) free none_at) (set (site_nexts_of edges) free site_next))
+      (named : HaveColumns edges'' (slots_of edges') (edge_sites edges') (nexts_of edges') (set (befores_of edges') next free) (site_nexts_of edges')) where
     slots_more : slots_of edges'' ≡ set (slots_of edges) free slot
     slots_more = named.slots_are ∙ written.slots_are
 
-    sites_more : sites_of edges'' ≡ set (sites_of edges) free site
+    sites_more : edge_sites edges'' ≡ set (edge_sites edges) free site
     sites_more = named.sites_are ∙ written.sites_are
 
     slots_there : free < length (slots_of edges)
     slots_there = let a = free_is.0 in omega (arith, length-map edges (λ (e : Edge). e.slot))
 
-    sites_there : free < length (sites_of edges)
+    sites_there : free < length (edge_sites edges)
     sites_there = let a = free_is.0 in omega (arith, length-map edges (λ (e : Edge). e.site))
 
     pub graph_more : IsGraph edges'' (set firsts slot free) (set site_firsts site free) next_free spare'
     graph_more =
         let had = g.spare_is in
         let fit = g.linked.sites_fit in
-        let less = free_less (sites_of edges) free site sites_there free_is.1 (λ q. omega arith) in
+        let less = free_less (edge_sites edges) free site sites_there free_is.1 (λ q. omega arith) in
         let count = ap free_count sites_more in
         record {
-          linked = subst (λ (z : ℕ). Linkage (slots_of edges'') (sites_of edges'') (nexts_of edges'') (befores_of edges'') (site_nexts_of edges'') (set firsts slot free) (set site_firsts site free) z) (sym next_free_is)
+          linked = subst (λ (z : ℕ). Linkage (slots_of edges'') (edge_sites edges'') (nexts_of edges'') (befores_of edges'') (site_nexts_of edges'') (set firsts slot free) (set site_firsts site free) z) (sym next_free_is)
               (linkage_same slots_more sites_more
               (named.nexts_are ∙ (written.nexts_are ∙ ap (λ (z : ℕ). set (nexts_of edges) free z) next_is))
               (named.befores_are ∙ (ap (λ (z : List ℕ). set z next free) written.befores_are ∙ ap (λ (z : ℕ). set (set (befores_of edges) free none_at) z free) next_is))
@@ -246,11 +246,11 @@ module _ {edges : List Edge} {firsts site_firsts : List ℕ} {free spare : ℕ} 
           spare_is = omega arith;
         }
 
-    row_now : length (row_of (slots_of edges'') (sites_of edges'') site) ≡ length (row_of (slots_of edges) (sites_of edges) site) + 1
+    row_now : length (slots_of_site (slots_of edges'') (edge_sites edges'') site) ≡ length (slots_of_site (slots_of edges) (edge_sites edges) site) + 1
     row_now =
-        ap (λ (z : List ℕ). length (row_of z (sites_of edges'') site)) slots_more
-        ∙ (ap (λ (z : List ℕ). length (row_of (set (slots_of edges) free slot) z site)) sites_more
-        ∙ row_more (slots_of edges) (sites_of edges) free slot site site slots_there sites_there
+        ap (λ (z : List ℕ). length (slots_of_site z (edge_sites edges'') site)) slots_more
+        ∙ (ap (λ (z : List ℕ). length (slots_of_site (set (slots_of edges) free slot) z site)) sites_more
+        ∙ row_more (slots_of edges) (edge_sites edges) free slot site site slots_there sites_there
         (λ q. let a = free_is.1 in let b = g.linked.sites_fit in omega arith) refl)
 
     pub changes_more : (old : Edges) → seen edges (length site_firsts) (length firsts) spare ≡ old
@@ -258,14 +258,14 @@ module _ {edges : List Edge} {firsts site_firsts : List ℕ} {free spare : ℕ} 
     changes_more old view =
         let fit = g.linked.sites_fit in
         record {
-          row = row_of (slots_of edges'') (sites_of edges'') site;
-          rows = ap (λ (n : ℕ). rows_of (slots_of edges'') (sites_of edges'') n) (length-set site_firsts site free)
-              ∙ (rows_set (slots_of edges) (sites_of edges) (slots_of edges'') (sites_of edges'') (length site_firsts) site
+          row = slots_of_site (slots_of edges'') (edge_sites edges'') site;
+          rows = ap (λ (n : ℕ). rows_of (slots_of edges'') (edge_sites edges'') n) (length-set site_firsts site free)
+              ∙ (rows_set (slots_of edges) (edge_sites edges) (slots_of edges'') (edge_sites edges'') (length site_firsts) site
               (λ j within ne.
-              ap (λ (z : List ℕ). row_of z (sites_of edges'') j) slots_more
-              ∙ (ap (λ (z : List ℕ). row_of (set (slots_of edges) free slot) z j) sites_more
-              ∙ row_kept (slots_of edges) (sites_of edges) free slot site j (λ q. let a = free_is.1 in omega arith) (λ q. ne (sym q))))
-              ∙ ap (λ (x : Edges). set x.rows site (row_of (slots_of edges'') (sites_of edges'') site)) view);
+              ap (λ (z : List ℕ). slots_of_site z (edge_sites edges'') j) slots_more
+              ∙ (ap (λ (z : List ℕ). slots_of_site (set (slots_of edges) free slot) z j) sites_more
+              ∙ row_kept (slots_of edges) (edge_sites edges) free slot site j (λ q. let a = free_is.1 in omega arith) (λ q. ne (sym q))))
+              ∙ ap (λ (x : Edges). set x.rows site (slots_of_site (slots_of edges'') (edge_sites edges'') site)) view);
           slots = length-set firsts slot free ∙ ap (λ (x : Edges). x.slots) view;
           balance =
               let m = ap (λ (z : List ℕ). length z) (seen_row edges (length site_firsts) (length firsts) spare old view site lt) in
@@ -274,11 +274,11 @@ module _ {edges : List Edge} {firsts site_firsts : List ℕ} {free spare : ℕ} 
               omega arith;
         }
 
-    row_there : get_or (rows_of (slots_of edges'') (sites_of edges'') (length (set site_firsts site free))) site [] ≡ row_of (slots_of edges'') (sites_of edges'') site
-    row_there = rows_at (slots_of edges'') (sites_of edges'') (length (set site_firsts site free)) site (omega (arith, length-set site_firsts site free))
+    row_there : get_or (rows_of (slots_of edges'') (edge_sites edges'') (length (set site_firsts site free))) site [] ≡ slots_of_site (slots_of edges'') (edge_sites edges'') site
+    row_there = rows_at (slots_of edges'') (edge_sites edges'') (length (set site_firsts site free)) site (omega (arith, length-set site_firsts site free))
 
     pub more_by_one : (old : Edges) → seen edges (length site_firsts) (length firsts) spare ≡ old
-        → length (get_or (rows_of (slots_of edges'') (sites_of edges'') (length (set site_firsts site free))) site []) ≡ length (get_or old.rows site []) + 1
+        → length (get_or (rows_of (slots_of edges'') (edge_sites edges'') (length (set site_firsts site free))) site []) ≡ length (get_or old.rows site []) + 1
     more_by_one old view =
         let m = ap (λ (z : List ℕ). length z) (seen_row edges (length site_firsts) (length firsts) spare old view site lt) in
         let n = ap (λ (z : List ℕ). length z) row_there in
@@ -288,57 +288,57 @@ module _ {edges : List Edge} {firsts site_firsts : List ℕ} {free spare : ℕ} 
     slot_now : (e : ℕ) → e ≢ free → get_or (slots_of edges'') e none_at ≡ get_or (slots_of edges) e none_at
     slot_now e ne = ap (λ (z : List ℕ). get_or z e none_at) slots_more ∙ get_or-set_other (slots_of edges) free e slot none_at ne
 
-    site_now : (e : ℕ) → e ≢ free → get_or (sites_of edges'') e none_at ≡ get_or (sites_of edges) e none_at
-    site_now e ne = ap (λ (z : List ℕ). get_or z e none_at) sites_more ∙ get_or-set_other (sites_of edges) free e site none_at ne
+    site_now : (e : ℕ) → e ≢ free → get_or (edge_sites edges'') e none_at ≡ get_or (edge_sites edges) e none_at
+    site_now e ne = ap (λ (z : List ℕ). get_or z e none_at) sites_more ∙ get_or-set_other (edge_sites edges) free e site none_at ne
 
     slots_long : length (slots_of edges'') ≡ length (slots_of edges)
     slots_long = ap (λ (z : List ℕ). length z) slots_more ∙ length-set (slots_of edges) free slot
 
-    sites_long : length (sites_of edges'') ≡ length (sites_of edges)
-    sites_long = ap (λ (z : List ℕ). length z) sites_more ∙ length-set (sites_of edges) free site
+    sites_long : length (edge_sites edges'') ≡ length (edge_sites edges)
+    sites_long = ap (λ (z : List ℕ). length z) sites_more ∙ length-set (edge_sites edges) free site
 
     pub own_row : (old : Edges) → seen edges (length site_firsts) (length firsts) spare ≡ old → (k : ℕ)
-        → (Contains (get_or (rows_of (slots_of edges'') (sites_of edges'') (length (set site_firsts site free))) site []) k → (k ≡ slot) ⊎ IsLinked old k site)
-        × ((k ≡ slot) ⊎ IsLinked old k site → Contains (get_or (rows_of (slots_of edges'') (sites_of edges'') (length (set site_firsts site free))) site []) k)
+        → (Contains (get_or (rows_of (slots_of edges'') (edge_sites edges'') (length (set site_firsts site free))) site []) k → (k ≡ slot) ⊎ IsLinked old k site)
+        × ((k ≡ slot) ⊎ IsLinked old k site → Contains (get_or (rows_of (slots_of edges'') (edge_sites edges'') (length (set site_firsts site free))) site []) k)
     own_row old view k =
         let row_was = seen_row edges (length site_firsts) (length firsts) spare old view site lt in (
           λ h.
-              let r = row_edge (slots_of edges'') (sites_of edges'') site k (contains_among (row_of (slots_of edges'') (sites_of edges'') site) k
+              let r = row_edge (slots_of edges'') (edge_sites edges'') site k (contains_among (slots_of_site (slots_of edges'') (edge_sites edges'') site) k
               (subst (λ (z : List ℕ). Contains z k) row_there h)) in
               let a = r.1 in let b = r.2 in let m = slots_long in let n = sites_long in
               elim (cases_eq r.0 free) [
                 | inl here ↦ inl (sym r.4 ∙ (ap (λ (z : ℕ). get_or (slots_of edges'') z none_at) here
                     ∙ (ap (λ (z : List ℕ). get_or z free none_at) slots_more ∙ get_or-set_same (slots_of edges) free slot none_at slots_there)))
                 | inr other ↦ inr (subst (λ (z : List ℕ). Contains z k) (sym row_was)
-                    (among_contains (row_of (slots_of edges) (sites_of edges) site) k
-                    (subst (λ (z : ℕ). Among (row_of (slots_of edges) (sites_of edges) site) z) (sym (slot_now r.0 other) ∙ r.4)
-                    (edge_row (slots_of edges) (sites_of edges) site r.0 (omega arith) (omega arith) (sym (site_now r.0 other) ∙ r.3)))))
+                    (among_contains (slots_of_site (slots_of edges) (edge_sites edges) site) k
+                    (subst (λ (z : ℕ). Among (slots_of_site (slots_of edges) (edge_sites edges) site) z) (sym (slot_now r.0 other) ∙ r.4)
+                    (edge_row (slots_of edges) (edge_sites edges) site r.0 (omega arith) (omega arith) (sym (site_now r.0 other) ∙ r.3)))))
               ],
-          λ one. subst (λ (z : List ℕ). Contains z k) (sym row_there) (among_contains (row_of (slots_of edges'') (sites_of edges'') site) k
+          λ one. subst (λ (z : List ℕ). Contains z k) (sym row_there) (among_contains (slots_of_site (slots_of edges'') (edge_sites edges'') site) k
               (elim one [
-                | inl is_slot ↦ subst (λ (z : ℕ). Among (row_of (slots_of edges'') (sites_of edges'') site) z)
+                | inl is_slot ↦ subst (λ (z : ℕ). Among (slots_of_site (slots_of edges'') (edge_sites edges'') site) z)
                     (ap (λ (z : List ℕ). get_or z free none_at) slots_more ∙ (get_or-set_same (slots_of edges) free slot none_at slots_there ∙ sym is_slot))
-                    (edge_row (slots_of edges'') (sites_of edges'') site free
+                    (edge_row (slots_of edges'') (edge_sites edges'') site free
                     (let a = slots_there in let m = slots_long in omega arith) (let a = sites_there in let m = sites_long in omega arith)
-                    (ap (λ (z : List ℕ). get_or z free none_at) sites_more ∙ get_or-set_same (sites_of edges) free site none_at sites_there))
+                    (ap (λ (z : List ℕ). get_or z free none_at) sites_more ∙ get_or-set_same (edge_sites edges) free site none_at sites_there))
                 | inr was ↦
-                    let r = row_edge (slots_of edges) (sites_of edges) site k (contains_among (row_of (slots_of edges) (sites_of edges) site) k
+                    let r = row_edge (slots_of edges) (edge_sites edges) site k (contains_among (slots_of_site (slots_of edges) (edge_sites edges) site) k
                     (subst (λ (z : List ℕ). Contains z k) row_was was)) in
                     let a = r.1 in let b = r.2 in let m = slots_long in let n = sites_long in
                     let other : r.0 ≢ free = λ q. (let c = free_is.1 in let d = g.linked.sites_fit in
-                    let bad : get_or (sites_of edges) r.0 none_at ≡ none_at = ap (λ (z : ℕ). get_or (sites_of edges) z none_at) q ∙ c in
+                    let bad : get_or (edge_sites edges) r.0 none_at ≡ none_at = ap (λ (z : ℕ). get_or (edge_sites edges) z none_at) q ∙ c in
                     let bad_too = r.3 in omega arith) in
-                    subst (λ (z : ℕ). Among (row_of (slots_of edges'') (sites_of edges'') site) z) (slot_now r.0 other ∙ r.4)
-                    (edge_row (slots_of edges'') (sites_of edges'') site r.0 (omega arith) (omega arith) (site_now r.0 other ∙ r.3))
+                    subst (λ (z : ℕ). Among (slots_of_site (slots_of edges'') (edge_sites edges'') site) z) (slot_now r.0 other ∙ r.4)
+                    (edge_row (slots_of edges'') (edge_sites edges'') site r.0 (omega arith) (omega arith) (site_now r.0 other ∙ r.3))
               ])),
         )
 
 -- a pair that is no edge
 pub no_edge : (edges : List Edge) (sites slots spare : ℕ) (old : Edges) → seen edges sites slots spare ≡ old → (slot site : ℕ) → site < sites
-    → (IsLinked old slot site → ⊥) → (h : ℕ) → h < length (slots_of edges) → get_or (slots_of edges) h none_at ≡ slot → get_or (sites_of edges) h none_at ≡ site → ⊥
+    → (IsLinked old slot site → ⊥) → (h : ℕ) → h < length (slots_of edges) → get_or (slots_of edges) h none_at ≡ slot → get_or (edge_sites edges) h none_at ≡ site → ⊥
 no_edge edges sites slots spare old view slot site lt new h within slot_is site_is =
     new (subst (λ (z : List ℕ). Contains z slot) (sym (seen_row edges sites slots spare old view site lt))
-    (among_contains (row_of (slots_of edges) (sites_of edges) site) slot
-    (subst (λ (z : ℕ). Among (row_of (slots_of edges) (sites_of edges) site) z) slot_is
-    (edge_row (slots_of edges) (sites_of edges) site h within
+    (among_contains (slots_of_site (slots_of edges) (edge_sites edges) site) slot
+    (subst (λ (z : ℕ). Among (slots_of_site (slots_of edges) (edge_sites edges) site) z) slot_is
+    (edge_row (slots_of edges) (edge_sites edges) site h within
     (omega (arith, length-map edges (λ (e : Edge). e.slot), length-map edges (λ (e : Edge). e.site))) site_is))))

@@ -4,8 +4,8 @@ use Rattle.std.proofs.lemmas.List.{get_or_past, get_or_default, get_or_append_le
 use Rattle.std.proofs.lemmas.List.FromFn.{sum_by-map-range_with_len_more}
 use Rattle.ld_graph.specs.declared.edge.Edge.{Edge}
 use Rattle.ld_graph.specs.Edges.{Edges, Grows}
-use Rattle.ld_graph.specs.Linked.{none_at, Among, Follows, FollowsBack, AreKeyed, Holds, HoldsBack, Linkage, row_of, rows_of, free_count}
-use Rattle.ld_graph.specs.Columns.{slots_of, sites_of, nexts_of, befores_of, site_nexts_of, IsGraph}
+use Rattle.ld_graph.specs.Linked.{none_at, Among, Follows, FollowsBack, AreKeyed, Holds, HoldsBack, Linkage, slots_of_site, rows_of, free_count}
+use Rattle.ld_graph.specs.Columns.{slots_of, edge_sites, nexts_of, befores_of, site_nexts_of, IsGraph}
 use Rattle.ld_graph.proofs.Chains.{follows_within, forget}
 use Rattle.ld_graph.proofs.Rowed.{row_edge, row_append, rows_at, rows_length, rows_past, rows_same}
 use Rattle.ld_graph.proofs.Graphs.{seen_sites, none_among}
@@ -214,21 +214,21 @@ module _ {slots sites next before site_next firsts site_firsts : List ℕ} {free
       }
 
   -- a site out of range has no edge
-  pub row_beyond : (i : ℕ) → length site_firsts ≤ i → i < none_at → row_of slots sites i ≡ []
-  row_beyond i le lt = none_among (row_of slots sites i) (λ k h.
+  pub row_beyond : (i : ℕ) → length site_firsts ≤ i → i < none_at → slots_of_site slots sites i ≡ []
+  row_beyond i le lt = none_among (slots_of_site slots sites i) (λ k h.
       let r = row_edge slots sites i k h in
       let is = r.3 in
       let s = l.site_there r.0 r.1 (λ q. omega arith) in
       omega arith)
 
 -- the number of pairs, over more sites that have none
-pairs_more : (slots sites : List ℕ) (count more : ℕ) → ((i : ℕ) → count ≤ i → i < count + more → row_of slots sites i ≡ [])
+pairs_more : (slots sites : List ℕ) (count more : ℕ) → ((i : ℕ) → count ≤ i → i < count + more → slots_of_site slots sites i ≡ [])
     → sum_by (λ (x : List ℕ). length x) (rows_of slots sites (count + more)) ≡ sum_by (λ (x : List ℕ). length x) (rows_of slots sites count)
 pairs_more slots sites count zero none =
     let e : count + zero ≡ count = omega arith in
     ap (λ (n : ℕ). sum_by (λ (x : List ℕ). length x) (rows_of slots sites n)) e
 pairs_more slots sites count (suc more) none =
-    let step = sum_by-map-range_with_len_more (λ (x : List ℕ). length x) (row_of slots sites) 0 (count + more) (count + more) (omega arith) in
+    let step = sum_by-map-range_with_len_more (λ (x : List ℕ). length x) (slots_of_site slots sites) 0 (count + more) (count + more) (omega arith) in
     let rest = pairs_more slots sites count more (λ i le lt. none i le (omega arith)) in
     let gone = ap (λ (x : List ℕ). length x) (none (count + more) (omega arith) (omega arith)) in
     let same = ap (λ (n : ℕ). sum_by (λ (x : List ℕ). length x) (rows_of slots sites n)) (let e : count + suc more ≡ count + more + 1 = omega arith in e) in
@@ -273,22 +273,22 @@ module _ {edges : List Edge} {firsts site_firsts : List ℕ} {free spare : ℕ} 
       → Grows old (seen edges (length site_firsts + more) (length firsts) spare)
   grows_sites old view more fits = record {
     rows = λ i. elim (cases_lt i (length site_firsts)) [
-      | inl lt ↦ rows_at (slots_of edges) (sites_of edges) (length site_firsts + more) i (omega arith)
-          ∙ (sym (rows_at (slots_of edges) (sites_of edges) (length site_firsts) i lt) ∙ ap (λ (x : Edges). get_or x.rows i []) view)
+      | inl lt ↦ rows_at (slots_of edges) (edge_sites edges) (length site_firsts + more) i (omega arith)
+          ∙ (sym (rows_at (slots_of edges) (edge_sites edges) (length site_firsts) i lt) ∙ ap (λ (x : Edges). get_or x.rows i []) view)
       | inr le ↦ elim (cases_lt i (length site_firsts + more)) [
-        | inl within ↦ rows_at (slots_of edges) (sites_of edges) (length site_firsts + more) i within
+        | inl within ↦ rows_at (slots_of edges) (edge_sites edges) (length site_firsts + more) i within
             ∙ row_beyond g.linked i le (omega arith)
-        | inr past ↦ rows_past (slots_of edges) (sites_of edges) (length site_firsts + more) i past
+        | inr past ↦ rows_past (slots_of edges) (edge_sites edges) (length site_firsts + more) i past
       ]
-          ∙ (sym (rows_past (slots_of edges) (sites_of edges) (length site_firsts) i le) ∙ ap (λ (x : Edges). get_or x.rows i []) view)
+          ∙ (sym (rows_past (slots_of edges) (edge_sites edges) (length site_firsts) i le) ∙ ap (λ (x : Edges). get_or x.rows i []) view)
     ];
     sites =
         let a = seen_sites edges (length site_firsts) (length firsts) spare old view in
-        let b = rows_length (slots_of edges) (sites_of edges) (length site_firsts + more) in
+        let b = rows_length (slots_of edges) (edge_sites edges) (length site_firsts + more) in
         omega arith;
     slots = let e = ap (λ (x : Edges). x.slots) view in omega arith;
     spare = let e = ap (λ (x : Edges). x.spare) view in omega arith;
-    pairs = pairs_more (slots_of edges) (sites_of edges) (length site_firsts) more (λ i le lt. row_beyond g.linked i le (omega arith))
+    pairs = pairs_more (slots_of edges) (edge_sites edges) (length site_firsts) more (λ i le lt. row_beyond g.linked i le (omega arith))
         ∙ ap (λ (x : Edges). sum_by length x.rows) view;
   }
 
@@ -297,29 +297,29 @@ module _ {edges : List Edge} {firsts site_firsts : List ℕ} {free spare : ℕ} 
     pub graph_edge : length edges < none_at → IsGraph (edges ++ edge ∷ []) firsts site_firsts (length edges) (spare + 1)
     graph_edge lt = record {
       linked =
-          subst (λ (z : List ℕ). Linkage z (sites_of (edges ++ edge ∷ [])) (nexts_of (edges ++ edge ∷ [])) (befores_of (edges ++ edge ∷ [])) (site_nexts_of (edges ++ edge ∷ [])) firsts site_firsts (length edges))
+          subst (λ (z : List ℕ). Linkage z (edge_sites (edges ++ edge ∷ [])) (nexts_of (edges ++ edge ∷ [])) (befores_of (edges ++ edge ∷ [])) (site_nexts_of (edges ++ edge ∷ [])) firsts site_firsts (length edges))
           (sym (map_push (λ (e : Edge). e.slot) edges edge ∙ ap (λ (x : ℕ). slots_of edges ++ x ∷ []) no_slot))
           (subst (λ (z : List ℕ). Linkage (slots_of edges ++ none_at ∷ []) z (nexts_of (edges ++ edge ∷ [])) (befores_of (edges ++ edge ∷ [])) (site_nexts_of (edges ++ edge ∷ [])) firsts site_firsts (length edges))
-          (sym (map_push (λ (e : Edge). e.site) edges edge ∙ ap (λ (x : ℕ). sites_of edges ++ x ∷ []) no_site))
-          (subst (λ (z : List ℕ). Linkage (slots_of edges ++ none_at ∷ []) (sites_of edges ++ none_at ∷ []) z (befores_of (edges ++ edge ∷ [])) (site_nexts_of (edges ++ edge ∷ [])) firsts site_firsts (length edges))
+          (sym (map_push (λ (e : Edge). e.site) edges edge ∙ ap (λ (x : ℕ). edge_sites edges ++ x ∷ []) no_site))
+          (subst (λ (z : List ℕ). Linkage (slots_of edges ++ none_at ∷ []) (edge_sites edges ++ none_at ∷ []) z (befores_of (edges ++ edge ∷ [])) (site_nexts_of (edges ++ edge ∷ [])) firsts site_firsts (length edges))
           (sym (map_push (λ (e : Edge). e.next) edges edge))
-          (subst (λ (z : List ℕ). Linkage (slots_of edges ++ none_at ∷ []) (sites_of edges ++ none_at ∷ []) (nexts_of edges ++ edge.next ∷ []) z (site_nexts_of (edges ++ edge ∷ [])) firsts site_firsts (length edges))
+          (subst (λ (z : List ℕ). Linkage (slots_of edges ++ none_at ∷ []) (edge_sites edges ++ none_at ∷ []) (nexts_of edges ++ edge.next ∷ []) z (site_nexts_of (edges ++ edge ∷ [])) firsts site_firsts (length edges))
           (sym (map_push (λ (e : Edge). e.before) edges edge))
-          (subst (λ (z : List ℕ). Linkage (slots_of edges ++ none_at ∷ []) (sites_of edges ++ none_at ∷ []) (nexts_of edges ++ edge.next ∷ []) (befores_of edges ++ edge.before ∷ []) z firsts site_firsts (length edges))
+          (subst (λ (z : List ℕ). Linkage (slots_of edges ++ none_at ∷ []) (edge_sites edges ++ none_at ∷ []) (nexts_of edges ++ edge.next ∷ []) (befores_of edges ++ edge.before ∷ []) z firsts site_firsts (length edges))
           (sym (map_push (λ (e : Edge). e.site_next) edges edge ∙ ap (λ (x : ℕ). site_nexts_of edges ++ x ∷ []) next_is))
           (linkage_edge g.linked (length edges) edge.next edge.before (sym (length-map edges (λ (e : Edge). e.slot))) lt)))));
       spare_is =
           let had = g.spare_is in
-          let m = ap free_count (map_push (λ (e : Edge). e.site) edges edge ∙ ap (λ (x : ℕ). sites_of edges ++ x ∷ []) no_site) in
-          let s = sum_by-append (λ (t : ℕ). cond (eqb t none_at) 1 0) (sites_of edges) (none_at ∷ []) in
+          let m = ap free_count (map_push (λ (e : Edge). e.site) edges edge ∙ ap (λ (x : ℕ). edge_sites edges ++ x ∷ []) no_site) in
+          let s = sum_by-append (λ (t : ℕ). cond (eqb t none_at) 1 0) (edge_sites edges) (none_at ∷ []) in
           let o = sum_by-cons (λ (t : ℕ). cond (eqb t none_at) 1 0) none_at [] in
           omega arith;
     }
 
-    pub rows_edge : rows_of (slots_of (edges ++ edge ∷ [])) (sites_of (edges ++ edge ∷ [])) (length site_firsts) ≡ rows_of (slots_of edges) (sites_of edges) (length site_firsts)
-    rows_edge = rows_same (slots_of edges) (sites_of edges) (slots_of (edges ++ edge ∷ [])) (sites_of (edges ++ edge ∷ [])) (length site_firsts) (λ j lt.
-        ap (λ (z : List ℕ). row_of z (sites_of (edges ++ edge ∷ [])) j) (map_push (λ (e : Edge). e.slot) edges edge)
-        ∙ (ap (λ (z : List ℕ). row_of (slots_of edges ++ edge.slot ∷ []) z j) (map_push (λ (e : Edge). e.site) edges edge)
-        ∙ row_append (slots_of edges) (sites_of edges) edge.slot edge.site j
+    pub rows_edge : rows_of (slots_of (edges ++ edge ∷ [])) (edge_sites (edges ++ edge ∷ [])) (length site_firsts) ≡ rows_of (slots_of edges) (edge_sites edges) (length site_firsts)
+    rows_edge = rows_same (slots_of edges) (edge_sites edges) (slots_of (edges ++ edge ∷ [])) (edge_sites (edges ++ edge ∷ [])) (length site_firsts) (λ j lt.
+        ap (λ (z : List ℕ). slots_of_site z (edge_sites (edges ++ edge ∷ [])) j) (map_push (λ (e : Edge). e.slot) edges edge)
+        ∙ (ap (λ (z : List ℕ). slots_of_site (slots_of edges ++ edge.slot ∷ []) z j) (map_push (λ (e : Edge). e.site) edges edge)
+        ∙ row_append (slots_of edges) (edge_sites edges) edge.slot edge.site j
         (length-map edges (λ (e : Edge). e.site) ∙ sym (length-map edges (λ (e : Edge). e.slot)))
         (λ q. let f = g.linked.sites_fit in omega arith)))

@@ -7,8 +7,8 @@ use Rattle.std.specs.List.{IsDistinct, AllByRecursion, list_any}
 use Rattle.ld_graph.specs.declared.edge.Edge.{Edge}
 use Rattle.ld_graph.specs.Slots.{AreDistinct}
 use Rattle.ld_graph.specs.Edges.{Edges, IsLinked}
-use Rattle.ld_graph.specs.Linked.{none_at, Among, Follows, row_of}
-use Rattle.ld_graph.specs.Columns.{slots_of, sites_of, nexts_of, IsGraph}
+use Rattle.ld_graph.specs.Linked.{none_at, Among, Follows, slots_of_site}
+use Rattle.ld_graph.specs.Columns.{slots_of, edge_sites, nexts_of, IsGraph}
 use Rattle.ld_graph.specs.Readings.{sites_met, walk}
 use Rattle.ld_graph.proofs.Chains.{Fresh, follows_fresh, follows_within, forget}
 use Rattle.ld_graph.proofs.Rowed.{among_contains, contains_among, row_edge, edge_row, row_yes, row_no}
@@ -21,11 +21,11 @@ pub met_first : (edges : List Edge) (at left : ℕ) (e : Edge) → 0 < left → 
 met_first edges at zero e pos lt is = absurd (omega arith)
 met_first edges at (suc left) e pos lt is =
     let len = length-map edges (λ (x : Edge). x.next) in
-    let site : get_or (sites_of edges) at none_at ≡ e.site = get_or-map (λ (x : Edge). x.site) edges at e none_at lt ∙ ap (λ (x : Edge). x.site) (sym is) in
+    let site : get_or (edge_sites edges) at none_at ≡ e.site = get_or-map (λ (x : Edge). x.site) edges at e none_at lt ∙ ap (λ (x : Edge). x.site) (sym is) in
     let next : get_or (nexts_of edges) at none_at ≡ e.next = get_or-map (λ (x : Edge). x.next) edges at e none_at lt ∙ ap (λ (x : Edge). x.next) (sym is) in
     let rest : ℕ → List ℕ = λ (n : ℕ). walk left (nexts_of edges) n in
     let fewer : left ≡ suc left - 1 = omega arith in
-    let of : List ℕ → List ℕ = λ (ns : List ℕ). map (λ (n : ℕ). get_or (sites_of edges) n none_at) ns in
+    let of : List ℕ → List ℕ = λ (ns : List ℕ). map (λ (n : ℕ). get_or (edge_sites edges) n none_at) ns in
     ap of (cond-true (ltb at (length (nexts_of edges))) (at ∷ rest (get_or (nexts_of edges) at none_at)) [] (lt-ltb at (length (nexts_of edges)) (omega arith)))
     ∙ (ap (λ (s : ℕ). s ∷ of (rest (get_or (nexts_of edges) at none_at))) site
     ∙ ap (λ (n : ℕ). e.site ∷ of (rest n)) next
@@ -108,7 +108,7 @@ pub record AreReaders (old : Edges) (slot : ℕ) (sites : List ℕ) : Type 0 whe
 pub readers_met : {edges : List Edge} {firsts site_firsts : List ℕ} {free spare : ℕ} → IsGraph edges firsts site_firsts free spare
     → (old : Edges) → seen edges (length site_firsts) (length firsts) spare ≡ old → (slot : ℕ) → slot < length firsts → (at left : ℕ)
     → get_or firsts slot none_at ≡ at → left ≡ length edges
-    → AreReaders old slot (map (λ e. get_or (sites_of edges) e none_at) (walk left (nexts_of edges) at))
+    → AreReaders old slot (map (λ e. get_or (edge_sites edges) e none_at) (walk left (nexts_of edges) at))
 readers_met {edges} {firsts} {site_firsts} {free} {spare} g old view slot lt at left at_is left_is =
     let l = g.linked in
     let h = l.by_slot slot lt in
@@ -123,41 +123,41 @@ readers_met {edges} {firsts} {site_firsts} {free} {spare} g old view slot lt at 
     let met : walk left (nexts_of edges) at ≡ h.edges =
     walk_meets (nexts_of edges) (omega arith) at h.edges left (subst (λ (z : ℕ). Follows (nexts_of edges) z h.edges) at_is f) (omega arith) in
     let count = seen_sites edges (length site_firsts) (length firsts) spare old view in
-    let live : (e : ℕ) → Among h.edges e → get_or (sites_of edges) e none_at ≢ none_at =
+    let live : (e : ℕ) → Among h.edges e → get_or (edge_sites edges) e none_at ≢ none_at =
     λ e a q. let n = l.no_slot e q in let k = h.keyed.only e a in let s = l.slots_fit in omega arith in
-    let site_lt : (e : ℕ) → Among h.edges e → get_or (sites_of edges) e none_at < length old.rows =
+    let site_lt : (e : ℕ) → Among h.edges e → get_or (edge_sites edges) e none_at < length old.rows =
     λ e a. let w = within e a in let s = l.site_there e (omega arith) (live e a) in omega arith in
-    subst (λ (z : List ℕ). AreReaders old slot (map (λ e. get_or (sites_of edges) e none_at) z)) (sym met) (record {
+    subst (λ (z : List ℕ). AreReaders old slot (map (λ e. get_or (edge_sites edges) e none_at) z)) (sym met) (record {
       members = λ i. (
         λ c.
-            let t = among_map (λ e. get_or (sites_of edges) e none_at) h.edges i (contains_among (map (λ e. get_or (sites_of edges) e none_at) h.edges) i c) in
+            let t = among_map (λ e. get_or (edge_sites edges) e none_at) h.edges i (contains_among (map (λ e. get_or (edge_sites edges) e none_at) h.edges) i c) in
             let w = within t.0 t.1 in
             let b = site_lt t.0 t.1 in
             let i_is = t.2 in
             subst (λ (z : List ℕ). Contains z slot) (sym (seen_row edges (length site_firsts) (length firsts) spare old view i (omega arith)))
-            (among_contains (row_of (slots_of edges) (sites_of edges) i) slot
-            (subst (λ (z : ℕ). Among (row_of (slots_of edges) (sites_of edges) i) z) (h.keyed.only t.0 t.1)
-            (edge_row (slots_of edges) (sites_of edges) i t.0 (omega arith) (omega arith) t.2))),
+            (among_contains (slots_of_site (slots_of edges) (edge_sites edges) i) slot
+            (subst (λ (z : ℕ). Among (slots_of_site (slots_of edges) (edge_sites edges) i) z) (h.keyed.only t.0 t.1)
+            (edge_row (slots_of edges) (edge_sites edges) i t.0 (omega arith) (omega arith) t.2))),
         λ linked.
             let i_lt : i < length site_firsts = linked_within old slot i (length site_firsts) linked count in
-            let r = row_edge (slots_of edges) (sites_of edges) i slot (contains_among (row_of (slots_of edges) (sites_of edges) i) slot
+            let r = row_edge (slots_of edges) (edge_sites edges) i slot (contains_among (slots_of_site (slots_of edges) (edge_sites edges) i) slot
             (subst (λ (z : List ℕ). Contains z slot) (seen_row edges (length site_firsts) (length firsts) spare old view i i_lt) linked)) in
-            among_contains (map (λ e. get_or (sites_of edges) e none_at) h.edges) i
-            (subst (λ (z : ℕ). Among (map (λ e. get_or (sites_of edges) e none_at) h.edges) z) r.3
-            (map_among (λ e. get_or (sites_of edges) e none_at) h.edges r.0 (h.keyed.all r.0 r.1 r.4))),
+            among_contains (map (λ e. get_or (edge_sites edges) e none_at) h.edges) i
+            (subst (λ (z : ℕ). Among (map (λ e. get_or (edge_sites edges) e none_at) h.edges) z) r.3
+            (map_among (λ e. get_or (edge_sites edges) e none_at) h.edges r.0 (h.keyed.all r.0 r.1 r.4))),
       );
       once = λ i j li lj e.
-          let len = length-map h.edges (λ e. get_or (sites_of edges) e none_at) in
-          let a = get_or-map (λ e. get_or (sites_of edges) e none_at) h.edges i 0 0 (omega arith) in
-          let b = get_or-map (λ e. get_or (sites_of edges) e none_at) h.edges j 0 0 (omega arith) in
+          let len = length-map h.edges (λ e. get_or (edge_sites edges) e none_at) in
+          let a = get_or-map (λ e. get_or (edge_sites edges) e none_at) h.edges i 0 0 (omega arith) in
+          let b = get_or-map (λ e. get_or (edge_sites edges) e none_at) h.edges j 0 0 (omega arith) in
           let ai : Among h.edges (get_or h.edges i 0) = among_place h.edges i (omega arith) in
           let aj : Among h.edges (get_or h.edges j 0) = among_place h.edges j (omega arith) in
           fresh_places h.edges fresh i j (omega arith) (omega arith)
           (l.once (get_or h.edges i 0) (get_or h.edges j 0) (live (get_or h.edges i 0) ai)
           (h.keyed.only (get_or h.edges i 0) ai ∙ sym (h.keyed.only (get_or h.edges j 0) aj)) (sym a ∙ (e ∙ b)));
-      within = All-from_get_or (λ i. i < length old.rows) (map (λ e. get_or (sites_of edges) e none_at) h.edges) 0 (λ i li.
-          let len = length-map h.edges (λ e. get_or (sites_of edges) e none_at) in
-          let a = get_or-map (λ e. get_or (sites_of edges) e none_at) h.edges i 0 0 (omega arith) in
+      within = All-from_get_or (λ i. i < length old.rows) (map (λ e. get_or (edge_sites edges) e none_at) h.edges) 0 (λ i li.
+          let len = length-map h.edges (λ e. get_or (edge_sites edges) e none_at) in
+          let a = get_or-map (λ e. get_or (edge_sites edges) e none_at) h.edges i 0 0 (omega arith) in
           let b = site_lt (get_or h.edges i 0) (among_place h.edges i (omega arith)) in
           omega arith);
     })
@@ -165,11 +165,11 @@ readers_met {edges} {firsts} {site_firsts} {free} {spare} g old view slot lt at 
 -- a row has no slot twice, where no two edges have the same slot and site
 pub row_fresh : (slots sites : List ℕ) (i : ℕ)
     → ((e f : ℕ) → e < length sites → f < length sites → get_or sites e none_at ≡ i → get_or sites f none_at ≡ i → get_or slots e none_at ≡ get_or slots f none_at → e ≡ f)
-    → Fresh (row_of slots sites i)
+    → Fresh (slots_of_site slots sites i)
 row_fresh [] sites i once = tt
 row_fresh (s ∷ slots) [] i once = tt
 row_fresh (s ∷ slots) (t ∷ sites) i once =
-    let tail : Fresh (row_of slots sites i) = row_fresh slots sites i (λ e f le lf se sf same.
+    let tail : Fresh (slots_of_site slots sites i) = row_fresh slots sites i (λ e f le lf se sf same.
     let q = once (suc e) (suc f) (omega arith) (omega arith) se sf same in omega arith) in
     elim (cases_eq t i) [
       | inl here ↦ subst (λ (z : List ℕ). Fresh z) (sym (row_yes s slots t sites i here)) (
@@ -188,7 +188,7 @@ pub row_distinct : {edges : List Edge} {firsts site_firsts : List ℕ} {free spa
     → (old : Edges) → seen edges (length site_firsts) (length firsts) spare ≡ old → (i : ℕ) → AreDistinct (get_or old.rows i [])
 row_distinct {edges} {firsts} {site_firsts} {free} {spare} g old view i = elim (cases_lt i (length site_firsts)) [
   | inl lt ↦ subst AreDistinct (sym (seen_row edges (length site_firsts) (length firsts) spare old view i lt))
-      (fresh_places (row_of (slots_of edges) (sites_of edges) i) (row_fresh (slots_of edges) (sites_of edges) i
+      (fresh_places (slots_of_site (slots_of edges) (edge_sites edges) i) (row_fresh (slots_of edges) (edge_sites edges) i
       (λ e f le lf se sf same. g.linked.once e f (λ q. let a = g.linked.sites_fit in omega arith) same (se ∙ sym sf))))
   | inr le ↦ subst AreDistinct (sym (get_or_past old.rows i [] (let n = seen_sites edges (length site_firsts) (length firsts) spare old view in omega arith)))
       (λ a b la lb e. absurd (omega arith))
@@ -199,7 +199,7 @@ pub linked_slot : {edges : List Edge} {firsts site_firsts : List ℕ} {free spar
 linked_slot {edges} {firsts} {site_firsts} {free} {spare} g old view k i linked =
     let n = seen_sites edges (length site_firsts) (length firsts) spare old view in
     let lt : i < length site_firsts = linked_within old k i (length site_firsts) linked n in
-    let r = row_edge (slots_of edges) (sites_of edges) i k (contains_among (row_of (slots_of edges) (sites_of edges) i) k
+    let r = row_edge (slots_of edges) (edge_sites edges) i k (contains_among (slots_of_site (slots_of edges) (edge_sites edges) i) k
     (subst (λ (z : List ℕ). Contains z k) (seen_row edges (length site_firsts) (length firsts) spare old view i lt) linked)) in
     let site_is = r.3 in
     let slot_is = r.4 in

@@ -3,7 +3,7 @@ use Rattle.std.proofs.lemmas.Bool.{cases_eq, cond-true, cond-false, eq-eqb, ne_e
 use Rattle.std.proofs.lemmas.List.{get_or-set_same, get_or-set_other, length-set, ext_get_or, get_or_past}
 use Rattle.std.proofs.lemmas.List.FromFn.{get_or-map-range_with_len, length-map-range_with_len}
 use Rattle.std.proofs.lemmas.List.Sums.{sum_by-set, sum_by-cons}
-use Rattle.ld_graph.specs.Linked.{none_at, Among, row_of, rows_of, free_count}
+use Rattle.ld_graph.specs.Linked.{none_at, Among, slots_of_site, rows_of, free_count}
 
 -- the two words for a number in a list
 among_at : (xs : List ℕ) (x k : ℕ) → k < length xs → get_or xs k x ≡ x → Among xs x
@@ -22,14 +22,14 @@ among_contains (y ∷ ys) x h = elim h [
 ]
 
 -- a row by its first edge
-pub row_yes : (s : ℕ) (slots : List ℕ) (t : ℕ) (sites : List ℕ) (i : ℕ) → t ≡ i → row_of (s ∷ slots) (t ∷ sites) i ≡ s ∷ row_of slots sites i
-row_yes s slots t sites i e = cond-true (eqb t i) (s ∷ row_of slots sites i) (row_of slots sites i) (eq-eqb t i e)
+pub row_yes : (s : ℕ) (slots : List ℕ) (t : ℕ) (sites : List ℕ) (i : ℕ) → t ≡ i → slots_of_site (s ∷ slots) (t ∷ sites) i ≡ s ∷ slots_of_site slots sites i
+row_yes s slots t sites i e = cond-true (eqb t i) (s ∷ slots_of_site slots sites i) (slots_of_site slots sites i) (eq-eqb t i e)
 
-pub row_no : (s : ℕ) (slots : List ℕ) (t : ℕ) (sites : List ℕ) (i : ℕ) → (t ≡ i → ⊥) → row_of (s ∷ slots) (t ∷ sites) i ≡ row_of slots sites i
-row_no s slots t sites i ne = cond-false (eqb t i) (s ∷ row_of slots sites i) (row_of slots sites i) (ne_eqb t i ne)
+pub row_no : (s : ℕ) (slots : List ℕ) (t : ℕ) (sites : List ℕ) (i : ℕ) → (t ≡ i → ⊥) → slots_of_site (s ∷ slots) (t ∷ sites) i ≡ slots_of_site slots sites i
+row_no s slots t sites i ne = cond-false (eqb t i) (s ∷ slots_of_site slots sites i) (slots_of_site slots sites i) (ne_eqb t i ne)
 
 -- the slots of a row are those of the edges of the site
-pub row_edge : (slots sites : List ℕ) (i k : ℕ) → Among (row_of slots sites i) k
+pub row_edge : (slots sites : List ℕ) (i k : ℕ) → Among (slots_of_site slots sites i) k
     → (e : ℕ) × (e < length slots) × (e < length sites) × (get_or sites e none_at ≡ i) × (get_or slots e none_at ≡ k)
 row_edge [] sites i k h = absurd h
 row_edge (s ∷ slots) [] i k h = absurd h
@@ -43,7 +43,7 @@ row_edge (s ∷ slots) (t ∷ sites) i k h = elim (cases_eq t i) [
 ]
 
 pub edge_row : (slots sites : List ℕ) (i e : ℕ) → e < length slots → e < length sites → get_or sites e none_at ≡ i
-    → Among (row_of slots sites i) (get_or slots e none_at)
+    → Among (slots_of_site slots sites i) (get_or slots e none_at)
 edge_row [] sites i e a b is = absurd (omega arith)
 edge_row (s ∷ slots) [] i e a b is = absurd (omega arith)
 edge_row (s ∷ slots) (t ∷ sites) i zero a b is = subst (λ (z : List ℕ). Among z s) (sym (row_yes s slots t sites i is)) (inl refl)
@@ -56,7 +56,7 @@ edge_row (s ∷ slots) (t ∷ sites) i (suc e) a b is =
 
 -- an edge changes that is not of the site, before and after
 pub row_kept : (slots sites : List ℕ) (e s t i : ℕ) → (get_or sites e none_at ≡ i → ⊥) → (t ≡ i → ⊥)
-    → row_of (set slots e s) (set sites e t) i ≡ row_of slots sites i
+    → slots_of_site (set slots e s) (set sites e t) i ≡ slots_of_site slots sites i
 row_kept [] sites e s t i was is = refl
 row_kept (s0 ∷ slots) [] zero s t i was is = refl
 row_kept (s0 ∷ slots) [] (suc e) s t i was is = refl
@@ -70,7 +70,7 @@ row_kept (s0 ∷ slots) (t0 ∷ sites) (suc e) s t i was is =
 
 -- an edge of the site goes
 pub row_less : (slots sites : List ℕ) (e s t i : ℕ) → e < length slots → e < length sites → get_or sites e none_at ≡ i → (t ≡ i → ⊥)
-    → length (row_of (set slots e s) (set sites e t) i) + 1 ≡ length (row_of slots sites i)
+    → length (slots_of_site (set slots e s) (set sites e t) i) + 1 ≡ length (slots_of_site slots sites i)
 row_less [] sites e s t i a b was is = absurd (omega arith)
 row_less (s0 ∷ slots) [] e s t i a b was is = absurd (omega arith)
 row_less (s0 ∷ slots) (t0 ∷ sites) zero s t i a b was is =
@@ -92,7 +92,7 @@ row_less (s0 ∷ slots) (t0 ∷ sites) (suc e) s t i a b was is =
 
 -- an edge of the site comes
 pub row_more : (slots sites : List ℕ) (e s t i : ℕ) → e < length slots → e < length sites → (get_or sites e none_at ≡ i → ⊥) → t ≡ i
-    → length (row_of (set slots e s) (set sites e t) i) ≡ length (row_of slots sites i) + 1
+    → length (slots_of_site (set slots e s) (set sites e t) i) ≡ length (slots_of_site slots sites i) + 1
 row_more [] sites e s t i a b was is = absurd (omega arith)
 row_more (s0 ∷ slots) [] e s t i a b was is = absurd (omega arith)
 row_more (s0 ∷ slots) (t0 ∷ sites) zero s t i a b was is =
@@ -114,7 +114,7 @@ row_more (s0 ∷ slots) (t0 ∷ sites) (suc e) s t i a b was is =
 
 -- an edge of no site at the end
 pub row_append : (slots sites : List ℕ) (s t i : ℕ) → length sites ≡ length slots → (t ≡ i → ⊥)
-    → row_of (slots ++ s ∷ []) (sites ++ t ∷ []) i ≡ row_of slots sites i
+    → slots_of_site (slots ++ s ∷ []) (sites ++ t ∷ []) i ≡ slots_of_site slots sites i
 row_append [] [] s t i same ne = row_no s [] t [] i ne
 row_append [] (t0 ∷ sites) s t i same ne = absurd (omega arith)
 row_append (s0 ∷ slots) [] s t i same ne = absurd (omega arith)
@@ -126,34 +126,34 @@ row_append (s0 ∷ slots) (t0 ∷ sites) s t i same ne =
     ]
 
 -- rows by their number
-pub rows_at : (slots sites : List ℕ) (count i : ℕ) → i < count → get_or (rows_of slots sites count) i [] ≡ row_of slots sites i
-rows_at slots sites count i lt = get_or-map-range_with_len (row_of slots sites) 0 count i i [] lt (omega arith)
+pub rows_at : (slots sites : List ℕ) (count i : ℕ) → i < count → get_or (rows_of slots sites count) i [] ≡ slots_of_site slots sites i
+rows_at slots sites count i lt = get_or-map-range_with_len (slots_of_site slots sites) 0 count i i [] lt (omega arith)
 
 pub rows_length : (slots sites : List ℕ) (count : ℕ) → length (rows_of slots sites count) ≡ count
-rows_length slots sites count = length-map-range_with_len (row_of slots sites) 0 count
+rows_length slots sites count = length-map-range_with_len (slots_of_site slots sites) 0 count
 
 pub rows_past : (slots sites : List ℕ) (count i : ℕ) → count ≤ i → get_or (rows_of slots sites count) i [] ≡ []
 rows_past slots sites count i le = get_or_past (rows_of slots sites count) i [] (let e = rows_length slots sites count in omega arith)
 
 -- rows of which one changed
-pub rows_set : (slots sites slots' sites' : List ℕ) (count i : ℕ) → ((j : ℕ) → j < count → (j ≡ i → ⊥) → row_of slots' sites' j ≡ row_of slots sites j)
-    → rows_of slots' sites' count ≡ set (rows_of slots sites count) i (row_of slots' sites' i)
+pub rows_set : (slots sites slots' sites' : List ℕ) (count i : ℕ) → ((j : ℕ) → j < count → (j ≡ i → ⊥) → slots_of_site slots' sites' j ≡ slots_of_site slots sites j)
+    → rows_of slots' sites' count ≡ set (rows_of slots sites count) i (slots_of_site slots' sites' i)
 rows_set slots sites slots' sites' count i others =
-    ext_get_or [] (rows_of slots' sites' count) (set (rows_of slots sites count) i (row_of slots' sites' i))
-    (rows_length slots' sites' count ∙ sym (length-set (rows_of slots sites count) i (row_of slots' sites' i) ∙ rows_length slots sites count))
+    ext_get_or [] (rows_of slots' sites' count) (set (rows_of slots sites count) i (slots_of_site slots' sites' i))
+    (rows_length slots' sites' count ∙ sym (length-set (rows_of slots sites count) i (slots_of_site slots' sites' i) ∙ rows_length slots sites count))
     (λ j lt.
     let l = rows_length slots' sites' count in
     let m = rows_length slots sites count in
     let within : j < count = omega arith in
     rows_at slots' sites' count j within ∙ elim (cases_eq j i) [
-      | inl e ↦ ap (λ (z : ℕ). row_of slots' sites' z) e ∙ sym (ap (λ (z : ℕ). get_or (set (rows_of slots sites count) i (row_of slots' sites' i)) z []) e
-          ∙ get_or-set_same (rows_of slots sites count) i (row_of slots' sites' i) [] (omega arith))
+      | inl e ↦ ap (λ (z : ℕ). slots_of_site slots' sites' z) e ∙ sym (ap (λ (z : ℕ). get_or (set (rows_of slots sites count) i (slots_of_site slots' sites' i)) z []) e
+          ∙ get_or-set_same (rows_of slots sites count) i (slots_of_site slots' sites' i) [] (omega arith))
       | inr ne ↦ others j within ne ∙ (sym (rows_at slots sites count j within)
-          ∙ sym (get_or-set_other (rows_of slots sites count) i j (row_of slots' sites' i) [] ne))
+          ∙ sym (get_or-set_other (rows_of slots sites count) i j (slots_of_site slots' sites' i) [] ne))
     ])
 
 -- the same rows
-pub rows_same : (slots sites slots' sites' : List ℕ) (count : ℕ) → ((j : ℕ) → j < count → row_of slots' sites' j ≡ row_of slots sites j)
+pub rows_same : (slots sites slots' sites' : List ℕ) (count : ℕ) → ((j : ℕ) → j < count → slots_of_site slots' sites' j ≡ slots_of_site slots sites j)
     → rows_of slots' sites' count ≡ rows_of slots sites count
 rows_same slots sites slots' sites' count same =
     ext_get_or [] (rows_of slots' sites' count) (rows_of slots sites count) (rows_length slots' sites' count ∙ sym (rows_length slots sites count))

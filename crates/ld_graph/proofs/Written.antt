@@ -2,7 +2,7 @@ use Rattle.std.proofs.Common.{◌≡◌, ℕ, ◌<◌, List, length, get_or, set
 use Rattle.std.proofs.lemmas.List.{map-set, set-get_or, get_or-map}
 use Rattle.ld_graph.specs.declared.edge.Edge.{Edge}
 use Rattle.ld_graph.specs.Linked.{none_at}
-use Rattle.ld_graph.specs.Columns.{slots_of, sites_of, nexts_of, befores_of, site_nexts_of, HaveColumns}
+use Rattle.ld_graph.specs.Columns.{slots_of, edge_sites, nexts_of, befores_of, site_nexts_of, HaveColumns}
 
 -- a column where the entry written is the one that was there
 kept : (field : Edge → ℕ) (edges : List Edge) (at : ℕ) (e e' : Edge) → at < length edges → e ≡ get_or edges at e → field e' ≡ field e
@@ -13,7 +13,7 @@ kept field edges at e e' lt read same =
     map-set field edges at e' ∙ (ap (λ (x : ℕ). set (map field edges) at x) there ∙ set-get_or (map field edges) at none_at)
 
 pub edge_written : (edges : List Edge) (at : ℕ) (e : Edge)
-    → HaveColumns (set edges at e) (set (slots_of edges) at e.slot) (set (sites_of edges) at e.site) (set (nexts_of edges) at e.next)
+    → HaveColumns (set edges at e) (set (slots_of edges) at e.slot) (set (edge_sites edges) at e.site) (set (nexts_of edges) at e.next)
     (set (befores_of edges) at e.before) (set (site_nexts_of edges) at e.site_next)
 edge_written edges at e = record {
   slots_are = map-set (λ (e : Edge). e.slot) edges at e;
@@ -24,7 +24,7 @@ edge_written edges at e = record {
 }
 
 pub next_written : (edges : List Edge) (at : ℕ) (e : Edge) (v : ℕ) → at < length edges → e ≡ get_or edges at e
-    → HaveColumns (set edges at (record e { next = v })) (slots_of edges) (sites_of edges) (set (nexts_of edges) at v) (befores_of edges) (site_nexts_of edges)
+    → HaveColumns (set edges at (record e { next = v })) (slots_of edges) (edge_sites edges) (set (nexts_of edges) at v) (befores_of edges) (site_nexts_of edges)
 next_written edges at e v lt read = record {
   slots_are = kept (λ (e : Edge). e.slot) edges at e (record e { next = v }) lt read refl;
   sites_are = kept (λ (e : Edge). e.site) edges at e (record e { next = v }) lt read refl;
@@ -34,7 +34,7 @@ next_written edges at e v lt read = record {
 }
 
 pub before_written : (edges : List Edge) (at : ℕ) (e : Edge) (v : ℕ) → at < length edges → e ≡ get_or edges at e
-    → HaveColumns (set edges at (record e { before = v })) (slots_of edges) (sites_of edges) (nexts_of edges) (set (befores_of edges) at v) (site_nexts_of edges)
+    → HaveColumns (set edges at (record e { before = v })) (slots_of edges) (edge_sites edges) (nexts_of edges) (set (befores_of edges) at v) (site_nexts_of edges)
 before_written edges at e v lt read = record {
   slots_are = kept (λ (e : Edge). e.slot) edges at e (record e { before = v }) lt read refl;
   sites_are = kept (λ (e : Edge). e.site) edges at e (record e { before = v }) lt read refl;
@@ -44,7 +44,7 @@ before_written edges at e v lt read = record {
 }
 
 pub free_written : (edges : List Edge) (at : ℕ) (e : Edge) (v : ℕ) → at < length edges → e ≡ get_or edges at e
-    → HaveColumns (set edges at (record e { slot = none_at; site = none_at; site_next = v })) (set (slots_of edges) at none_at) (set (sites_of edges) at none_at)
+    → HaveColumns (set edges at (record e { slot = none_at; site = none_at; site_next = v })) (set (slots_of edges) at none_at) (set (edge_sites edges) at none_at)
     (nexts_of edges) (befores_of edges) (set (site_nexts_of edges) at v)
 free_written edges at e v lt read = record {
   slots_are = map-set (λ (e : Edge). e.slot) edges at (record e { slot = none_at; site = none_at; site_next = v });

@@ -39,14 +39,14 @@ pub record HoldsBack (next before keys : List ℕ) (first key : ℕ) : Type 0 wh
   pub keyed : AreKeyed keys edges key
 
 -- the slots of the edges of a site, by the slot and the site of each edge
-abbrev pub row_of : List ℕ → List ℕ → ℕ → List ℕ
-row_of [] sites site = []
-row_of (s ∷ slots) [] site = []
-row_of (s ∷ slots) (t ∷ sites) site = cond (eqb t site) (s ∷ row_of slots sites site) (row_of slots sites site)
+abbrev pub slots_of_site : List ℕ → List ℕ → ℕ → List ℕ
+slots_of_site [] sites site = []
+slots_of_site (s ∷ slots) [] site = []
+slots_of_site (s ∷ slots) (t ∷ sites) site = cond (eqb t site) (s ∷ slots_of_site slots sites site) (slots_of_site slots sites site)
 
 -- the slots of each site, for so many sites
 abbrev pub rows_of : List ℕ → List ℕ → ℕ → List (List ℕ)
-rows_of slots sites count = map (row_of slots sites) (range_with_len 0 count)
+rows_of slots sites count = map (slots_of_site slots sites) (range_with_len 0 count)
 
 -- how many edges have no site
 abbrev pub free_count : List ℕ → ℕ

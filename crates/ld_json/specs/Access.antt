@@ -7,7 +7,7 @@ use Rattle.serde_json.specs.Find.{get, as_number, as_u64, as_bool, as_str, as_ar
 use Rattle.ld_json.specs.declared.code.Code.TheVariants.{WrongShape, UnknownMember, Missing}
 use Rattle.ld_json.specs.Node.{Placed, item_node}
 use Rattle.ld_json.specs.Places.{member_place}
-use Rattle.ld_json.specs.Fault.{Told, fault_at}
+use Rattle.ld_json.specs.Fault.{Told, node_fault}
 
 -- The node is an object.
 abbrev pub IsObject : Placed → Type 0
@@ -22,25 +22,25 @@ abbrev pub whole_of : Data → Option ℕ
 whole_of tree = option_and_then as_u64 (as_number tree)
 
 -- A node of another shape than is wanted has one fault, at its own place.
-abbrev pub shape_faults : {A : Type 0} → Placed → Option A → List Told
-shape_faults node (Some _) = []
-shape_faults node None = fault_at node WrongShape ∷ []
+abbrev pub wrong_shape_faults : {A : Type 0} → Placed → Option A → List Told
+wrong_shape_faults node (Some _) = []
+wrong_shape_faults node None = node_fault node WrongShape ∷ []
 
 -- The node is to be a text.
-abbrev pub text_faults : Placed → List Told
-text_faults node = shape_faults node (as_str node.tree)
+abbrev pub not_text_faults : Placed → List Told
+not_text_faults node = wrong_shape_faults node (as_str node.tree)
 
 -- The node is to be such a number.
 abbrev pub whole_faults : Placed → List Told
-whole_faults node = shape_faults node (whole_of node.tree)
+whole_faults node = wrong_shape_faults node (whole_of node.tree)
 
 -- The node is to be true or false.
 abbrev pub flag_faults : Placed → List Told
-flag_faults node = shape_faults node (as_bool node.tree)
+flag_faults node = wrong_shape_faults node (as_bool node.tree)
 
 -- The node is to be an array.
 abbrev pub list_faults : Placed → List Told
-list_faults node = shape_faults node (as_array node.tree)
+list_faults node = wrong_shape_faults node (as_array node.tree)
 
 -- The name of the only member of an object.
 abbrev pub only_name : Members → Option (List ℕ)
@@ -54,7 +54,7 @@ sole_of tree = option_and_then only_name (as_object tree)
 
 -- The node is to be an object with just one member.
 abbrev pub sole_faults : Placed → List Told
-sole_faults node = shape_faults node (sole_of node.tree)
+sole_faults node = wrong_shape_faults node (sole_of node.tree)
 
 -- Each member has one of these names.
 abbrev pub all_listed : List (List ℕ) → Members → Bool
@@ -63,8 +63,8 @@ all_listed names (member name _ rest) = list_any (bytes_eq name) names && all_li
 
 -- No object, or an object with a member of another name.
 abbrev pub listing_faults : List (List ℕ) → Placed → Option Members → List Told
-listing_faults names node None = fault_at node WrongShape ∷ []
-listing_faults names node (Some members) = if all_listed names members then [] else fault_at node UnknownMember ∷ []
+listing_faults names node None = node_fault node WrongShape ∷ []
+listing_faults names node (Some members) = if all_listed names members then [] else node_fault node UnknownMember ∷ []
 
 -- The node is to be an object, and each of its members is to have one of these names.
 abbrev pub only_faults : List (List ℕ) → Placed → List Told

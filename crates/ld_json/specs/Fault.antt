@@ -14,8 +14,8 @@ pub record Told : Type 0 where
   pub code : Code
 
 -- The fault of this code at the node.
-abbrev pub fault_at : Placed → Code → Told
-fault_at node code = record { file = node.file; place = node.place; code = code }
+abbrev pub node_fault : Placed → Code → Told
+node_fault node code = record { file = node.file; place = node.place; code = code }
 
 -- What the fault says.
 abbrev pub told_by : Fault → Told
@@ -28,7 +28,7 @@ Says fault NoMemory = Unit {0}
 
 -- The error says that the node has the fault of this code. Want of memory says nothing.
 abbrev pub SaysFault : Placed → Code → ReadFault → Type 0
-SaysFault node code error = Says (fault_at node code) error
+SaysFault node code error = Says (node_fault node code) error
 
 -- The head of the list.
 abbrev pub first_of : List Told → Option Told

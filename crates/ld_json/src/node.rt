@@ -7,7 +7,7 @@ ghost use Rattle.serde_json.specs.Find.{get, at, as_str, as_bool, as_object};
 ghost use Rattle.serde_json.specs.View.{view, members_view};
 ghost use Rattle.std.specs.List.{list_any};
 ghost use Rattle.std.specs.Str.{bytes_eq};
-ghost use Rattle.ld_json.specs.Access.{IsObject, IsArray, whole_of, sole_of, only_name, all_listed, missing_at, text_faults, whole_faults, flag_faults, list_faults, sole_faults, only_faults, member_faults, item_nodes};
+ghost use Rattle.ld_json.specs.Access.{IsObject, IsArray, whole_of, sole_of, only_name, all_listed, missing_at, not_text_faults, whole_faults, flag_faults, list_faults, sole_faults, only_faults, member_faults, item_nodes};
 ghost use Rattle.ld_json.specs.Fault.{Says, SaysFault, SaysFirst};
 ghost use Rattle.ld_json.specs.Pointers.{IsAt};
 ghost use Rattle.ld_json.specs.Node.{Placed, member_node, item_node};
@@ -106,8 +106,8 @@ impl<'a> Node<'a> {
     /// The text that the node is. `wrong-shape` exactly where it is none.
     pub fn text(&self, alloc: Global) -> Result<&'a str, ReadFault>
         ensures value { IfOk result (λ text. as_str self.now.tree ≡ Some text.now) }
-        ensures faultless { OnOk result (text_faults self.now ≡ []) }
-        ensures first { IfErr result (SaysFirst (text_faults self.now)) }
+        ensures faultless { OnOk result (not_text_faults self.now ≡ []) }
+        ensures first { IfErr result (SaysFirst (not_text_faults self.now)) }
     {
         match self.tree.as_str() {
             Some(text) => Ok(text),

@@ -13,8 +13,8 @@ pub data Answer : Type 0 where
   TooLong : Answer
 
 -- The line has at most 65,536 bytes, and one that is not blank.
-abbrev pub IsWhole : List ℕ → Type 0
-IsWhole line = (length line ≤ 65536) × (is_passed_over line ≡ false)
+abbrev pub IsWholeLine : List ℕ → Type 0
+IsWholeLine line = (length line ≤ 65536) × (is_passed_over line ≡ false)
 
 -- The answer fits the lines of what was held and what the source had left, where that is told.
 abbrev pub FitsLines : Reading → Option (List ℕ) → Answer → Reading → Option (List ℕ) → Type 0
@@ -27,7 +27,7 @@ FitsLines old before TooLong new now = Unit {0}
 -- The answer fits the bytes that were held or taken, whatever comes behind them. The end is told below
 -- the limit alone. At a stop no line among them is ended, and the end was not told.
 abbrev pub FitsBytes : List ℕ → Answer → Reading → Type 0
-FitsBytes bytes (WholeLine line) new = IsWhole line × Leaves bytes (line ∷ []) new
+FitsBytes bytes (WholeLine line) new = IsWholeLine line × Leaves bytes (line ∷ []) new
 FitsBytes bytes OverLine new = (long : List ℕ) × (65536 < length long) × Leaves bytes (long ∷ []) new
 FitsBytes bytes NoLine new = (lines_of bytes ≡ []) × (new.held ≡ []) × (new.ended ≡ true) × (new.taken < 2 ^ 40)
 FitsBytes bytes Fault new = (ended_lines_of bytes ≡ []) × (new.ended ≡ false) × (new.taken < 2 ^ 40)

@@ -12,5 +12,5 @@ abbrev pub left_of : Words → Items
 left_of words = items_view (into_iter_items words.rest)
 
 -- What was found at the front has this form, and the words behind it are left; nothing was found where they have another form.
-abbrev pub Reads : {A : Type 0} → Form A → Words → Option A → Words → Type 0
-Reads form old found new = option_map (λ x. (x, left_of new)) found ≡ form (left_of old)
+abbrev pub ReadsForm : {A : Type 0} → Form A → Words → Option A → Words → Type 0
+ReadsForm form old found new = option_map (λ x. (x, left_of new)) found ≡ form (left_of old)

@@ -7,9 +7,9 @@ use Rattle.ld_lines.specs.declared.stop.LineStop.{LineStop}
 use Rattle.ld_lines.specs.declared.stop.LineStop.TheVariants.{ReadFault, InputTooLong}
 
 -- The answer that the result stands for.
-abbrev pub answer_of : Result Next LineStop → Answer
-answer_of (Ok (Whole line)) = WholeLine line.now
-answer_of (Ok Over) = OverLine
-answer_of (Ok End) = NoLine
-answer_of (Err ReadFault) = Fault
-answer_of (Err InputTooLong) = TooLong
+abbrev pub answer_of_next : Result Next LineStop → Answer
+answer_of_next (Ok (Whole line)) = WholeLine line.now
+answer_of_next (Ok Over) = OverLine
+answer_of_next (Ok End) = NoLine
+answer_of_next (Err ReadFault) = Fault
+answer_of_next (Err InputTooLong) = TooLong

@@ -21,9 +21,9 @@ behind None next = None
 behind (Some found) next = next found.0 found.1
 
 -- The same as an operator, by which forms stand one behind the other.
-infixl 10 ◌>>=◌
-abbrev pub ◌>>=◌ : {A B : Type 0} → Form A → (A → Form B) → Form B
-(form >>= next) elements = behind (form elements) next
+infixl 10 ◌followed_by◌
+abbrev pub ◌followed_by◌ : {A B : Type 0} → Form A → (A → Form B) → Form B
+(form followed_by next) elements = behind (form elements) next
 
 -- No word: this is what was read.
 abbrev pub give : {A : Type 0} → A → Form A
@@ -70,20 +70,20 @@ abbrev pub any_text : Form (List ℕ)
 any_text = word Some
 
 -- An identifier.
-abbrev pub identifier : Form (List ℕ)
-identifier = word identifier_in
+abbrev pub one_identifier : Form (List ℕ)
+one_identifier = word identifier_in
 
 -- A uri.
-abbrev pub uri : Form (List ℕ)
-uri = word uri_in
+abbrev pub one_uri : Form (List ℕ)
+one_uri = word uri_in
 
 -- A person, or the empty text.
 abbrev pub person_or_none : Form (Option (List ℕ))
 person_or_none = word person_in
 
 -- A moment.
-abbrev pub moment : Form Moment
-moment = word moment_in
+abbrev pub one_moment : Form Moment
+one_moment = word moment_in
 
 -- The verb has these letters.
 infix 20 ◌is◌

@@ -32,7 +32,7 @@ impl Lines {
     ghost use Rattle.std.specs.Borrow.{sem};
     ghost use Rattle.ld_base.specs.Outside.{Rose};
     ghost use Rattle.ld_lines.specs.Answer.{HandsOut};
-    ghost use Rattle.ld_lines.specs.Next.{answer_of};
+    ghost use Rattle.ld_lines.specs.Next.{answer_of_next};
     ghost use Rattle.ld_lines.specs.Loan.{LendsLine};
 
     /// The lines of a source of which nothing was taken. Takes all memory that they will need.
@@ -60,7 +60,7 @@ impl Lines {
     /// held of the last one may be a part of it.
     pub fn next<S: Source>(&mut self, source: &mut S) -> Result<Next<'_>, LineStop>
         ensures* hands_out { sem 𝓛 (LendsLine self.entry (λ new.
-            HandsOut self.old (S.left source.old) (answer_of result) new (S.left source.new))) }
+            HandsOut self.old (S.left source.old) (answer_of_next result) new (S.left source.new))) }
         ensures read_fault { result ≡ Err LineStop.ReadFault
             → Rose (S.faults source.old) (S.faults source.new) }
         ensures counts { S.faults source.old ≤ S.faults source.new }

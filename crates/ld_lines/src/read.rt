@@ -3,7 +3,7 @@
 
 ghost use Rattle.std.specs.Prelude.{◌≡◌, Some, None, IfOk, IfSome, Err};
 ghost use Rattle.ld_lines.specs.Commands.{array_of, command_of, command_of_verb, property_command, showing_command, line_of_verb, line_in};
-ghost use Rattle.ld_lines.specs.Elements.{left_of, Reads};
+ghost use Rattle.ld_lines.specs.Elements.{left_of, ReadsForm};
 ghost use Rattle.ld_lines.specs.LineMoment.{moment_of_line};
 ghost use Rattle.ld_value.specs.Calendar.{IsMoment};
 
@@ -54,7 +54,7 @@ fn read_line(words: &mut Words) -> Option<Line>
 
 /// The line of a verb with the words that it takes.
 fn read_verb(moment: Moment, verb: &str, words: &mut Words) -> Option<Line>
-    ensures reads { Reads (line_of_verb moment verb.now) words.old result words.new }
+    ensures reads { ReadsForm (line_of_verb moment verb.now) words.old result words.new }
     ensures moment { IfSome result (λ line. moment_of_line line ≡ moment) }
 {
     match verb {
@@ -84,7 +84,7 @@ fn read_verb(moment: Moment, verb: &str, words: &mut Words) -> Option<Line>
 
 /// The command of a verb of one run, with the words behind the run's name.
 fn read_run_verb(verb: &str, words: &mut Words) -> Option<RunCommand>
-    ensures { Reads (command_of_verb verb.now) words.old result words.new }
+    ensures { ReadsForm (command_of_verb verb.now) words.old result words.new }
 {
     match verb {
         "enrol" => Some(RunCommand::Enrol {
@@ -114,7 +114,7 @@ fn read_run_verb(verb: &str, words: &mut Words) -> Option<RunCommand>
 
 /// The same of a verb of properties, or one that shows something.
 fn read_property_verb(verb: &str, words: &mut Words) -> Option<RunCommand>
-    ensures { Reads (property_command verb.now) words.old result words.new }
+    ensures { ReadsForm (property_command verb.now) words.old result words.new }
 {
     match verb {
         "set" => Some(RunCommand::Set {
@@ -136,7 +136,7 @@ fn read_property_verb(verb: &str, words: &mut Words) -> Option<RunCommand>
 
 /// The same of a verb that shows something.
 fn read_showing_verb(verb: &str, words: &mut Words) -> Option<RunCommand>
-    ensures { Reads (showing_command verb.now) words.old result words.new }
+    ensures { ReadsForm (showing_command verb.now) words.old result words.new }
 {
     match verb {
         "tree" => Some(RunCommand::Tree {

@@ -23,8 +23,8 @@ impl Words {
     ghost use Rattle.ld_value.specs.Calendar.{IsMoment};
     ghost use Rattle.serde_json.specs.Find.{as_array};
     ghost use Rattle.serde_json.specs.View.{view};
-    ghost use Rattle.ld_lines.specs.Elements.{left_of, Reads};
-    ghost use Rattle.ld_lines.specs.Words.{any_text, identifier, uri, person_or_none, moment, ended_with};
+    ghost use Rattle.ld_lines.specs.Elements.{left_of, ReadsForm};
+    ghost use Rattle.ld_lines.specs.Words.{any_text, one_identifier, one_uri, person_or_none, one_moment, ended_with};
 
     /// The words of an array; None where the tree is another.
     pub(crate) fn of(tree: Value) -> Option<Words>
@@ -40,7 +40,7 @@ impl Words {
 
     /// A text.
     pub(crate) fn text(&mut self) -> Option<String>
-        ensures { Reads any_text self.old (option_map string_bytes result) self.new }
+        ensures { ReadsForm any_text self.old (option_map string_bytes result) self.new }
     {
         match self.rest.next() {
             Some(Value::String(text)) => Some(text),
@@ -50,21 +50,21 @@ impl Words {
 
     /// A text that is kept.
     pub(crate) fn plain_text(&mut self) -> Option<PlainText>
-        ensures { Reads any_text self.old result self.new }
+        ensures { ReadsForm any_text self.old result self.new }
     {
         Some(PlainText::from_text(self.text()?))
     }
 
     /// An identifier.
     pub(crate) fn identifier(&mut self) -> Option<Id>
-        ensures { Reads identifier self.old result self.new }
+        ensures { ReadsForm one_identifier self.old result self.new }
     {
         Id::from_text(self.text()?)
     }
 
     /// A uri.
     pub(crate) fn uri(&mut self) -> Option<PlainText>
-        ensures { Reads uri self.old result self.new }
+        ensures { ReadsForm one_uri self.old result self.new }
     {
         let text = self.text()?;
         if !is_uri(text.as_bytes()) {
@@ -75,7 +75,7 @@ impl Words {
 
     /// A person, or none where the word is empty.
     pub(crate) fn person_or_none(&mut self) -> Option<Option<Id>>
-        ensures { Reads person_or_none self.old result self.new }
+        ensures { ReadsForm person_or_none self.old result self.new }
     {
         let text = self.text()?;
         if text.is_empty() {
@@ -86,7 +86,7 @@ impl Words {
 
     /// A moment.
     pub(crate) fn moment(&mut self) -> Option<Moment>
-        ensures reads { Reads moment self.old result self.new }
+        ensures reads { ReadsForm one_moment self.old result self.new }
         ensures years { IfSome result (λ m. IsMoment m.0) }
     {
         read_moment(self.text()?.as_str())
@@ -94,7 +94,7 @@ impl Words {
 
     /// The value, if no word is left.
     pub(crate) fn end<T: Drop>(&mut self, value: T) -> Option<T>
-        ensures reads { Reads (ended_with value) self.old result self.new }
+        ensures reads { ReadsForm (ended_with value) self.old result self.new }
         ensures value { IfSome result (λ found. found ≡ value) }
     {
         match self.rest.next() {

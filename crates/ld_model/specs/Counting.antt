@@ -1,6 +1,6 @@
 -- Words on lists whose elements are counted from 0.
 use Rattle.std.specs.Prelude.{ℕ, ◌+◌, List, [], ◌∷◌, ◌++◌, Bool, Option}
-use Rattle.std.specs.List.{range_with_len, position_from}
+use Rattle.std.specs.List.{position_from}
 
 -- What `f` gives for each element and its number, in order.
 abbrev pub each_numbered_from : {A B : Type 0} → (ℕ → A → List B) → ℕ → List A → List B
@@ -9,10 +9,6 @@ each_numbered_from f n (x ∷ xs) = f n x ++ each_numbered_from f (n + 1) xs
 
 abbrev pub each_numbered : {A B : Type 0} → (ℕ → A → List B) → List A → List B
 each_numbered f xs = each_numbered_from f 0 xs
-
--- The numbers below n, in order.
-abbrev pub numbers_below : ℕ → List ℕ
-numbers_below n = range_with_len 0 n
 
 -- The number of the first element that passes the test.
 abbrev pub number_where : {A : Type 0} → (A → Bool) → List A → Option ℕ

@@ -26,12 +26,12 @@ abbrev pub identifiers_in : List Part → List (List ℕ)
 identifiers_in parts = flat_map (λ part. identified_by part.what) parts
 
 -- The identifier of a role that is declared.
-abbrev pub role_by : Kind → List ℕ → List (List ℕ)
-role_by kind.Role id = id ∷ []
-role_by _ id = []
+abbrev pub identifier_of_role : Kind → List ℕ → List (List ℕ)
+identifier_of_role kind.Role id = id ∷ []
+identifier_of_role _ id = []
 
 abbrev pub role_identified_by : What → List (List ℕ)
-role_identified_by (Declares kind id _) = role_by kind id
+role_identified_by (Declares kind id _) = identifier_of_role kind id
 role_identified_by _ = []
 
 -- The identifiers of the roles among the parts.

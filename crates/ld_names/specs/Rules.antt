@@ -1,7 +1,8 @@
 -- The rules of a unit in the order in which a sweep visits them, and their sites.
 use Rattle.std.specs.Prelude.{ℕ, List, [], ◌∷◌, map, Option, Some, None, Bool, true, false, ◌&&◌, nat_eq}
 use Rattle.std.specs.List.{flat_map}
-use Rattle.ld_model.specs.Counting.{each_numbered, numbers_below, number_where}
+use Rattle.ld_base.specs.Numbers.{numbers_below}
+use Rattle.ld_model.specs.Counting.{each_numbered, number_where}
 use Rattle.ld_model.specs.declared.cell.Owner.{Owner}
 use Rattle.ld_model.specs.declared.cell.Owner.TheVariants.{Run, Person}
 use Rattle.ld_model.specs.declared.unit.Unit.{Unit as Course}

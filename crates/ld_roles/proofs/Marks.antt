@@ -1,7 +1,7 @@
 -- What was done since the mark, and what it is taken back to.
 use Rattle.std.proofs.Common.{◌≡◌, ℕ, ◌<◌, List, Bool, true, false, Option, Some, None, option_map, IfSome, length, refl, sym, ap, ◌∙◌, arith}
 use Rattle.std.specs.Option.{option_and}
-use Rattle.ld_roles.specs.Changes.{before, IsUndoable}
+use Rattle.ld_roles.specs.Changes.{persons_before, IsUndoable}
 use Rattle.ld_roles.specs.Kept.{PersonRow}
 use Rattle.ld_roles.specs.Persons.{Persons, changed_at, holds_role}
 use Rattle.ld_roles.specs.Refusals.{assign_fault, drop_fault}
@@ -16,7 +16,7 @@ noted_undoable seats None change can = tt
 noted_undoable seats (Some old) change can = can
 
 -- What is kept stays, where all was as at the mark and the change is taken back to that.
-pub noted_keeps : (mark : Option Change) (change : Change) (old new : List PersonRow) → before change new ≡ old → IfSome (option_map (λ each. before each old) mark) (λ kept. kept ≡ old) → option_map (λ each. before each new) (option_and mark (Some change)) ≡ option_map (λ each. before each old) mark
+pub noted_keeps : (mark : Option Change) (change : Change) (old new : List PersonRow) → persons_before change new ≡ old → IfSome (option_map (λ each. persons_before each old) mark) (λ kept. kept ≡ old) → option_map (λ each. persons_before each new) (option_and mark (Some change)) ≡ option_map (λ each. persons_before each old) mark
 noted_keeps None change old new back marked = refl
 noted_keeps (Some first) change old new back marked = ap Some (back ∙ sym marked)
 

@@ -7,11 +7,11 @@ use Rattle.ld_roles.specs.declared.change.Change.{Change}
 use Rattle.ld_roles.specs.declared.change.Change.TheVariants.{Nothing, Enrolled, Gave, Took}
 
 -- The persons as they were before the change.
-abbrev pub before : Change → List PersonRow → List PersonRow
-before Nothing rows = rows
-before Enrolled rows = take (length rows - 1) rows
-before (Gave p role) rows = changed_at (with_held role false) p rows
-before (Took p role) rows = changed_at (with_held role true) p rows
+abbrev pub persons_before : Change → List PersonRow → List PersonRow
+persons_before Nothing rows = rows
+persons_before Enrolled rows = take (length rows - 1) rows
+persons_before (Gave p role) rows = changed_at (with_held role false) p rows
+persons_before (Took p role) rows = changed_at (with_held role true) p rows
 
 -- The change can be taken back.
 abbrev pub IsUndoable : Seated → Change → Type 0
@@ -25,5 +25,5 @@ abbrev pub roster_of : Seated → Option Change → RosterView
 roster_of seats mark = record {
   roles = seats.roles;
   rows = seats.rows;
-  kept = option_map (λ change. before change seats.rows) mark;
+  kept = option_map (λ change. persons_before change seats.rows) mark;
 }

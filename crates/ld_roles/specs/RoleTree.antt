@@ -1,7 +1,7 @@
 -- Roles within roles, by their numbers.
 use Rattle.std.specs.Prelude.{ℕ, ◌+◌, List, length, filter, reverse, Bool, ◌&&◌, nat_eq, slice_get}
 use Rattle.std.specs.List.{starts_with}
-use Rattle.ld_model.specs.Counting.{numbers_below}
+use Rattle.ld_base.specs.Numbers.{numbers_below}
 use Rattle.ld_expr.specs.Lookup.{is_some_and}
 use Rattle.ld_roles.specs.RoleBounds.{RoleBounds}
 

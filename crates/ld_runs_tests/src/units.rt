@@ -2,8 +2,8 @@
 use ld_base::id::Id;
 use ld_json::doc::{Doc, document};
 use ld_json::docs::Docs;
+use ld_method::parts::read_parts;
 use ld_method::whole::read_method;
-use ld_reader::parts::read_parts;
 use ld_refs::check::{Checked, check as check_unit};
 use ld_rules::prepared::PreparedUnit;
 use std::alloc::Global;

@@ -1,9 +1,9 @@
 -- Where there is a fault, there is no value.
 use Rattle.std.proofs.Common.{◌≡◌, List, [], ◌∷◌, Option, Some, None, refl}
 use Rattle.ld_json.specs.Fault.{Told, first_of}
-use Rattle.ld_shape.specs.Reading.{Agree, Reading}
+use Rattle.ld_shape.specs.Reading.{ValueOrFaults, Reading}
 
-nothing : {A : Type 0} (x : Option A) (faults : List Told) (first : Told) → Agree x faults → first_of faults ≡ Some first → x ≡ None
+nothing : {A : Type 0} (x : Option A) (faults : List Told) (first : Told) → ValueOrFaults x faults → first_of faults ≡ Some first → x ≡ None
 nothing None faults first are is = refl
 nothing (Some x) [] first are is = cc
 nothing (Some x) (_ ∷ _) first are is = absurd are

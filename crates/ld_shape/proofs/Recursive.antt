@@ -3,7 +3,7 @@ use Rattle.std.proofs.Common.{◌≡◌, ℕ, zero, suc, ◌+◌, ◌<◌, ◌�
 use Rattle.serde_json.specs.Data.{Data, null, boolean, number, string, array, object, Items, no_items, item, depth, items_depth}
 use Rattle.serde_json.specs.Find.{get, as_array}
 use Rattle.ld_json.specs.Access.{missing_at, nodes_from, nodes_of, sole_of}
-use Rattle.ld_json.specs.Fault.{Told, fault_at}
+use Rattle.ld_json.specs.Fault.{Told, node_fault}
 use Rattle.ld_json.specs.declared.code.Code.TheVariants.{WrongShape}
 use Rattle.ld_json.specs.Node.{Placed, member_node, item_node}
 use Rattle.ld_shape.proofs.Depths.{depth-get}
@@ -95,7 +95,7 @@ each_of s t deep same node (object _) less = refl
 
 pub list_local : {A : Type 0} (fits : ℕ → Bool) → IsLocalStep {A = A} (list_where fits)
 list_local fits s t node same = ap (λ x. after
-    (or_fault (fault_at node WrongShape) (elements_in fits node)) x)
+    (or_fault (node_fault node WrongShape) (elements_in fits node)) x)
     (each_of s t (depth node.tree) same node node.tree (omega arith))
 
 part_local : {A B : Type 0} (absent : Reading B) (name : List ℕ) (read : Shape A → Shape B) → IsLocalStep read
@@ -166,13 +166,13 @@ case_local name make pick law read cases local rest = record {
 
 chosen_at : {A B : Type 0} (cases : Shape A → List (Case B)) → AreLocal cases
     → (s t : Shape A) (node : Placed) → SameBelow (depth node.tree) s t
-    → (name : Option (List ℕ)) → part_or (faulty (fault_at node WrongShape))
-    (chosen (cases s) node) name ≡ part_or (faulty (fault_at node WrongShape))
+    → (name : Option (List ℕ)) → part_or (faulty (node_fault node WrongShape))
+    (chosen (cases s) node) name ≡ part_or (faulty (node_fault node WrongShape))
     (chosen (cases t) node) name
 unfolding at_part_agree
 chosen_at cases local s t node same None = refl
 chosen_at cases local s t node same (Some name) =
-    ap (λ x. part_or (faulty (fault_at node WrongShape)) (λ (_ : List ℕ). x) (Some name))
+    ap (λ x. part_or (faulty (node_fault node WrongShape)) (λ (_ : List ℕ). x) (Some name))
     (local.alike s t node same name)
 
 pub sole_local : {A B : Type 0} (cases : Shape A → List (Case B)) → AreLocal cases
@@ -200,5 +200,5 @@ both_of_two s t deep same fault node (array (item _ (item _ (item _ _)))) less =
 both_of_two s t deep same fault node (object _) less = refl
 
 pub pair_local : {A : Type 0} → IsLocalStep {A = A} pair_of
-pair_local s t node same = both_of_two s t (depth node.tree) same (fault_at node WrongShape) node node.tree
+pair_local s t node same = both_of_two s t (depth node.tree) same (node_fault node WrongShape) node node.tree
     (omega arith)

@@ -41,15 +41,15 @@ abbrev pub true_flag : Shape (Unit {0})
 true_flag = plain true_of
 
 -- A text of so many bytes.
-unfoldable pub text_of : ℕ → ℕ → Data → Option (List ℕ)
-text_of least most tree = tested (has_length least most) (as_str tree)
+unfoldable pub text_within : ℕ → ℕ → Data → Option (List ℕ)
+text_within least most tree = tested (has_length least most) (as_str tree)
 
-pub text_formed : (least most : ℕ) (tree : Data) → Keeps (has_length least most) (text_of least most tree)
-unfolding text_of
+pub text_formed : (least most : ℕ) (tree : Data) → Keeps (has_length least most) (text_within least most tree)
+unfolding text_within
 text_formed least most tree = tested_keeps (has_length least most) (as_str tree)
 
 abbrev pub text : ℕ → ℕ → Shape (List ℕ)
-text least most = leaf (text_of least most) (has_length least most) (text_formed least most)
+text least most = leaf (text_within least most) (has_length least most) (text_formed least most)
 
 -- A title or a subject: 1 to 256 bytes.
 abbrev pub title : Shape (List ℕ)
@@ -86,12 +86,12 @@ abbrev pub uri : Shape (List ℕ)
 uri = address 4096
 
 -- A whole number from one bound to the other.
-unfoldable pub number_of : ℕ → ℕ → Data → Option ℕ
-number_of least most tree = tested (is_between least most) (whole_of tree)
+unfoldable pub number_within : ℕ → ℕ → Data → Option ℕ
+number_within least most tree = tested (is_between least most) (whole_of tree)
 
-pub number_formed : (least most : ℕ) (tree : Data) → Keeps (is_between least most) (number_of least most tree)
-unfolding number_of
+pub number_formed : (least most : ℕ) (tree : Data) → Keeps (is_between least most) (number_within least most tree)
+unfolding number_within
 number_formed least most tree = tested_keeps (is_between least most) (whole_of tree)
 
 abbrev pub number : ℕ → ℕ → Shape ℕ
-number least most = leaf (number_of least most) (is_between least most) (number_formed least most)
+number least most = leaf (number_within least most) (is_between least most) (number_formed least most)

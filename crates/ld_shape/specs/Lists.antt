@@ -4,7 +4,7 @@ use Rattle.std.specs.List.{list_all}
 use Rattle.std.proofs.Common.{refl, ap, ◌∙◌}
 use Rattle.serde_json.specs.Find.{as_array}
 use Rattle.ld_json.specs.Access.{item_nodes}
-use Rattle.ld_json.specs.Fault.{Told, fault_at}
+use Rattle.ld_json.specs.Fault.{Told, node_fault}
 use Rattle.ld_json.specs.Node.{Placed}
 use Rattle.ld_json.specs.declared.code.Code.TheVariants.{WrongShape}
 use Rattle.ld_shape.specs.Forms.{is_between}
@@ -25,7 +25,7 @@ elements_in fits node = if is_some (as_array node.tree)
 
 -- No array, or one whose number of elements does not pass the test.
 abbrev pub number_faults : (ℕ → Bool) → Placed → List Told
-number_faults fits node = fault_unless (fault_at node WrongShape) (elements_in fits node)
+number_faults fits node = fault_unless (node_fault node WrongShape) (elements_in fits node)
 
 -- The array has all its elements, and their number passes the test.
 abbrev pub HasNumber : (ℕ → Bool) → Placed → Type 0
@@ -53,23 +53,23 @@ each_formed shape (node ∷ nodes) =
     one_more_formed shape.has_form (length nodes) (shape.reading node).value (each shape nodes).value
     (shape.formed node) (each_formed shape nodes)
 
-pub counted : {A : Type 0} (form : A → Bool) (fits : ℕ → Bool) (array : Bool) (nodes : List Placed)
+pub count_formed : {A : Type 0} (form : A → Bool) (fits : ℕ → Bool) (array : Bool) (nodes : List Placed)
     (xs : Option (List A)) (test : Bool) → fits (length nodes) ≡ test
     → AreFormed form (length nodes) xs
     → Keeps (λ xs. fits (length xs) && list_all form xs)
     (option_after (if array && test then Some nodes else None) xs)
-counted form fits false nodes xs test is are = tt
-counted form fits true nodes xs false is are = tt
-counted form fits true nodes None true is are = tt
-counted form fits true nodes (Some xs) true is are = rw (ap fits are.0 ∙ is) are.1
+count_formed form fits false nodes xs test is are = tt
+count_formed form fits true nodes xs false is are = tt
+count_formed form fits true nodes None true is are = tt
+count_formed form fits true nodes (Some xs) true is are = rw (ap fits are.0 ∙ is) are.1
 
 -- The list that an array gives, whose number of elements passes the test.
 abbrev pub list_where : {A : Type 0} → (ℕ → Bool) → Shape A → Shape (List A)
 list_where fits shape = record {
-  reading = λ node. after (or_fault (fault_at node WrongShape) (elements_in fits node))
+  reading = λ node. after (or_fault (node_fault node WrongShape) (elements_in fits node))
       (each shape (item_nodes node));
   has_form = λ xs. fits (length xs) && list_all shape.has_form xs;
-  formed = λ node. counted shape.has_form fits (is_some (as_array node.tree)) (item_nodes node)
+  formed = λ node. count_formed shape.has_form fits (is_some (as_array node.tree)) (item_nodes node)
       (each shape (item_nodes node)).value (fits (length (item_nodes node))) refl
       (each_formed shape (item_nodes node));
 }
@@ -98,7 +98,7 @@ two_among (_ ∷ (_ ∷ (_ ∷ _))) = None
 -- Both values of an array of just two elements.
 abbrev pub pair_of : {A : Type 0} → Shape A → Shape (A × A)
 pair_of shape = record {
-  reading = λ node. part_or (faulty (fault_at node WrongShape))
+  reading = λ node. part_or (faulty (node_fault node WrongShape))
       (λ two. both (shape.reading two.0) (shape.reading two.1)) (two_among (item_nodes node));
   has_form = λ p. shape.has_form p.0 && shape.has_form p.1;
   formed = λ node. part_keeps (λ p. shape.has_form p.0 && shape.has_form p.1) None
@@ -109,4 +109,4 @@ pair_of shape = record {
 
 -- No array, or one of another number of elements than two.
 abbrev pub two_faults : Placed → List Told
-two_faults node = fault_unless (fault_at node WrongShape) (two_among (item_nodes node))
+two_faults node = fault_unless (node_fault node WrongShape) (two_among (item_nodes node))

@@ -4,17 +4,17 @@ use Rattle.ld_json.specs.Fault.{Told, SaysFirst}
 use Rattle.ld_json.specs.declared.fault.ReadFault.{ReadFault}
 
 -- There is a value exactly where there is no fault.
-abbrev pub Agree : {A : Type 0} → Option A → List Told → Type 0
-Agree (Some _) [] = Unit {0}
-Agree (Some _) (_ ∷ _) = ⊥
-Agree None [] = ⊥
-Agree None (_ ∷ _) = Unit {0}
+abbrev pub ValueOrFaults : {A : Type 0} → Option A → List Told → Type 0
+ValueOrFaults (Some _) [] = Unit {0}
+ValueOrFaults (Some _) (_ ∷ _) = ⊥
+ValueOrFaults None [] = ⊥
+ValueOrFaults None (_ ∷ _) = Unit {0}
 
 -- The value, if there is one, and all faults, in the order in which they are looked for.
 pub record Reading (A : Type 0) : Type 0 where
   pub value : Option A
   pub faults : List Told
-  pub agree : Agree value faults
+  pub agree : ValueOrFaults value faults
 
 -- ---- a value, or one fault
 
@@ -31,7 +31,7 @@ abbrev pub fault_unless : {A : Type 0} → Told → Option A → List Told
 fault_unless fault (Some _) = []
 fault_unless fault None = fault ∷ []
 
-pub or_fault_agree : {A : Type 0} (fault : Told) (x : Option A) → Agree x (fault_unless fault x)
+pub or_fault_agree : {A : Type 0} (fault : Told) (x : Option A) → ValueOrFaults x (fault_unless fault x)
 or_fault_agree fault (Some _) = tt
 or_fault_agree fault None = tt
 
@@ -44,7 +44,7 @@ abbrev pub none_if : List Told → Option (Unit {0})
 none_if [] = Some tt
 none_if (_ ∷ _) = None
 
-pub none_if_agree : (faults : List Told) → Agree (none_if faults) faults
+pub none_if_agree : (faults : List Told) → ValueOrFaults (none_if faults) faults
 none_if_agree [] = tt
 none_if_agree (_ ∷ _) = tt
 
@@ -67,7 +67,7 @@ option_mapped f None = None
 option_mapped f (Some x) = Some (f x)
 
 pub both_agree : {A B : Type 0} (x : Option A) (before : List Told) (y : Option B) (more : List Told)
-    → Agree x before → Agree y more → Agree (option_both x y) (before ++ more)
+    → ValueOrFaults x before → ValueOrFaults y more → ValueOrFaults (option_both x y) (before ++ more)
 both_agree (Some x) [] (Some y) more is are = are
 both_agree (Some x) [] None more is are = are
 both_agree (Some x) (_ ∷ _) y more is are = absurd is
@@ -75,14 +75,14 @@ both_agree None [] y more is are = absurd is
 both_agree None (_ ∷ _) y more is are = tt
 
 pub after_agree : {A B : Type 0} (x : Option A) (before : List Told) (y : Option B) (more : List Told)
-    → Agree x before → Agree y more → Agree (option_after x y) (before ++ more)
+    → ValueOrFaults x before → ValueOrFaults y more → ValueOrFaults (option_after x y) (before ++ more)
 after_agree (Some x) [] y more is are = are
 after_agree (Some x) (_ ∷ _) y more is are = absurd is
 after_agree None [] y more is are = absurd is
 after_agree None (_ ∷ _) y more is are = tt
 
-pub mapped_agree : {A B : Type 0} (f : A → B) (x : Option A) (faults : List Told) → Agree x faults
-    → Agree (option_mapped f x) faults
+pub mapped_agree : {A B : Type 0} (f : A → B) (x : Option A) (faults : List Told) → ValueOrFaults x faults
+    → ValueOrFaults (option_mapped f x) faults
 mapped_agree f (Some x) [] is = is
 mapped_agree f (Some x) (_ ∷ _) is = is
 mapped_agree f None [] is = is
@@ -120,7 +120,7 @@ at_part absent there None = absent
 at_part absent there (Some part) = there part
 
 unfoldable pub at_part_agree : {P A : Type 0} (absent : Reading A) (there : P → Reading A) (part : Option P)
-    → Agree (at_part absent.value (λ p. (there p).value) part)
+    → ValueOrFaults (at_part absent.value (λ p. (there p).value) part)
     (at_part absent.faults (λ p. (there p).faults) part)
 at_part_agree absent there None = absent.agree
 at_part_agree absent there (Some part) = (there part).agree
@@ -141,6 +141,6 @@ pub record Gives {A : Type 0} (reading : Reading A) (x : A) : Type 0 where
   pub faultless : reading.faults ≡ []
 
 -- The value that is found, or the first fault, or want of memory.
-abbrev pub Answers : {A : Type 0} → Reading A → Result A ReadFault → Type 0
-Answers reading (Ok x) = Gives reading x
-Answers reading (Err error) = SaysFirst reading.faults error
+abbrev pub GivesOrSays : {A : Type 0} → Reading A → Result A ReadFault → Type 0
+GivesOrSays reading (Ok x) = Gives reading x
+GivesOrSays reading (Err error) = SaysFirst reading.faults error

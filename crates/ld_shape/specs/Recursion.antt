@@ -1,7 +1,7 @@
 -- Shapes that speak of themselves, at nodes that nest less deep.
 use Rattle.std.specs.Prelude.{◌≡◌, ℕ, zero, suc, Bool, true}
 use Rattle.serde_json.specs.Data.{depth}
-use Rattle.ld_json.specs.Fault.{fault_at}
+use Rattle.ld_json.specs.Fault.{node_fault}
 use Rattle.ld_json.specs.Node.{Placed}
 use Rattle.ld_json.specs.declared.code.Code.TheVariants.{WrongShape}
 use Rattle.ld_shape.specs.Keeping.{Keeps, wider_keeps}
@@ -24,7 +24,7 @@ KeepsForm {A} form step = (given : Formed form) (x : A) → (step given).has_for
 -- The step, done so many times. (What is read at no step at all is never come to.)
 abbrev pub rounds : {A : Type 0} {form : A → Bool} (step : Formed form → Shape A) → KeepsForm form step → ℕ
     → Formed form
-rounds step keeps zero = record { reading = λ node. faulty (fault_at node WrongShape); formed = λ _. tt }
+rounds step keeps zero = record { reading = λ node. faulty (node_fault node WrongShape); formed = λ _. tt }
 rounds {form = form} step keeps (suc n) = record {
   reading = (step (rounds step keeps n)).reading;
   formed = λ node. wider_keeps (step (rounds step keeps n)).has_form form (keeps (rounds step keeps n))

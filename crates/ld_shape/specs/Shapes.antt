@@ -2,7 +2,7 @@
 use Rattle.std.specs.Prelude.{◌≡◌, Option, Some, None, Bool, true, false, ◌&&◌}
 use Rattle.std.proofs.Common.{ap, ◌∙◌}
 use Rattle.serde_json.specs.Data.{Data}
-use Rattle.ld_json.specs.Fault.{fault_at}
+use Rattle.ld_json.specs.Fault.{node_fault}
 use Rattle.ld_json.specs.Node.{Placed}
 use Rattle.ld_json.specs.declared.code.Code.{Code}
 use Rattle.ld_json.specs.declared.code.Code.TheVariants.{WrongShape, NotInProfile}
@@ -25,7 +25,7 @@ Shape A = Described Placed A
 abbrev pub coded_leaf : {A : Type 0} (code : Data → Code) (read : Data → Option A) (form : A → Bool)
     → ((tree : Data) → Keeps form (read tree)) → Shape A
 coded_leaf code read form kept = record {
-  reading = λ node. or_fault (fault_at node (code node.tree)) (read node.tree);
+  reading = λ node. or_fault (node_fault node (code node.tree)) (read node.tree);
   has_form = form;
   formed = λ node. kept node.tree;
 }
@@ -46,7 +46,7 @@ plain read = leaf read anything (λ tree. anything_keeps (read tree))
 -- The node is left out of this engine, whatever it holds.
 abbrev pub left_out : {A : Type 0} → Shape A
 left_out = record
-    { reading = λ node. faulty (fault_at node NotInProfile); has_form = λ _. false; formed = λ _. tt }
+    { reading = λ node. faulty (node_fault node NotInProfile); has_form = λ _. false; formed = λ _. tt }
 
 -- ---- what is made of what is read
 

@@ -4,7 +4,7 @@ use Rattle.std.specs.List.{list_any}
 use Rattle.std.specs.Str.{bytes_eq}
 use Rattle.std.proofs.Common.{refl}
 use Rattle.ld_json.specs.Access.{sole_of}
-use Rattle.ld_json.specs.Fault.{fault_at}
+use Rattle.ld_json.specs.Fault.{node_fault}
 use Rattle.ld_json.specs.Node.{Placed}
 use Rattle.ld_json.specs.declared.code.Code.TheVariants.{WrongShape, UnknownMember}
 use Rattle.ld_shape.specs.Keeping.{Keeps, wider_keeps, part_keeps}
@@ -24,7 +24,7 @@ case name make pick law shape = record { name = name; shape = picked make pick l
 
 -- What the case of the name gives; a name that no case has is an unknown member.
 abbrev pub chosen : {A : Type 0} → List (Case A) → Placed → List ℕ → Reading A
-chosen [] node name = faulty (fault_at node UnknownMember)
+chosen [] node name = faulty (node_fault node UnknownMember)
 chosen (case ∷ cases) node name = if bytes_eq name case.name then case.shape.reading node else chosen cases
     node name
 
@@ -64,7 +64,7 @@ chosen_keeps (case ∷ cases) node name =
 -- An object of just one member, which is one of these.
 abbrev pub sole : {A : Type 0} → List (Case A) → Shape A
 sole cases = record {
-  reading = λ node. part_or (faulty (fault_at node WrongShape)) (chosen cases node) (sole_of node.tree);
+  reading = λ node. part_or (faulty (node_fault node WrongShape)) (chosen cases node) (sole_of node.tree);
   has_form = has_a_case cases;
   formed = λ node. part_keeps (has_a_case cases) None (λ name. (chosen cases node name).value) tt
       (chosen_keeps cases node) (sole_of node.tree);

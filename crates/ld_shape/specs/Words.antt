@@ -18,12 +18,12 @@ choice_among (choice ∷ choices) text = if bytes_eq text choice.0 then Some cho
     text
 
 -- One of the words, as what it stands for.
-abbrev pub word_of : {A : Type 0} → List (List ℕ × A) → Data → Option A
-word_of choices tree = as_str tree >>= choice_among choices
+abbrev pub word_among : {A : Type 0} → List (List ℕ × A) → Data → Option A
+word_among choices tree = as_str tree >>= choice_among choices
 
 -- One of the words, which stand for all values of the type.
 abbrev pub one_of : {A : Type 0} → List (List ℕ × A) → Shape A
-one_of words = plain (word_of words)
+one_of words = plain (word_among words)
 
 -- ---- words of which some are left out of this engine
 
@@ -58,5 +58,5 @@ word_keeps form words have (Some text) = choice_keeps form words have text
 abbrev pub one_of_but : {A : Type 0} (words : List (List ℕ × A)) (form : A → Bool)
     → words_have form words ≡ true → List (List ℕ) → Shape A
 one_of_but words form have outside =
-    coded_leaf (λ tree. word_fault outside (as_str tree)) (word_of words) form
+    coded_leaf (λ tree. word_fault outside (as_str tree)) (word_among words) form
     (λ tree. word_keeps form words have (as_str tree))

@@ -1,7 +1,7 @@
 //! The documents of a unit, by the shape of what they hold.
 ghost use Rattle.ld_json.specs.Fault.{Says};
 ghost use Rattle.ld_shape.specs.Documents.{absent_file, required_reading, document_reading};
-ghost use Rattle.ld_shape.specs.Reading.{Answers};
+ghost use Rattle.ld_shape.specs.Reading.{GivesOrSays};
 
 use crate::reads::Reads;
 use ld_base::text::Text;
@@ -17,7 +17,7 @@ pub fn read_required<R: Reads>(
     docs: &Docs,
     file: FileNo,
 ) -> Result<R::Value, ReadFault>
-    ensures { Answers (required_reading file R.shape docs.now) result }
+    ensures { GivesOrSays (required_reading file R.shape docs.now) result }
 {
     let Some(document) = docs.get(file) else {
         return Err(absent(alloc, file));
@@ -43,7 +43,7 @@ pub fn read_document_or<R: Reads>(
     file: FileNo,
     default: R::Value,
 ) -> Result<R::Value, ReadFault>
-    ensures { Answers (document_reading default file R.shape docs.now) result }
+    ensures { GivesOrSays (document_reading default file R.shape docs.now) result }
 {
     let Some(document) = docs.get(file) else {
         return Ok(default);

@@ -7,7 +7,7 @@ ghost use Rattle.ld_json.specs.Fault.{SaysFirst};
 ghost use Rattle.ld_shape.specs.Forms.{is_between};
 ghost use Rattle.ld_shape.specs.Lists.{each, HasNumber, number_faults, two_faults, list_of, list_between, pair_of};
 ghost use Rattle.ld_shape.specs.Objects.{read_or};
-ghost use Rattle.ld_shape.specs.Reading.{Answers};
+ghost use Rattle.ld_shape.specs.Reading.{GivesOrSays};
 
 use crate::members::default_at;
 use crate::reads::Reads;
@@ -83,7 +83,7 @@ pub fn list_at<R: Reads>(
     name: &str,
 ) -> Result<Items<R::Value>, ReadFault>
     requires { IsObject node.now }
-    ensures { Answers (read_or name.now [] (list_of 0 R.shape) node.now) result }
+    ensures { GivesOrSays (read_or name.now [] (list_of 0 R.shape) node.now) result }
 {
     default_at::<ListOf<R, 0>>(alloc, node, name, Items::new(alloc))
 }
@@ -96,7 +96,7 @@ fn read_each<R: Reads>(
 ) -> Result<Items<R::Value>, ReadFault>
     requires array { IsArray node.now }
     requires whole { count ≡ length (item_nodes node.now) }
-    ensures { Answers (each R.shape (item_nodes node.now)) result }
+    ensures { GivesOrSays (each R.shape (item_nodes node.now)) result }
 {
     let mut values = Vec::with_capacity(alloc, count)?;
     for index in 0..count {

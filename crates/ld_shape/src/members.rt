@@ -4,7 +4,7 @@
 ghost use Rattle.std.specs.Prelude.{◌≡◌, IfOk};
 ghost use Rattle.ld_json.specs.Access.{IsObject};
 ghost use Rattle.ld_shape.specs.Objects.{needed_in, optional_in, read_or, absent_in};
-ghost use Rattle.ld_shape.specs.Reading.{Answers};
+ghost use Rattle.ld_shape.specs.Reading.{GivesOrSays};
 
 use crate::reads::Reads;
 use ld_base::memory::NoMemory;
@@ -20,7 +20,7 @@ pub fn needed_at<R: Reads>(
     name: &str,
 ) -> Result<R::Value, ReadFault>
     requires { IsObject node.now }
-    ensures { Answers ((needed_in name.now R.shape).reading node.now) result }
+    ensures { GivesOrSays ((needed_in name.now R.shape).reading node.now) result }
 {
     let member = node.member(alloc, name)?;
     R::read(alloc, &member)
@@ -33,7 +33,7 @@ pub fn optional_at<R: Reads>(
     name: &str,
 ) -> Result<Option<R::Value>, ReadFault>
     requires { IsObject node.now }
-    ensures { Answers ((optional_in name.now R.shape).reading node.now) result }
+    ensures { GivesOrSays ((optional_in name.now R.shape).reading node.now) result }
 {
     let Some(member) = node.optional(name) else {
         return Ok(None);
@@ -50,7 +50,7 @@ pub fn default_at<R: Reads>(
     default: R::Value,
 ) -> Result<R::Value, ReadFault>
     requires { IsObject node.now }
-    ensures { Answers (read_or name.now default R.shape node.now) result }
+    ensures { GivesOrSays (read_or name.now default R.shape node.now) result }
 {
     match node.optional(name) {
         Some(member) => R::read(alloc, &member),
@@ -61,7 +61,7 @@ pub fn default_at<R: Reads>(
 /// That there is no member of this name, which this engine leaves out.
 pub fn absent_at(alloc: Global, node: &Node<'_>, name: &str) -> Result<(), ReadFault>
     requires { IsObject node.now }
-    ensures { Answers ((absent_in name.now).reading node.now) result }
+    ensures { GivesOrSays ((absent_in name.now).reading node.now) result }
 {
     match node.optional(name) {
         None => Ok(()),

@@ -1,5 +1,5 @@
 //! Readers by shape.
-ghost use Rattle.ld_shape.specs.Reading.{Answers};
+ghost use Rattle.ld_shape.specs.Reading.{GivesOrSays};
 ghost use Rattle.ld_shape.specs.Shapes.{Shape};
 
 use ld_json::fault::ReadFault;
@@ -14,5 +14,5 @@ pub trait Reads {
 
     /// What the node stands for, or its first fault.
     fn read(alloc: Global, node: &Node<'_>) -> Result<Self::Value, ReadFault>
-        ensures { Answers (shape.reading node.now) result };
+        ensures { GivesOrSays (shape.reading node.now) result };
 }

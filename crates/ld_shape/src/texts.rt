@@ -1,12 +1,12 @@
 //! Texts: identifiers, titles, addresses, durations.
-#![tactic(auto, unfolding(crate::specs::Forms::address_of, crate::specs::Forms::identifier_of, crate::specs::Forms::text_of, crate::specs::Spans::span_of), using(ld_json::proofs::First::says_more))]
+#![tactic(auto, unfolding(crate::specs::Forms::address_of, crate::specs::Forms::identifier_of, crate::specs::Forms::text_within, crate::specs::Spans::span_of), using(ld_json::proofs::First::says_more))]
 
 ghost use Rattle.std.specs.Prelude.{◌≡◌, [], Some, IfOk, OnOk, IfErr};
 ghost use Rattle.std.specs.List.{list_all};
 ghost use Rattle.ld_json.specs.Fault.{SaysFirst};
 ghost use Rattle.ld_shape.specs.Forms.{text as text_shape, title, identifier, href, uri, address, is_visible_ascii};
 ghost use Rattle.ld_shape.specs.Spans.{seconds};
-ghost use Rattle.ld_shape.specs.Reading.{Answers};
+ghost use Rattle.ld_shape.specs.Reading.{GivesOrSays};
 
 use crate::reads::Reads;
 use ld_base::id::Id;
@@ -86,7 +86,7 @@ impl Reads for Title {
 
 /// The text of 1 to `most` visible characters of ASCII that the node is.
 fn read_address(alloc: Global, node: &Node<'_>, most: usize) -> Result<PlainText, ReadFault>
-    ensures { Answers ((address most).reading node.now) result }
+    ensures { GivesOrSays ((address most).reading node.now) result }
 {
     let text = text_between(alloc, node, 1, most)?;
     if !are_visible_ascii(text.as_bytes()) {

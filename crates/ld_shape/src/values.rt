@@ -1,8 +1,8 @@
 //! Numbers and flags.
-#![tactic(auto, unfolding(crate::specs::Forms::number_of, crate::specs::Forms::true_of), using(ld_json::proofs::First::says_more))]
+#![tactic(auto, unfolding(crate::specs::Forms::number_within, crate::specs::Forms::true_of), using(ld_json::proofs::First::says_more))]
 
 ghost use Rattle.ld_shape.specs.Forms.{flag, true_flag, number};
-ghost use Rattle.ld_shape.specs.Reading.{Answers};
+ghost use Rattle.ld_shape.specs.Reading.{GivesOrSays};
 ghost use Rattle.ld_shape.specs.Shapes.{left_out};
 
 use crate::reads::Reads;
@@ -44,7 +44,7 @@ impl Reads for True {
 
 /// The whole number from `least` to `most` that the node is.
 pub fn read_number(alloc: Global, node: &Node<'_>, least: u32, most: u32) -> Result<u32, ReadFault>
-    ensures { Answers ((number least most).reading node.now) result }
+    ensures { GivesOrSays ((number least most).reading node.now) result }
 {
     let number = node.whole(alloc)?;
     if number < u64::from(least) {

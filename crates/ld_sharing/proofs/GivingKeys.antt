@@ -27,7 +27,7 @@ use Rattle.ld_state.proofs.Elements.{IsIn, from_each, in_each}
 use Rattle.ld_state.proofs.SameCells.{one_value}
 use Rattle.ld_sharing.specs.GivenValues.{GivenValue, given_by, other_values, others_of_person, others_of_property, others_of_uri, value_of_person, value_of_run, where_other}
 use Rattle.ld_sharing.specs.Globals.{giving_back, has_uri}
-use Rattle.ld_sharing.specs.Writes.{with_value, written_by}
+use Rattle.ld_sharing.specs.Writes.{with_shared_value, written_by}
 use Rattle.ld_sharing.specs.declared.giving.Write.{Write}
 use Rattle.ld_sharing.proofs.GivingFirsts.{Has, first_named, first_with, has_tells}
 use Rattle.ld_sharing.proofs.UrisDiffer.{uris_of}
@@ -35,7 +35,7 @@ use Rattle.ld_sharing.proofs.UrisDiffer.{uris_of}
 -- ---- one value after another
 
 abbrev pub with_given : GlobalValues → GivenValue → GlobalValues
-with_given store given = with_value store given.uri given.person given.value
+with_given store given = with_shared_value store given.uri given.person given.value
 
 pub writes_given : (store : GlobalValues) (writes : List Write)
     → fold written_by store writes ≡ fold with_given store (map given_by writes)

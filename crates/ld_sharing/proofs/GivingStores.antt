@@ -10,7 +10,7 @@ use Rattle.ld_globals.proofs.Since.{keys-equal}
 use Rattle.ld_globals.proofs.Written.{put-same, put-other}
 use Rattle.ld_state.proofs.SameCells.{one_value}
 use Rattle.ld_sharing.specs.StoreView.{values_of}
-use Rattle.ld_sharing.specs.Writes.{with_value}
+use Rattle.ld_sharing.specs.Writes.{with_shared_value}
 
 -- The last write of a key, once another has been made.
 module _ (q k : Key) (v : Write) where
@@ -64,7 +64,7 @@ module _ (store : Store) (key : Key) (value : Option Datum) where
           ∙ ap (value_after (declared_at store q.uri)) (found_inserted q key write store.written)
           ∙ other (same_key q key)
 
-  pub values_put : values_of (put_in store key value) ≡ with_value (values_of store) key.uri key.person value
+  pub values_put : values_of (put_in store key value) ≡ with_shared_value (values_of store) key.uri key.person value
   values_put = λ i u p. value_put (key_at u p) i
 
   pub put_declared : (put_in store key value).declared ≡ store.declared

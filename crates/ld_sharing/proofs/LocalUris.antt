@@ -7,7 +7,7 @@ use Rattle.ld_formats.specs.Environments.{environments_document}
 use Rattle.ld_formats.specs.Properties.{property, property_by, property_words, datatype, restrictions, owner_and_values, properties_document}
 use Rattle.ld_formats.specs.Roles.{roles_document}
 use Rattle.ld_formats.specs.Structures.{activities_document}
-use Rattle.ld_formats.specs.Units.{is_well_formed, unit, parts, method_documents, parts_of, told_of}
+use Rattle.ld_formats.specs.Units.{is_well_formed, unit, parts, method_documents, declared_parts, head_and_conditions}
 use Rattle.ld_shape.specs.Forms.{identifier, title, uri}
 use Rattle.ld_shape.specs.Objects.{given, present}
 use Rattle.ld_shape.specs.Words.{one_of}
@@ -59,7 +59,7 @@ no_uri x local formed = by_kind x.kind x local (values_formed (Some x.kind) x fo
 properties_formed : (x : Course) → is_well_formed x ≡ true → list_all property.has_form x.properties ≡ true
 unfolding is_well_formed unit parts properties_document environments_document
 properties_formed x formed =
-    let all = and_parts (parts.has_form (parts_of x)) (method_documents.has_form (told_of x)) formed in
+    let all = and_parts (parts.has_form (declared_parts x)) (method_documents.has_form (head_and_conditions x)) formed in
     let listed = middle (roles_document.has_form x.roles) (properties_document.has_form x.properties)
     (environments_document.has_form x.environments && activities_document.has_form (x.activities, x.structures)) all.0 in
     (and_parts (nat_le 0 (length x.properties)) (list_all property.has_form x.properties) listed).1

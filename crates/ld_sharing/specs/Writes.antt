@@ -13,12 +13,12 @@ use Rattle.ld_sharing.specs.StoreView.{values_of}
 use Rattle.ld_sharing.specs.declared.giving.Write.{Write}
 
 -- The store's values, once the key has this one.
-abbrev pub with_value : GlobalValues → List ℕ → Option (List ℕ) → Option Datum → GlobalValues
-with_value store uri person value =
+abbrev pub with_shared_value : GlobalValues → List ℕ → Option (List ℕ) → Option Datum → GlobalValues
+with_shared_value store uri person value =
     λ u p. if bytes_eq u uri && option_eq bytes_eq p person then value else store u p
 
 abbrev pub written_by : GlobalValues → Write → GlobalValues
-written_by store write = with_value store write.uri.bytes write.person (option_map datum_of write.value)
+written_by store write = with_shared_value store write.uri.bytes write.person (option_map datum_of write.value)
 
 abbrev pub IsWritableTo : Store → Write → Type 0
 IsWritableTo store write = IsWritable store (key_at write.uri.bytes write.person) (option_map datum_of write.value)

@@ -15,7 +15,7 @@ use Rattle.ld_state.specs.Layout.{Layout, slot_in}
 use Rattle.ld_state.specs.Parts.{IsState}
 use Rattle.ld_state.specs.declared.notice.OutNotice.{OutNotice}
 use Rattle.ld_state.specs.RunState.{NoticeState, with_cell}
-use Rattle.ld_state.specs.StateView.{IsFollowing, StateView, cells_seen, is_following, own_values, run_with, value_at}
+use Rattle.ld_state.specs.StateView.{IsFollowing, StateView, cells_seen, is_following, own_values, run_with, cell_value_at}
 use Rattle.ld_state.proofs.Elements.{different}
 use Rattle.ld_state.proofs.SameCells.{one_cell, same_cell_itself}
 use Rattle.ld_state.proofs.Standing.{one_slot, slot_within}
@@ -88,11 +88,11 @@ module _ (layout : Layout) (rows : List PersonRow) (cells : List (Option Datum))
     member = λ r p k at. other_holds k (member_cell r p) at (λ same. different (ap is_following same ∙ own)) ∙ follows.member r p k at;
   }
 
-  value_same : slot < length cells → value_at layout (length rows) (set cells slot value) name ≡ value
+  value_same : slot < length cells → cell_value_at layout (length rows) (set cells slot value) name ≡ value
   value_same within = ap (λ o. o >>= held_at (set cells slot value)) found ∙ get_or-set_same cells slot value None within
 
   value_other : (other : CellName) → (other ≡ name → ⊥)
-      → value_at layout (length rows) (set cells slot value) other ≡ value_at layout (length rows) cells other
+      → cell_value_at layout (length rows) (set cells slot value) other ≡ cell_value_at layout (length rows) cells other
   value_other other apart = by (slot_in layout (length rows) other) refl
     where
       by : (o : Option ℕ) → slot_in layout (length rows) other ≡ o
@@ -107,21 +107,21 @@ module _ (layout : Layout) (rows : List PersonRow) (cells : List (Option Datum))
       (fun_ext (λ other. each other (same_cell other name) refl))
     where
       each : (other : CellName) (b : Bool) → same_cell other name ≡ b
-          → own_values (value_at layout (length rows) (set cells slot value)) other
-          ≡ cond (same_cell other name) value (own_values (value_at layout (length rows) cells) other)
+          → own_values (cell_value_at layout (length rows) (set cells slot value)) other
+          ≡ cond (same_cell other name) value (own_values (cell_value_at layout (length rows) cells) other)
       each other true same =
-          ap (own_values (value_at layout (length rows) (set cells slot value))) (one_cell other name same)
-          ∙ own_plain (value_at layout (length rows) (set cells slot value)) name own
+          ap (own_values (cell_value_at layout (length rows) (set cells slot value))) (one_cell other name same)
+          ∙ own_plain (cell_value_at layout (length rows) (set cells slot value)) name own
           ∙ value_same within
-          ∙ sym (ap (λ b. cond b value (own_values (value_at layout (length rows) cells) other)) same)
+          ∙ sym (ap (λ b. cond b value (own_values (cell_value_at layout (length rows) cells) other)) same)
       each other false same =
-          own_alike (value_at layout (length rows) (set cells slot value)) (value_at layout (length rows) cells) other
+          own_alike (cell_value_at layout (length rows) (set cells slot value)) (cell_value_at layout (length rows) cells) other
           (value_other other (λ is. different (sym (same_cell_itself name) ∙ sym (ap (λ c. same_cell c name) is) ∙ same)))
-          ∙ sym (ap (λ b. cond b value (own_values (value_at layout (length rows) cells) other)) same)
+          ∙ sym (ap (λ b. cond b value (own_values (cell_value_at layout (length rows) cells) other)) same)
 
   pub held_before : is_following name ≡ false
-      → own_values (value_at layout (length rows) cells) name ≡ held_at cells slot
-  held_before own = own_plain (value_at layout (length rows) cells) name own ∙ ap (λ o. o >>= held_at cells) found
+      → own_values (cell_value_at layout (length rows) cells) name ≡ held_at cells slot
+  held_before own = own_plain (cell_value_at layout (length rows) cells) name own ∙ ap (λ o. o >>= held_at cells) found
 
 -- ---- the state by its parts
 

@@ -1,7 +1,8 @@
 -- The order of the cells of a run, whose places in it are their slots.
 use Rattle.std.specs.Prelude.{◌≡◌, ℕ, List, ◌++◌, map, flat_map, length, Option}
+use Rattle.ld_base.specs.Numbers.{numbers_below}
 use Rattle.ld_model.specs.Cells.{same_cell}
-use Rattle.ld_model.specs.Counting.{numbers_below, number_where}
+use Rattle.ld_model.specs.Counting.{number_where}
 use Rattle.ld_model.specs.Roles.{roles_of}
 use Rattle.ld_model.specs.declared.cell.CellName.{CellName}
 use Rattle.ld_model.specs.declared.cell.CellName.TheVariants.{Prop, Vis, Member, Chosen, Opened, ActOpened, Started, Mark, Now, Roster}

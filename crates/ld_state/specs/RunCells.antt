@@ -2,12 +2,13 @@
 use Rattle.std.specs.Prelude.{◌≡◌, ℕ, ℤ, pos, List, [], ◌∷◌, ◌++◌, map, flat_map, length, Option, Some, None, Bool, true, false, not, is_some, slice_get, IsTrue, IsSome, Contains, if◌then◌else◌}
 use Rattle.std.specs.Option.{option_map}
 use Rattle.ld_base.specs.Maybe.{◌>>=◌}
+use Rattle.ld_base.specs.Numbers.{numbers_below}
 use Rattle.ld_value.specs.Datum.{Datum, truth_datum, number_datum, moment_datum, same_truth}
 use Rattle.ld_value.specs.Values.{is_value}
 use Rattle.ld_value.specs.declared.kind.Kind.{Kind}
 use Rattle.ld_value.specs.declared.kind.Kind.TheVariants as kind
 use Rattle.ld_model.specs.Cells.{same_cell}
-use Rattle.ld_model.specs.Counting.{each_numbered, numbers_below, number_where}
+use Rattle.ld_model.specs.Counting.{each_numbered, number_where}
 use Rattle.ld_model.specs.Properties.{is_personal, initial_of}
 use Rattle.ld_model.specs.Roles.{roles_of}
 use Rattle.ld_model.specs.declared.cell.CellName.{CellName}

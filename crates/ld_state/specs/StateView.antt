@@ -2,10 +2,10 @@
 use Rattle.std.specs.Prelude.{◌≡◌, ◌<◌, ◌+◌, ◌^◌, ℕ, pos, List, ◌∷◌, length, map, filter, filter_map, take, not, Option, Some, None, Bool, true, false, is_some, IfSome}
 use Rattle.std.specs.Option.{option_map}
 use Rattle.ld_base.specs.Maybe.{◌>>=◌}
+use Rattle.ld_base.specs.Numbers.{numbers_below}
 use Rattle.ld_value.specs.Datum.{Datum, truth_datum, number_datum, same_truth}
 use Rattle.ld_cells.specs.Stored.{Kept, held_at}
 use Rattle.ld_model.specs.Cells.{CellMap}
-use Rattle.ld_model.specs.Counting.{numbers_below}
 use Rattle.ld_model.specs.declared.cell.CellName.{CellName}
 use Rattle.ld_model.specs.declared.cell.CellName.TheVariants.{Prop, Vis, Member, Chosen, Opened, ActOpened, Started, Mark, Now, Roster}
 use Rattle.ld_model.specs.declared.unit.Unit.{Unit as Course}
@@ -37,8 +37,8 @@ pub record StateView : Type 0 where
   pub spare : ℕ
 
 -- What the cell holds among cells in this order; none where there is no such cell.
-abbrev pub value_at : Layout → ℕ → List (Option Datum) → CellMap
-value_at layout persons cells name = slot_in layout persons name >>= held_at cells
+abbrev pub cell_value_at : Layout → ℕ → List (Option Datum) → CellMap
+cell_value_at layout persons cells name = slot_in layout persons name >>= held_at cells
 
 -- The same values, but none of what follows from the persons.
 abbrev pub own_values : CellMap → CellMap
@@ -59,7 +59,7 @@ run_with layout rows outbox cells = record {
   seats = SEATS;
   persons = persons_of rows;
   outbox = outbox;
-  cells = own_values (value_at layout (length rows) cells);
+  cells = own_values (cell_value_at layout (length rows) cells);
 }
 
 abbrev pub run_of : StateView → RunState
@@ -84,14 +84,14 @@ has_cell s name = is_some (slot_in s.layout (length s.rows) name)
 abbrev pub cells_seen : StateView → CellMap
 cells_seen s (Member r p) = Some (truth_datum (is_member_among s.roles (persons_of s.rows) r.0 p.0))
 cells_seen s Roster = Some (number_datum (pos (length s.rows)))
-cells_seen s (Prop n owner) = value_at s.layout (length s.rows) s.cells (Prop n owner)
-cells_seen s (Vis t p) = value_at s.layout (length s.rows) s.cells (Vis t p)
-cells_seen s (Chosen t owner) = value_at s.layout (length s.rows) s.cells (Chosen t owner)
-cells_seen s (Opened t owner) = value_at s.layout (length s.rows) s.cells (Opened t owner)
-cells_seen s (ActOpened t) = value_at s.layout (length s.rows) s.cells (ActOpened t)
-cells_seen s Started = value_at s.layout (length s.rows) s.cells Started
-cells_seen s (Mark r owner) = value_at s.layout (length s.rows) s.cells (Mark r owner)
-cells_seen s Now = value_at s.layout (length s.rows) s.cells Now
+cells_seen s (Prop n owner) = cell_value_at s.layout (length s.rows) s.cells (Prop n owner)
+cells_seen s (Vis t p) = cell_value_at s.layout (length s.rows) s.cells (Vis t p)
+cells_seen s (Chosen t owner) = cell_value_at s.layout (length s.rows) s.cells (Chosen t owner)
+cells_seen s (Opened t owner) = cell_value_at s.layout (length s.rows) s.cells (Opened t owner)
+cells_seen s (ActOpened t) = cell_value_at s.layout (length s.rows) s.cells (ActOpened t)
+cells_seen s Started = cell_value_at s.layout (length s.rows) s.cells Started
+cells_seen s (Mark r owner) = cell_value_at s.layout (length s.rows) s.cells (Mark r owner)
+cells_seen s Now = cell_value_at s.layout (length s.rows) s.cells Now
 
 -- The cell's value follows from the persons.
 abbrev pub is_following : CellName → Bool

@@ -1,6 +1,7 @@
 //! The cells of a run of a unit, in the order of their slots.
 ghost use Rattle.std.specs.Prelude.{◌≡◌, ◌++◌, map, length, true, not, is_some, IfOk, OnOk};
-ghost use Rattle.ld_model.specs.Counting.{each_numbered, numbers_below};
+ghost use Rattle.ld_base.specs.Numbers.{numbers_below};
+ghost use Rattle.ld_model.specs.Counting.{each_numbered};
 ghost use Rattle.ld_model.specs.Properties.{is_personal};
 ghost use Rattle.ld_expr.specs.Owners.{is_for_persons};
 ghost use Rattle.ld_names.specs.Rules.{kind_of, rules_of};

@@ -7,9 +7,9 @@ use Rattle.ld_json.specs.Fault.{Told, first_of}
 use Rattle.ld_json.specs.declared.docs.Docs.{Docs}
 use Rattle.ld_formats.specs.Units.{unit as unit_shape}
 use Rattle.ld_model.specs.declared.unit.Unit.{Unit as Course}
-use Rattle.ld_shape.specs.Reading.{Agree}
+use Rattle.ld_shape.specs.Reading.{ValueOrFaults}
 use Rattle.ld_world.specs.Published.{RefusedFolder, published, published_from, faults_beside}
-use Rattle.ld_top.specs.Folder.{docs_in, document_faults, folder_faults, held_in, json_faults, presence_faults, shape_faults, unit_of, unit_of_folder, faults_of_unit}
+use Rattle.ld_top.specs.Folder.{docs_in, document_faults, folder_faults, held_by_folder, json_faults, presence_faults, shape_faults, unit_of, unit_of_folder, faults_of_unit}
 use Rattle.ld_top.specs.InFolder.{IsReading}
 use Rattle.ld_top.specs.Reading.{AddsUnit, IsRefusedFor}
 use Rattle.ld_top.specs.Replay.{AreReadings, Publishes}
@@ -25,7 +25,7 @@ none_last : {A : Type 0} (these those : List A) → these ++ those ≡ [] → th
 none_last [] those none = none
 none_last (x ∷ these) those none = absurd (cc none)
 
-value_there : {A : Type 0} (value : Option A) (faults : List Told) → Agree value faults → faults ≡ [] → (x : A) × (value ≡ Some x)
+value_there : {A : Type 0} (value : Option A) (faults : List Told) → ValueOrFaults value faults → faults ≡ [] → (x : A) × (value ≡ Some x)
 value_there (Some x) faults agree none = (x, refl)
 value_there None [] agree none = absurd agree
 value_there None (fault ∷ more) agree none = absurd (cc none)
@@ -40,7 +40,7 @@ unit_there docs none =
 unit_in_folder : (files : Files) (folder : List ℕ) → folder_faults files folder ≡ [] → (x : Course) × (unit_of_folder files folder ≡ Some x)
 unfolding folder_faults unit_of_folder
 unit_in_folder files folder none =
-    let held = held_in files folder in
+    let held = held_by_folder files folder in
     unit_there (docs_in held) (none_last (json_faults held) _ (none_last (presence_faults held) _ none))
 
 -- A folder is read to a unit or to a first fault.

@@ -14,15 +14,15 @@ number_of WriteFault = 6
 number_of NoMemory = 7
 number_of InputTooLong = 8
 
-abbrev pub word_of : Ending → List ℕ
-word_of Done = []
-word_of BadWords = codes "bad-words"
-word_of ShelfFault = codes "shelf-fault"
-word_of UnitRefused = codes "unit-refused"
-word_of ReadFault = codes "read-fault"
-word_of WriteFault = codes "write-fault"
-word_of NoMemory = codes "no-memory"
-word_of InputTooLong = codes "input-too-long"
+abbrev pub ending_word : Ending → List ℕ
+ending_word Done = []
+ending_word BadWords = codes "bad-words"
+ending_word ShelfFault = codes "shelf-fault"
+ending_word UnitRefused = codes "unit-refused"
+ending_word ReadFault = codes "read-fault"
+ending_word WriteFault = codes "write-fault"
+ending_word NoMemory = codes "no-memory"
+ending_word InputTooLong = codes "input-too-long"
 
 abbrev pub IsOneOf : List ℕ → ℕ → Type 0
 IsOneOf numbers n = IsTrue (list_any (λ m. m == n) numbers)

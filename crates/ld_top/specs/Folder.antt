@@ -28,8 +28,8 @@ abbrev pub Held : Type 0
 Held = FileNo → Option (List ℕ)
 
 -- What the folder holds.
-abbrev pub held_in : Files → List ℕ → Held
-held_in files folder file = files folder (file_name file)
+abbrev pub held_by_folder : Files → List ℕ → Held
+held_by_folder files folder file = files folder (file_name file)
 
 -- Each unit has roles, activities and a document of its own.
 abbrev pub is_required : FileNo → Bool
@@ -92,10 +92,10 @@ document_faults docs = shape_faults docs ++ faults_of_unit (unit_of docs)
 -- All faults of the folder; the first of them is told.
 unfoldable pub folder_faults : Files → List ℕ → List Told
 folder_faults files folder =
-    presence_faults (held_in files folder)
-    ++ (json_faults (held_in files folder)
-    ++ document_faults (docs_in (held_in files folder)))
+    presence_faults (held_by_folder files folder)
+    ++ (json_faults (held_by_folder files folder)
+    ++ document_faults (docs_in (held_by_folder files folder)))
 
 -- The unit of the folder, where it has no fault.
 unfoldable pub unit_of_folder : Files → List ℕ → Option Course
-unit_of_folder files folder = unit_of (docs_in (held_in files folder))
+unit_of_folder files folder = unit_of (docs_in (held_by_folder files folder))

@@ -1,6 +1,6 @@
 //! How a call of the program ends.
 ghost use Rattle.std.specs.Prelude.{◌≡◌, codes};
-ghost use Rattle.ld_top.specs.Endings.{IsStatus, number_of, word_of};
+ghost use Rattle.ld_top.specs.Endings.{IsStatus, number_of, ending_word};
 
 /// How a call ends. Each ending has a number, which is the exit status of the program, and a word,
 /// which the program prints where the number is not 0 (docs/COMMANDS.md, "Statuses").
@@ -43,7 +43,7 @@ impl Ending {
 
     /// The ending's word; empty where the call was done.
     pub fn word(self) -> &'static str
-        ensures { result.now ≡ word_of self }
+        ensures { result.now ≡ ending_word self }
     {
         match self {
             Ending::Done => "",

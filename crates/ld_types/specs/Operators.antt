@@ -7,16 +7,16 @@ use Rattle.ld_types.specs.declared.types.ListOperator.TheVariants.{Adding, Multi
 use Rattle.ld_types.specs.declared.types.PairOperator.{PairOperator as CodePairOperator}
 use Rattle.ld_types.specs.declared.types.PairOperator.TheVariants.{Subtracting, Dividing}
 
-abbrev pub list_operator_of : CodeListOperator → ListOperator
-list_operator_of Adding = adding
-list_operator_of Multiplying = multiplying
+abbrev pub checked_list_operator_of : CodeListOperator → ListOperator
+checked_list_operator_of Adding = adding
+checked_list_operator_of Multiplying = multiplying
 
-abbrev pub pair_operator_of : CodePairOperator → PairOperator
-pair_operator_of Subtracting = subtracting
-pair_operator_of Dividing = dividing
+abbrev pub checked_pair_operator_of : CodePairOperator → PairOperator
+checked_pair_operator_of Subtracting = subtracting
+checked_pair_operator_of Dividing = dividing
 
-abbrev pub comparison_of : CodeComparison → Comparison
-comparison_of Equal = equal
-comparison_of Different = different
-comparison_of Greater = greater
-comparison_of Less = less
+abbrev pub checked_comparison_of : CodeComparison → Comparison
+checked_comparison_of Equal = equal
+checked_comparison_of Different = different
+checked_comparison_of Greater = greater
+checked_comparison_of Less = less

@@ -7,7 +7,7 @@ ghost use Rattle.ld_json.specs.Fault.{SaysFirst};
 ghost use Rattle.ld_model.specs.Expressions.{list_term, pair_term, terms_from};
 ghost use Rattle.ld_walk.specs.Places.{member};
 ghost use Rattle.ld_types.specs.Faults.{fault_if};
-ghost use Rattle.ld_types.specs.Operators.{list_operator_of, pair_operator_of};
+ghost use Rattle.ld_types.specs.Operators.{checked_list_operator_of, checked_pair_operator_of};
 ghost use Rattle.ld_types.specs.TermFaults.{is_no_list, is_no_pair, is_no_value, term_faults, terms_faults};
 ghost use Rattle.ld_types.specs.Types.{known_pair_type, term_type, term_types};
 ghost use Rattle.ld_types.specs.TypingView.{find_by};
@@ -60,7 +60,7 @@ impl<'a> Typing<'a> {
         terms: &[Term],
     ) -> Result<Option<ValueType>, NoMemory>
         ensures { IfOk result (λ type. type ≡ term_type (find_by self.now)
-            (list_term (list_operator_of operator) (terms_from terms.now))) }
+            (list_term (checked_list_operator_of operator) (terms_from terms.now))) }
     {
         match self.term_types(alloc, terms)? {
             Some(types) => Ok(operator.type_of(types.as_slice())),
@@ -78,7 +78,7 @@ impl<'a> Typing<'a> {
         b: &Term,
     ) -> Result<Option<ValueType>, NoMemory>
         ensures { IfOk result (λ type. type ≡ term_type (find_by self.now)
-            (pair_term (pair_operator_of operator) a.now b.now)) }
+            (pair_term (checked_pair_operator_of operator) a.now b.now)) }
     {
         let first = self.term_type(alloc, a)?;
         let second = self.term_type(alloc, b)?;
@@ -108,7 +108,7 @@ fn known_pair_type(
     a: Option<ValueType>,
     b: Option<ValueType>,
 ) -> Option<ValueType>
-    ensures { result ≡ known_pair_type (pair_operator_of operator) a b }
+    ensures { result ≡ known_pair_type (checked_pair_operator_of operator) a b }
 {
     operator.type_of(a?, b?)
 }
@@ -171,9 +171,9 @@ impl<'a> Typing<'a> {
         terms: &[Term],
     ) -> Result<(), ReadFault>
         ensures faultless { OnOk result (term_faults (find_by self.now) of_run at.now
-            (list_term (list_operator_of operator) (terms_from terms.now)) ≡ []) }
+            (list_term (checked_list_operator_of operator) (terms_from terms.now)) ≡ []) }
         ensures first { IfErr result (SaysFirst (term_faults (find_by self.now) of_run at.now
-            (list_term (list_operator_of operator) (terms_from terms.now)))) }
+            (list_term (checked_list_operator_of operator) (terms_from terms.now)))) }
     {
         if is_no_list(operator, &self.term_types(alloc, terms)?) {
             return Err(at.fault(alloc, Code::BadType));
@@ -214,9 +214,9 @@ impl<'a> Typing<'a> {
         b: &Term,
     ) -> Result<(), ReadFault>
         ensures faultless { OnOk result (term_faults (find_by self.now) of_run at.now
-            (pair_term (pair_operator_of operator) a.now b.now) ≡ []) }
+            (pair_term (checked_pair_operator_of operator) a.now b.now) ≡ []) }
         ensures first { IfErr result (SaysFirst (term_faults (find_by self.now) of_run at.now
-            (pair_term (pair_operator_of operator) a.now b.now))) }
+            (pair_term (checked_pair_operator_of operator) a.now b.now))) }
     {
         let first = self.term_type(alloc, a)?;
         let second = self.term_type(alloc, b)?;
@@ -251,7 +251,7 @@ fn check_literal(
 
 /// Whether no sum or product of operands of these types is in the table.
 fn is_no_list(operator: ListOperator, types: &Option<Vec<ValueType>>) -> bool
-    ensures { result ≡ is_no_list (list_operator_of operator)
+    ensures { result ≡ is_no_list (checked_list_operator_of operator)
         (option_map (λ list. list.items) types.now) }
 {
     match types {
@@ -262,7 +262,7 @@ fn is_no_list(operator: ListOperator, types: &Option<Vec<ValueType>>) -> bool
 
 /// Whether no difference or quotient of operands of these types is in the table.
 fn is_no_pair(operator: PairOperator, a: Option<ValueType>, b: Option<ValueType>) -> bool
-    ensures { result ≡ is_no_pair (pair_operator_of operator) a b }
+    ensures { result ≡ is_no_pair (checked_pair_operator_of operator) a b }
 {
     match (a, b) {
         (Some(a), Some(b)) => operator.type_of(a, b).is_none(),

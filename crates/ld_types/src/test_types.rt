@@ -4,7 +4,7 @@
 ghost use Rattle.std.specs.Prelude.{◌≡◌, [], IfErr, OnOk};
 ghost use Rattle.ld_json.specs.Fault.{SaysFirst};
 ghost use Rattle.ld_model.specs.Expressions.{compare_test, tests_from};
-ghost use Rattle.ld_types.specs.Operators.{comparison_of};
+ghost use Rattle.ld_types.specs.Operators.{checked_comparison_of};
 ghost use Rattle.ld_types.specs.TermFaults.{is_no_comparison, test_faults, tests_faults};
 ghost use Rattle.ld_types.specs.TypingView.{find_by};
 
@@ -70,9 +70,9 @@ impl<'a> Typing<'a> {
         b: &Term,
     ) -> Result<(), ReadFault>
         ensures faultless { OnOk result (test_faults (find_by self.now) at.now
-            (compare_test (comparison_of comparison) a.now b.now) ≡ []) }
+            (compare_test (checked_comparison_of comparison) a.now b.now) ≡ []) }
         ensures first { IfErr result (SaysFirst (test_faults (find_by self.now) at.now
-            (compare_test (comparison_of comparison) a.now b.now))) }
+            (compare_test (checked_comparison_of comparison) a.now b.now))) }
     {
         let first = self.term_type(alloc, a)?;
         let second = self.term_type(alloc, b)?;
@@ -88,7 +88,7 @@ impl<'a> Typing<'a> {
 
 /// Whether two values of these types cannot be compared so.
 fn is_no_comparison(comparison: Comparison, a: Option<ValueType>, b: Option<ValueType>) -> bool
-    ensures { result ≡ is_no_comparison (comparison_of comparison) a b }
+    ensures { result ≡ is_no_comparison (checked_comparison_of comparison) a b }
 {
     match (a, b) {
         (Some(a), Some(b)) => !comparison.compares(a, b),

@@ -3,7 +3,7 @@ ghost use Rattle.std.specs.Prelude.{◌≡◌};
 ghost use Rattle.std.specs.List.{list_all};
 ghost use Rattle.ld_model.specs.Expressions.{adding, multiplying, subtracting, dividing};
 ghost use Rattle.ld_walk.specs.ExpressionParts.{comparison_word, list_operator_word, pair_operator_word};
-ghost use Rattle.ld_types.specs.Operators.{comparison_of, list_operator_of, pair_operator_of};
+ghost use Rattle.ld_types.specs.Operators.{checked_comparison_of, checked_list_operator_of, checked_pair_operator_of};
 ghost use Rattle.ld_types.specs.TermFaults.{are_comparable};
 ghost use Rattle.ld_types.specs.Types.{is_ordered, list_type, others_of, pair_type, same_type, type_of};
 
@@ -84,7 +84,7 @@ impl ValueType {
 impl ListOperator {
     /// The member that holds the terms.
     pub(crate) fn word(self) -> &'static str
-        ensures { result.now ≡ list_operator_word (list_operator_of self) }
+        ensures { result.now ≡ list_operator_word (checked_list_operator_of self) }
     {
         match self {
             ListOperator::Adding => "sum",
@@ -94,7 +94,7 @@ impl ListOperator {
 
     /// The type of a sum or a product of operands of these types, if there is one.
     pub(crate) fn type_of(self, operands: &[ValueType]) -> Option<ValueType>
-        ensures { result ≡ list_type (list_operator_of self) operands.now }
+        ensures { result ≡ list_type (checked_list_operator_of self) operands.now }
     {
         let (first, more) = operands.split_first()?;
         let other = self.others(*first)?;
@@ -106,7 +106,7 @@ impl ListOperator {
 
     /// What the other operands are, where the first is of this type.
     fn others(self, first: ValueType) -> Option<ValueType>
-        ensures { result ≡ others_of (list_operator_of self) first }
+        ensures { result ≡ others_of (checked_list_operator_of self) first }
     {
         match (self, first) {
             (_, ValueType::Integer) => Some(ValueType::Integer),
@@ -128,7 +128,7 @@ fn are_all(one: ValueType, types: &[ValueType]) -> bool
 impl PairOperator {
     /// The member that holds the terms.
     pub(crate) fn word(self) -> &'static str
-        ensures { result.now ≡ pair_operator_word (pair_operator_of self) }
+        ensures { result.now ≡ pair_operator_word (checked_pair_operator_of self) }
     {
         match self {
             PairOperator::Subtracting => "subtract",
@@ -138,7 +138,7 @@ impl PairOperator {
 
     /// The type of a difference or a quotient of two operands of these types, if there is one.
     pub(crate) fn type_of(self, a: ValueType, b: ValueType) -> Option<ValueType>
-        ensures { result ≡ pair_type (pair_operator_of self) a b }
+        ensures { result ≡ pair_type (checked_pair_operator_of self) a b }
     {
         match (self, a, b) {
             (_, ValueType::Integer, ValueType::Integer) => Some(ValueType::Integer),
@@ -157,7 +157,7 @@ impl PairOperator {
 impl Comparison {
     /// The member that holds the terms.
     pub(crate) fn word(self) -> &'static str
-        ensures { result.now ≡ comparison_word (comparison_of self) }
+        ensures { result.now ≡ comparison_word (checked_comparison_of self) }
     {
         match self {
             Comparison::Equal => "is",
@@ -169,7 +169,7 @@ impl Comparison {
 
     /// Whether two values of these types can be compared so.
     pub(crate) fn compares(self, a: ValueType, b: ValueType) -> bool
-        ensures { result ≡ are_comparable (comparison_of self) a b }
+        ensures { result ≡ are_comparable (checked_comparison_of self) a b }
     {
         match self {
             Comparison::Equal | Comparison::Different => a.is(b),

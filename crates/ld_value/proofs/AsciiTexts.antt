@@ -7,7 +7,7 @@ use Rattle.std.proofs.lemmas.Str.{IsAscii-append}
 use Rattle.std.proofs.lemmas.Str.Ascii.{IsAscii-nil}
 use Rattle.std.proofs.lemmas.Fmt.{IsAscii-decimal}
 use Rattle.ld_value.specs.Calendar.{in_digits, moment_text, text_of_moment, day_and_second_text}
-use Rattle.ld_value.specs.Duration.{part_text, shown, parts_of, time_text, has_time, span_text}
+use Rattle.ld_value.specs.Duration.{part_text, shown, span_parts, time_text, has_time, span_text}
 use Rattle.ld_value.proofs.Choices.{bool_cases}
 use Rattle.ld_value.proofs.Durations.{shown_cases}
 
@@ -53,9 +53,9 @@ part letter n h fits =
       | inr (some, e) ↦ rw e (more (decimals n fits) (one letter h))
     ]
 
-time : (n : ℕ) → n < 2 ^ 64 → Plain (time_text (parts_of n))
+time : (n : ℕ) → n < 2 ^ 64 → Plain (time_text (span_parts n))
 time n h =
-    elim (bool_cases (has_time (parts_of n))) [
+    elim (bool_cases (has_time (span_parts n))) [
       | inl some ↦ rw some (more (more (more (one 84 (omega arith)) (part 72 (n / 3600 % 24) (omega arith) (omega arith))) (part 77 (n / 60 % 60) (omega arith) (omega arith))) (part 83 (n % 60) (omega arith) (omega arith)))
       | inr absent ↦ rw absent none_there
     ]

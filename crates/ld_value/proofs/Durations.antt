@@ -9,7 +9,7 @@ use Rattle.std.proofs.lemmas.Bool.Decides.{nat_tests}
 use Rattle.std.proofs.lemmas.List.{take-append-drop, append-nil}
 use Rattle.std.proofs.Math.Seq.{drop-append_seam, take-append_seam}
 use Rattle.ld_value.proofs.Choices.{bool_cases, both, and_left, and_right, some_when, when_so, eq_self, eq_from, le_from, le_test, above_zero}
-use Rattle.ld_value.specs.Duration.{Parts, part_text, time_text, has_time, duration_text, is_part, has_numerals, is_duration, seconds_of, seconds_if, IsDuration, digit_count, begins_with, front_part, time_in, time_after, parts_in, duration_of, shown, parts_of, span_text, part_number}
+use Rattle.ld_value.specs.Duration.{Parts, part_text, time_text, has_time, duration_text, is_part, has_numerals, is_duration, seconds_of, seconds_if, IsDuration, digit_count, begins_with, front_part, time_in, time_after, parts_in, duration_of, shown, span_parts, span_text, part_number}
 
 -- what follows the digits at the front
 abbrev lead : List ℕ → List ℕ
@@ -222,36 +222,36 @@ none_at_all : (d h m s : Option (List ℕ)) → is_some d || (is_some h || (is_s
 none_at_all None h m s e = let rest = none_of h m s e in (refl, rest.0, rest.1, rest.2)
 none_at_all (Some d) h m s e = absurd (cc)
 
-part_shown : (n : ℕ) → 0 < n → is_some (parts_of n).days || has_time (parts_of n) ≡ true
+part_shown : (n : ℕ) → 0 < n → is_some (span_parts n).days || has_time (span_parts n) ≡ true
 part_shown n h =
-    elim (bool_cases (is_some (parts_of n).days || has_time (parts_of n))) [
+    elim (bool_cases (is_some (span_parts n).days || has_time (span_parts n))) [
       | inl some ↦ some
       | inr absent ↦
           let each = none_at_all (shown (n / 86400)) (shown (n / 3600 % 24)) (shown (n / 60 % 60)) (shown (n % 60)) absent in
           absurd (omega (arith, shown_none _ each.0, shown_none _ each.1, shown_none _ each.2, shown_none _ each.3))
     ]
 
-seconds_of-parts_of : (n : ℕ) → n ≤ 999999999999 → seconds_of (parts_of n) ≡ n
+seconds_of-span_parts : (n : ℕ) → n ≤ 999999999999 → seconds_of (span_parts n) ≡ n
 unfolding seconds_of
-seconds_of-parts_of n h =
+seconds_of-span_parts n h =
     rw (shown_number (n / 86400) (omega arith), shown_number (n / 3600 % 24) (omega arith), shown_number (n / 60 % 60) (omega arith), shown_number (n % 60) (omega arith))
     (omega arith)
 
-is_duration-parts_of : (n : ℕ) → 0 < n → n ≤ 999999999999 → is_duration (parts_of n) ≡ true
+is_duration-span_parts : (n : ℕ) → 0 < n → n ≤ 999999999999 → is_duration (span_parts n) ≡ true
 unfolding is_duration
-is_duration-parts_of n some h =
+is_duration-span_parts n some h =
     both _ _ (part_shown n some)
     (both _ _ (both _ _ (shown_is_part (n / 86400) (omega arith)) (both _ _ (shown_is_part (n / 3600 % 24) (omega arith)) (both _ _ (shown_is_part (n / 60 % 60) (omega arith)) (shown_is_part (n % 60) (omega arith)))))
-    (le_test _ _ (omega (arith, seconds_of-parts_of n h))))
+    (le_test _ _ (omega (arith, seconds_of-span_parts n h))))
 
 zero_span : duration_of (codes "PT0S") ≡ Some 0
 unfolding duration_of front_part time_in seconds_if is_duration seconds_of
 zero_span = refl
 
-some_span : (n : ℕ) → 0 < n → n ≤ 999999999999 → duration_of (duration_text (parts_of n)) ≡ Some n
+some_span : (n : ℕ) → 0 < n → n ≤ 999999999999 → duration_of (duration_text (span_parts n)) ≡ Some n
 some_span n some h =
-    duration_of-is (duration_text (parts_of n)) n
-    (record { parts = parts_of n; form = refl; fits = is_duration-parts_of n some h; number = sym (seconds_of-parts_of n h) })
+    duration_of-is (duration_text (span_parts n)) n
+    (record { parts = span_parts n; form = refl; fits = is_duration-span_parts n some h; number = sym (seconds_of-span_parts n h) })
 
 pub duration_of-span_text : (n : ℕ) → n ≤ 999999999999 → duration_of (span_text n) ≡ Some n
 unfolding span_text

@@ -13,7 +13,7 @@ use Rattle.ld_value.specs.Calendar.{moment_of, is_moment, IsMoment}
 use Rattle.ld_value.specs.Datum.{Datum, text_datum, truth_datum, number_datum, moment_datum, span_datum}
 use Rattle.ld_value.specs.Duration.{duration_of}
 use Rattle.ld_value.specs.Numeral.{numeral}
-use Rattle.ld_value.specs.Values.{value_of, text_of, is_value, is_text, is_uri, is_whole, truth_of, signed_numeral, integer_of, IsPrintable}
+use Rattle.ld_value.specs.Values.{value_of, text_of, is_value, is_text, is_uri, is_whole, truth_of, signed_numeral, integer_of, HasText}
 use Rattle.ld_value.proofs.Choices.{both, and_left, and_right, bool_cases, some_when, le_from, le_test}
 use Rattle.ld_value.proofs.Numerals.{digit_in, is_numeral-decimal, digits_value_decimal, all_digits-decimal}
 use Rattle.ld_value.proofs.Moments.{moment_of-text_of_moment, IsMoment-moment_of}
@@ -126,18 +126,18 @@ value_of-text_of Duration (span_datum x) h = rw (duration_of-span_text x (le_fro
 -- ---- in clauses
 
 -- a value of a datatype has a text
-pub IsPrintable-is_value : (kind : Kind) (d : Datum) → is_value kind d ≡ true → IsPrintable d
-IsPrintable-is_value kind (text_datum x) h = tt
-IsPrintable-is_value kind (truth_datum x) h = tt
-IsPrintable-is_value kind (number_datum x) h = tt
-IsPrintable-is_value kind (span_datum x) h = tt
-IsPrintable-is_value Datetime (moment_datum x) h = IsMoment-from x h
-IsPrintable-is_value String (moment_datum x) h = absurd (cc)
-IsPrintable-is_value Text (moment_datum x) h = absurd (cc)
-IsPrintable-is_value Uri (moment_datum x) h = absurd (cc)
-IsPrintable-is_value Boolean (moment_datum x) h = absurd (cc)
-IsPrintable-is_value Integer (moment_datum x) h = absurd (cc)
-IsPrintable-is_value Duration (moment_datum x) h = absurd (cc)
+pub HasText-is_value : (kind : Kind) (d : Datum) → is_value kind d ≡ true → HasText d
+HasText-is_value kind (text_datum x) h = tt
+HasText-is_value kind (truth_datum x) h = tt
+HasText-is_value kind (number_datum x) h = tt
+HasText-is_value kind (span_datum x) h = tt
+HasText-is_value Datetime (moment_datum x) h = IsMoment-from x h
+HasText-is_value String (moment_datum x) h = absurd (cc)
+HasText-is_value Text (moment_datum x) h = absurd (cc)
+HasText-is_value Uri (moment_datum x) h = absurd (cc)
+HasText-is_value Boolean (moment_datum x) h = absurd (cc)
+HasText-is_value Integer (moment_datum x) h = absurd (cc)
+HasText-is_value Duration (moment_datum x) h = absurd (cc)
 
 pub printed_back : (kind : Kind) (text : List ℕ) (d : Datum) → value_of kind text ≡ Some d → value_of kind (text_of d) ≡ Some d
 printed_back kind text d h = value_of-text_of kind d (is_value-value_of kind text d h)

@@ -115,9 +115,9 @@ abbrev pub shown : ℕ → Option (List ℕ)
 shown n = if n == 0 then None else Some (decimal n)
 
 -- The days, the hours below 24, the minutes below 60 and the seconds below 60.
-abbrev pub parts_of : ℕ → Parts
-parts_of n = record { days = shown (n / 86400); hours = shown (n / 3600 % 24); minutes = shown (n / 60 % 60); seconds = shown (n % 60) }
+abbrev pub span_parts : ℕ → Parts
+span_parts n = record { days = shown (n / 86400); hours = shown (n / 3600 % 24); minutes = shown (n / 60 % 60); seconds = shown (n % 60) }
 
 -- The printed text of a span of n seconds.
 unfoldable pub span_text : ℕ → List ℕ
-span_text n = if n == 0 then codes "PT0S" else duration_text (parts_of n)
+span_text n = if n == 0 then codes "PT0S" else duration_text (span_parts n)

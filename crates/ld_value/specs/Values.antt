@@ -83,12 +83,12 @@ text_of (moment_datum z) = text_of_moment z
 text_of (span_datum n) = span_text n
 
 -- The value has a text: a moment lies in the years 1 to 9999.
-abbrev pub IsPrintable : Datum → Type 0
-IsPrintable (text_datum text) = Unit {0}
-IsPrintable (truth_datum b) = Unit {0}
-IsPrintable (number_datum z) = Unit {0}
-IsPrintable (moment_datum z) = IsMoment z
-IsPrintable (span_datum n) = Unit {0}
+abbrev pub HasText : Datum → Type 0
+HasText (text_datum text) = Unit {0}
+HasText (truth_datum b) = Unit {0}
+HasText (number_datum z) = Unit {0}
+HasText (moment_datum z) = IsMoment z
+HasText (span_datum n) = Unit {0}
 
 -- ---- restrictions
 

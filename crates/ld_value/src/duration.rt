@@ -3,7 +3,7 @@
 
 ghost use Rattle.std.specs.Prelude.{◌≡◌, ◌↔◌, ℕ, ◌+◌, ◌++◌, ◌≤◌, ◌<◌, ◌^◌, length, Some, None, IfSome, option_copied, if◌then◌else◌};
 ghost use Rattle.std.specs.Option.{option_and_then};
-ghost use Rattle.ld_value.specs.Duration.{duration_of, IsDuration, seconds_if, time_in, front_part as spec_front_part, digit_count as spec_digit_count, is_part, part_number as spec_part_number, part_text, shown, parts_of, time_text, span_text};
+ghost use Rattle.ld_value.specs.Duration.{duration_of, IsDuration, seconds_if, time_in, front_part as spec_front_part, digit_count as spec_digit_count, is_part, part_number as spec_part_number, part_text, shown, span_parts, time_text, span_text};
 
 use crate::digits::numeral;
 use crate::draft::Draft;
@@ -137,7 +137,7 @@ pub(crate) fn print_span(seconds: u64) -> Draft
 /// Puts `T` and the parts below the days before the text, where they are not all zero.
 fn put_time(draft: &mut Draft, seconds: u64)
     requires { length draft.old ≤ 6 }
-    ensures text { draft.new ≡ time_text (parts_of seconds) ++ draft.old }
+    ensures text { draft.new ≡ time_text (span_parts seconds) ++ draft.old }
     ensures short { length draft.new ≤ length draft.old + 10 }
 {
     if seconds % 86_400 == 0 {

@@ -5,7 +5,7 @@ ghost use Rattle.std.specs.Prelude.{◌≡◌, ◌≤◌, ◌++◌, ℕ, List, l
 ghost use Rattle.ld_base.specs.Roomy.{KeepsRoom};
 ghost use Rattle.ld_value.specs.declared.kind.Kind.{Kind};
 ghost use Rattle.ld_value.specs.Datum.{datum_of};
-ghost use Rattle.ld_value.specs.Values.{value_of, text_of, IsPrintable};
+ghost use Rattle.ld_value.specs.Values.{value_of, text_of, HasText};
 
 use crate::duration::print_span;
 use crate::integer::print_integer;
@@ -17,7 +17,7 @@ use ld_base::text::Text;
 /// Appends the value's text; a moment lies in the years 1 to 9999. Where memory is wanting the bytes
 /// stay as they were, which cannot come within the spare room.
 pub fn print_value(value: &Value, out: &mut Text) -> Result<(), NoMemory>
-    requires { IsPrintable (datum_of value.now) }
+    requires { HasText (datum_of value.now) }
     ensures ok { OnOk result (out.new.bytes ≡ out.old.bytes ++ text_of (datum_of value.now)) }
     ensures err { OnErr result (out.new.bytes ≡ out.old.bytes) }
     ensures within { length (text_of (datum_of value.now)) ≤ out.old.spare → IsOk result }

@@ -3,7 +3,7 @@
 
 ghost use Rattle.std.specs.Prelude.{◌≡◌, ◌↔◌, IsTrue, IfOk, IfSome, Some, None, Err, option_map, false};
 ghost use Rattle.ld_value.specs.Datum.{datum_of};
-ghost use Rattle.ld_value.specs.Values.{value_of, is_value, is_scalar, IsPrintable, text_if as spec_text_if, truth_of};
+ghost use Rattle.ld_value.specs.Values.{value_of, is_value, is_scalar, HasText, text_if as spec_text_if, truth_of};
 
 use crate::duration::read_duration;
 use crate::fault::ValueFault;
@@ -22,7 +22,7 @@ pub fn read_value(alloc: Global, kind: Kind, text: &str) -> Result<Value, ValueF
     ensures bad { (result ≡ Err ValueFault.BadValue) ↔ (value_of kind text.now ≡ None) }
     ensures memory { result ≡ Err ValueFault.NoMemory → is_scalar kind ≡ false }
     ensures sort { IfOk result (λ v. IsTrue (is_value kind (datum_of v))) }
-    ensures printable { IfOk result (λ v. IsPrintable (datum_of v)) }
+    ensures printable { IfOk result (λ v. HasText (datum_of v)) }
 {
     match kind {
         Kind::String | Kind::Text => text_if(alloc, is_text(text.as_bytes()), text),
@@ -48,7 +48,7 @@ pub fn read_scalar(kind: Kind, text: &str) -> Option<Value>
     requires { IsTrue (is_scalar kind) }
     ensures value { option_map datum_of result ≡ value_of kind text.now }
     ensures sort { IfSome result (λ v. IsTrue (is_value kind (datum_of v))) }
-    ensures printable { IfSome result (λ v. IsPrintable (datum_of v)) }
+    ensures printable { IfSome result (λ v. HasText (datum_of v)) }
 {
     match kind {
         Kind::Boolean => Some(Value::Bool(read_truth(text)?)),

@@ -14,9 +14,9 @@ abbrev pub is_role : Kind → Bool
 is_role kind.Role = true
 is_role _ = false
 
-abbrev pub is_property : Kind → Bool
-is_property kind.Property = true
-is_property _ = false
+abbrev pub is_property_kind : Kind → Bool
+is_property_kind kind.Property = true
+is_property_kind _ = false
 
 abbrev pub is_environment : Kind → Bool
 is_environment (kind.Thing (place.Environment _)) = true
@@ -32,9 +32,9 @@ abbrev pub is_item : Kind → Bool
 is_item (kind.Thing place.Item) = true
 is_item _ = false
 
-abbrev pub is_activity : Kind → Bool
-is_activity (kind.Thing (place.Activity _)) = true
-is_activity _ = false
+abbrev pub is_activity_kind : Kind → Bool
+is_activity_kind (kind.Thing (place.Activity _)) = true
+is_activity_kind _ = false
 
 abbrev pub is_structure : Kind → Bool
 is_structure (kind.Thing (place.Structure _)) = true
@@ -56,20 +56,20 @@ is_act_or_part _ = false
 
 -- A thing that is shown and hidden.
 abbrev pub has_visibility : Kind → Bool
-has_visibility k = is_play k || (is_activity k || (is_structure k || (is_environment k || (is_object_or_service k || is_item k))))
+has_visibility k = is_play k || (is_activity_kind k || (is_structure k || (is_environment k || (is_object_or_service k || is_item k))))
 
 -- Something that can be done.
 abbrev pub is_completable : Kind → Bool
-is_completable k = is_unit k || (is_play k || (is_act_or_part k || (is_activity k || is_structure k)))
+is_completable k = is_unit k || (is_play k || (is_act_or_part k || (is_activity_kind k || is_structure k)))
 
 -- Whether a reference of which this is wanted may name something of the kind.
 abbrev pub allows : Wanted → Kind → Bool
 allows wanted.Role k = is_role k
-allows wanted.Property k = is_property k
+allows wanted.Property k = is_property_kind k
 allows wanted.Environment k = is_environment k
-allows wanted.Activity k = is_activity k
-allows wanted.Child k = is_activity k || is_structure k
-allows wanted.Target k = is_activity k || (is_structure k || is_environment k)
+allows wanted.Activity k = is_activity_kind k
+allows wanted.Child k = is_activity_kind k || is_structure k
+allows wanted.Target k = is_activity_kind k || (is_structure k || is_environment k)
 allows (wanted.PartOf p a) k = is_part_of p a k
 allows wanted.Play k = is_play k
 allows wanted.Shown k = has_visibility k

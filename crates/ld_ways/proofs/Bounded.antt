@@ -8,7 +8,7 @@ use Rattle.std.specs.List.{list_any, sum_by}
 use Rattle.ld_ways.proofs.Counted.{count, at_most, more_with, same_or_more, all_pass}
 use Rattle.ld_ways.proofs.CycleLaws.{any_weaker, one_more, more_steps, none_passes}
 use Rattle.ld_ways.proofs.Rounds.{past_all}
-use Rattle.ld_ways.specs.Graphs.{Graph, IsNext, HasWay, LeadsTo, AddUp, next_of, leads_within, is_on_cycle, first_on_cycle, number_at, expanded_within, expanded_size}
+use Rattle.ld_ways.specs.Graphs.{Graph, IsNext, HasWay, LeadsTo, AddUp, next_of, leads_within, is_on_cycle, first_on_cycle, number_or_zero_at, expanded_within, expanded_size}
 
 -- ---- a way and a search that finds it
 
@@ -139,7 +139,7 @@ same_sums f h (x ∷ xs) same =
 settled : (own : List ℕ) (g : Graph) → length own ≡ length g → NoCycle g → (n a : ℕ) → rank g a < n → expanded_within own g n a ≡ expanded_within own g (suc n) a
 settled own g same none zero a few = absurd (omega (arith, few))
 settled own g same none (suc n) a few =
-    ap (λ rest. number_at own a + rest) (same_sums (expanded_within own g n) (expanded_within own g (suc n)) (next_of g a) (λ c next. elim (node_or_past g c) [
+    ap (λ rest. number_or_zero_at own a + rest) (same_sums (expanded_within own g n) (expanded_within own g (suc n)) (next_of g a) (λ c next. elim (node_or_past g c) [
       | inl within ↦ settled own g same none n c (omega (arith, few, rank_falls g none a c next within))
       | inr past ↦ past_all own g n c same past ∙ sym (past_all own g (suc n) c same past)
     ]))

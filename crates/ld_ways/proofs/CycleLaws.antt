@@ -6,7 +6,7 @@ use Rattle.std.proofs.lemmas.List.{map_more}
 use Rattle.std.proofs.lemmas.Option.{slice_get-map}
 use Rattle.std.specs.List.{list_any, list_all, position, position_from, range_with_len}
 use Rattle.std.specs.Option.{unwrap_or, option_map}
-use Rattle.ld_ways.specs.Graphs.{numbers_below}
+use Rattle.ld_base.specs.Numbers.{numbers_below}
 use Rattle.ld_ways.specs.Graphs.{Graph, nodes_or_none, next_of, leads_within, is_on_cycle}
 
 -- ---- the first number that passes a test

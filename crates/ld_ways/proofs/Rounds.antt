@@ -8,8 +8,8 @@ use Rattle.std.proofs.lemmas.Option.{slice_get-map, slice_get-get_or, slice_get_
 use Rattle.std.specs.Bool.{nat_lt}
 use Rattle.std.specs.List.{sum_by, range_with_len}
 use Rattle.std.specs.Option.{option_map}
-use Rattle.ld_ways.specs.Graphs.{numbers_below}
-use Rattle.ld_ways.specs.Graphs.{Graph, next_of, number_or_zero, number_at, expanded_within, expanded_size, expanded_sizes}
+use Rattle.ld_base.specs.Numbers.{numbers_below}
+use Rattle.ld_ways.specs.Graphs.{Graph, next_of, number_or_zero, number_or_zero_at, expanded_within, expanded_size, expanded_sizes}
 
 -- The sizes after so many rounds, those above the greatest being the greatest.
 abbrev pub capped : List ℕ → Graph → ℕ → List ℕ
@@ -124,14 +124,14 @@ least_number : (o : Option ℕ) → number_or_zero (option_map (min 1000000) o) 
 least_number None = refl
 least_number (Some n) = refl
 
-pub own_capped : (own : List ℕ) (a : ℕ) → number_at (map (min 1000000) own) a ≡ min 1000000 (number_at own a)
+pub own_capped : (own : List ℕ) (a : ℕ) → number_or_zero_at (map (min 1000000) own) a ≡ min 1000000 (number_or_zero_at own a)
 own_capped own a = ap number_or_zero (slice_get-map (min 1000000) own a) ∙ least_number (slice_get own a)
 
 within_alike : (own : List ℕ) (g : Graph) (n a : ℕ) → min 1000000 (expanded_within (map (min 1000000) own) g n a) ≡ min 1000000 (expanded_within own g n a)
 within_alike own g zero a = refl
 within_alike own g (suc n) a =
-    let still : min 1000000 (min 1000000 (number_at own a)) ≡ min 1000000 (number_at own a) = omega arith in
-    sums_alike (expanded_within (map (min 1000000) own) g n) (expanded_within own g n) (number_at (map (min 1000000) own) a) (number_at own a) (next_of g a) (ap (min 1000000) (own_capped own a) ∙ still) (λ b. within_alike own g n b)
+    let still : min 1000000 (min 1000000 (number_or_zero_at own a)) ≡ min 1000000 (number_or_zero_at own a) = omega arith in
+    sums_alike (expanded_within (map (min 1000000) own) g n) (expanded_within own g n) (number_or_zero_at (map (min 1000000) own) a) (number_or_zero_at own a) (next_of g a) (ap (min 1000000) (own_capped own a) ∙ still) (λ b. within_alike own g n b)
 
 -- What nodes expand to stands still at one place whether their own sizes do so or not.
 pub expanded_alike : (own : List ℕ) (g : Graph) → map (min 1000000) (expanded_sizes (map (min 1000000) own) g) ≡ map (min 1000000) (expanded_sizes own g)

@@ -1,6 +1,7 @@
 -- Graphs: for each node, counted from 0, the nodes to which it leads.
 use Rattle.std.specs.Prelude.{◌≡◌, ℕ, zero, suc, ◌+◌, List, [], Option, Some, None, Bool, true, false, ◌||◌, nat_eq, map, length, position, slice_get}
-use Rattle.std.specs.List.{list_any, range_with_len, sum_by}
+use Rattle.std.specs.List.{list_any, sum_by}
+use Rattle.ld_base.specs.Numbers.{numbers_below}
 
 abbrev pub Graph : Type 0
 Graph = List (List ℕ)
@@ -12,10 +13,6 @@ nodes_or_none (Some nodes) = nodes
 -- The nodes to which a node leads by one step; a number that is no node leads to none.
 abbrev pub next_of : Graph → ℕ → List ℕ
 next_of g a = nodes_or_none (slice_get g a)
-
--- The numbers below n, in order.
-abbrev pub numbers_below : ℕ → List ℕ
-numbers_below n = range_with_len 0 n
 
 -- ---- cycles
 
@@ -53,14 +50,14 @@ number_or_zero None = 0
 number_or_zero (Some n) = n
 
 -- The number at the index, or 0 where there is none.
-abbrev pub number_at : List ℕ → ℕ → ℕ
-number_at numbers index = number_or_zero (slice_get numbers index)
+abbrev pub number_or_zero_at : List ℕ → ℕ → ℕ
+number_or_zero_at numbers index = number_or_zero (slice_get numbers index)
 
 -- The sum of the node's own size and of what the nodes to which it leads expand to, ways of more than
 -- so many nodes left out. A node counts as often as ways lead to it.
 abbrev pub expanded_within : List ℕ → Graph → ℕ → ℕ → ℕ
 expanded_within own g zero a = 0
-expanded_within own g (suc n) a = number_at own a + sum_by (expanded_within own g n) (next_of g a)
+expanded_within own g (suc n) a = number_or_zero_at own a + sum_by (expanded_within own g n) (next_of g a)
 
 -- What a node expands to in a graph without cycles, in which no way has more nodes than the graph.
 abbrev pub expanded_size : List ℕ → Graph → ℕ → ℕ
@@ -72,4 +69,4 @@ expanded_sizes own g = map (expanded_size own g) (numbers_below (length g))
 
 -- Each node's size is its own and, for each step that it leads, the size of the node to which that goes.
 abbrev pub AddUp : List ℕ → Graph → (ℕ → ℕ) → Type 0
-AddUp own g size = (a : ℕ) → size a ≡ number_at own a + sum_by size (next_of g a)
+AddUp own g size = (a : ℕ) → size a ≡ number_or_zero_at own a + sum_by size (next_of g a)

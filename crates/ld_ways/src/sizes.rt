@@ -1,7 +1,7 @@
 //! What the nodes of a graph without cycles expand to.
 ghost use Rattle.std.specs.Prelude.{◌≡◌, ◌+◌, ℕ, IfOk, map, min, length, slice_get};
 ghost use Rattle.std.specs.List.{sum_by};
-ghost use Rattle.ld_ways.specs.Graphs.{numbers_below};
+ghost use Rattle.ld_base.specs.Numbers.{numbers_below};
 ghost use Rattle.ld_ways.specs.Graphs.{Graph, expanded_sizes, expanded_within, number_or_zero};
 
 use ld_base::memory::NoMemory;

@@ -14,8 +14,8 @@ use Rattle.ld_globals.specs.Store.{Store}
 use Rattle.ld_sharing.specs.StoreView.{values_of}
 use Rattle.ld_state.specs.RunState.{RunState, made_at}
 use Rattle.ld_state.specs.StateView.{run_of}
-use Rattle.ld_run.specs.Refusals.{Refusal, BadLine, UnknownUnit, RunExists, UnknownRun, NoMemory, ◌>>=◌}
-use Rattle.ld_run.specs.Replies.{refusal_text}
+use Rattle.ld_checks.specs.Refusals.{Refusal, BadLine, UnknownUnit, RunExists, UnknownRun, NoMemory, ◌unless_refused◌ as ◌>>=◌}
+use Rattle.ld_replies.specs.Replies.{refusal_text}
 use Rattle.ld_run.specs.RunStep.{DoneCommand, run_step}
 use Rattle.ld_run.specs.RunView.{AnswersCommand, RunView, block_of, state_after, store_after}
 use Rattle.ld_world.specs.Answers.{AnswersLine}

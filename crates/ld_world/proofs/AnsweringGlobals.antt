@@ -7,9 +7,9 @@ use Rattle.ld_model.specs.declared.property.PropertyKind.{PropertyKind}
 use Rattle.ld_model.specs.declared.property.PropertyKind.TheVariants as kind
 use Rattle.ld_model.specs.declared.unit.Unit.{Unit as Course}
 use Rattle.ld_model.specs.Properties.{is_personal}
-use Rattle.ld_value.proofs.Laws.{IsPrintable-is_value}
+use Rattle.ld_value.proofs.Laws.{HasText-is_value}
 use Rattle.ld_value.specs.Datum.{Datum, datum_of}
-use Rattle.ld_value.specs.Values.{IsPrintable, fits_in, is_value, value_of}
+use Rattle.ld_value.specs.Values.{HasText, fits_in, is_value, value_of}
 use Rattle.ld_value.specs.declared.value.Value.{Value}
 use Rattle.ld_value.specs.declared.moment.Moment.{Moment}
 use Rattle.ld_globals.specs.Answers.{meaning}
@@ -20,9 +20,9 @@ use Rattle.ld_globals.specs.declared.faults.SetFault.{SetFault}
 use Rattle.ld_globals.specs.declared.faults.SetFault.TheVariants as setting
 use Rattle.ld_base.specs.Maybe.{provided}
 use Rattle.ld_expr.specs.Owners.{fits_property}
-use Rattle.ld_run.specs.Checks.{fitting_value}
-use Rattle.ld_run.specs.Refusals.{Refusal, UnknownGlobal, BadValue, NotAllowed, ◌>>=◌, ◌>>◌, refuse_if}
-use Rattle.ld_run.specs.Replies.{printed_value, refusal_text}
+use Rattle.ld_checks.specs.Checks.{fitting_value}
+use Rattle.ld_checks.specs.Refusals.{Refusal, UnknownGlobal, BadValue, NotAllowed, ◌unless_refused◌ as ◌>>=◌, ◌>>◌, refuse_if}
+use Rattle.ld_replies.specs.Replies.{printed_value, refusal_text}
 use Rattle.ld_run.specs.RunView.{RunView}
 use Rattle.ld_sharing.specs.StoreView.{declaration_by, kind_declared, values_of}
 use Rattle.ld_state.specs.GlobalValues.{declared_by}
@@ -159,13 +159,13 @@ module _ (units : List Course) (store : Store) (runs : List (List ℕ × RunView
 -- ---- what is told
 
 -- A value that a key may have can be printed.
-pub tellable : (store : Store) (k : Key) (value : Option Datum) → IsWritable store k value → IfSome value IsPrintable
+pub tellable : (store : Store) (k : Key) (value : Option Datum) → IsWritable store k value → IfSome value HasText
 unfolding fits_in
 tellable store k None is = tt
 tellable store k (Some value) is = by is.fitting
   where
-    by : fits_in is.declaration.datatype is.declaration.limits value ≡ true → IsPrintable value
-    by fits = IsPrintable-is_value is.declaration.datatype value (and_parts (is_value is.declaration.datatype value) _ fits).0
+    by : fits_in is.declaration.datatype is.declaration.limits value ≡ true → HasText value
+    by fits = HasText-is_value is.declaration.datatype value (and_parts (is_value is.declaration.datatype value) _ fits).0
 
 -- A value behind a reference.
 pub meant : (value : Option (Bor Value)) → option_map datum_of (option_copied value) ≡ meaning value

@@ -9,7 +9,7 @@ use Rattle.ld_expr.specs.Lookup.{is_some_and}
 use Rattle.ld_sharing.specs.StoreView.{declaration_by}
 use Rattle.ld_state.specs.GlobalValues.{declared_by}
 use Rattle.ld_world.specs.Published.{differing, differs_at, same_declaration}
-use Rattle.ld_world.specs.Declaring.{number_at, pairs_by, pairs_with}
+use Rattle.ld_world.specs.Declaring.{uri_property_number, pairs_by, pairs_with}
 use Rattle.ld_world.proofs.Alike.{alike}
 
 module _ (units : List Course) (store : Store)
@@ -54,14 +54,14 @@ module _ (units : List Course) (store : Store)
 
   -- The first pair that differs is of the first property that is declared otherwise.
   pub first_differs : (n place : ℕ) (properties : List Property) → IsFirstToDiffer store (pairs_by properties) place
-      → differing units n properties ≡ differs_at (number_at n place properties) ∷ []
+      → differing units n properties ≡ differs_at (uri_property_number n place properties) ∷ []
   first_differs n place [] first = let none : None ≡ Some first.pair = first.there in cc
   first_differs n place (property ∷ properties) first = by property.uri place first (λ k. first_differs (n + 1) k properties)
     where
       by : (own : Option (List ℕ)) (place : ℕ) → IsFirstToDiffer store (pairs_with own (declaration_by property) ++ pairs_by properties) place
-          → ((k : ℕ) → IsFirstToDiffer store (pairs_by properties) k → differing units (n + 1) properties ≡ differs_at (number_at (n + 1) k properties) ∷ [])
+          → ((k : ℕ) → IsFirstToDiffer store (pairs_by properties) k → differing units (n + 1) properties ≡ differs_at (uri_property_number (n + 1) k properties) ∷ [])
           → (if is_some_and (λ other. not (same_declaration other property)) (own >>= declared_by units) then differs_at n ∷ [] else differing units (n + 1) properties)
-          ≡ differs_at (if is_some own then (if nat_eq place 0 then n else number_at (n + 1) (place - 1) properties) else number_at (n + 1) place properties) ∷ []
+          ≡ differs_at (if is_some own then (if nat_eq place 0 then n else uri_property_number (n + 1) (place - 1) properties) else uri_property_number (n + 1) place properties) ∷ []
       by None place first rest = rest place first
       by (Some uri) zero first rest =
           let same : (uri, declaration_by property) ≡ first.pair = cc in

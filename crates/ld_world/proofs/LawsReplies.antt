@@ -17,11 +17,11 @@ use Rattle.ld_state.specs.RunState.{RunState}
 use Rattle.ld_rules.specs.LawWords.{is_property}
 use Rattle.ld_firing.specs.RunSettling.{Settlement, run_settling}
 use Rattle.ld_firing.proofs.LawsOpenings.{settling_leaves, told_apart}
-use Rattle.ld_run.specs.Changes.{directly_changed}
-use Rattle.ld_run.specs.Checks.{admitted, in_time, running, last_moment, is_started, none_short, shortage_if_running, the_cell, fitting_value, may_write, the_person, the_role, the_activity, the_property, does_not_hold, holds_it, has_room, keeps_apart, only_by_choice, not_enrolled, has_seat, not_running}
-use Rattle.ld_run.specs.Commands.{Admitted, enrols, assigns, drops, starts, opens, completes, sets, clears, gets, shows_tree, shows_outbox, reports, ticks, has_change}
-use Rattle.ld_run.specs.Refusals.{Refusal, BadLine, UnknownUnit, RunExists, UnknownRun, MomentBack, NotStarted, StartedAlready, UnknownPerson, PersonExists, RunFull, UnknownRole, HoldsAlready, NotHeld, RoleFull, RoleExclusive, RoleShort, UnknownActivity, NotByChoice, UnknownProperty, UnknownGlobal, BadValue, NotAllowed, TurnBudget, NotOpen, NoMemory, ◌>>=◌, ◌>>◌, refuse_if}
-use Rattle.ld_run.specs.Replies.{refusal_text}
+use Rattle.ld_run.specs.Changes.{directly_changed, has_change}
+use Rattle.ld_checks.specs.Checks.{admitted, in_time, running, last_moment, is_started, none_short, shortage_if_running, the_cell, fitting_value, may_write, the_person, the_role, the_activity, the_property, does_not_hold, holds_it, has_room, keeps_apart, only_by_choice, not_enrolled, has_seat, not_running}
+use Rattle.ld_checks.specs.Commands.{Admitted, enrols, assigns, drops, starts, opens, completes, sets, clears, gets, shows_tree, shows_outbox, reports, ticks}
+use Rattle.ld_checks.specs.Refusals.{Refusal, BadLine, UnknownUnit, RunExists, UnknownRun, MomentBack, NotStarted, StartedAlready, UnknownPerson, PersonExists, RunFull, UnknownRole, HoldsAlready, NotHeld, RoleFull, RoleExclusive, RoleShort, UnknownActivity, NotByChoice, UnknownProperty, UnknownGlobal, BadValue, NotAllowed, TurnBudget, NotOpen, NoMemory, ◌unless_refused◌ as ◌>>=◌, ◌>>◌, refuse_if}
+use Rattle.ld_replies.specs.Replies.{refusal_text}
 use Rattle.ld_run.specs.RunStep.{DoneCommand, run_step, settled, open_for_it}
 use Rattle.ld_run.proofs.LawsKept.{Fits, fits, touches, change_leaves, begun}
 use Rattle.ld_run.proofs.SeatsOfChecks.{Each, each_then}

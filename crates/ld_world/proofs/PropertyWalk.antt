@@ -5,7 +5,7 @@ use Rattle.std.specs.Option.{option_map_or}
 use Rattle.ld_model.specs.declared.property.Property.{Property}
 use Rattle.ld_globals.specs.Declarations.{Declaration}
 use Rattle.ld_sharing.specs.StoreView.{declaration_by}
-use Rattle.ld_world.specs.Declaring.{number_at, pairs_at, pairs_by, pairs_with}
+use Rattle.ld_world.specs.Declaring.{uri_property_number, pairs_at, pairs_by, pairs_with}
 
 -- The rest of a list begins with the element at its number.
 rest_from : {A : Type 0} (xs : List A) (n : ℕ) → n < length xs → (x : A) × (slice_get xs n ≡ Some x) × (drop n xs ≡ x ∷ drop (n + 1) xs)
@@ -45,17 +45,17 @@ one_pair properties n uri d has is = by (slice_get properties n) has is
 
 -- The walk is at the property that is looked for.
 pub number_here : (properties : List Property) (n : ℕ) (property : Property) → slice_get properties n ≡ Some property → is_some property.uri ≡ true
-    → number_at n 0 (drop n properties) ≡ n
+    → uri_property_number n 0 (drop n properties) ≡ n
 number_here properties n property at some = by properties n at n
   where
-    by : (rest : List Property) (i : ℕ) → slice_get rest i ≡ Some property → (m : ℕ) → number_at m 0 (drop i rest) ≡ m
+    by : (rest : List Property) (i : ℕ) → slice_get rest i ≡ Some property → (m : ℕ) → uri_property_number m 0 (drop i rest) ≡ m
     by [] i at m = cc
     by (first ∷ rest) zero at m = let same : first ≡ property = cc in rw (same, some) refl
     by (first ∷ rest) (suc i) at m = by rest i at m
 
 -- It goes on behind one with a uri, and behind one without.
 pub number_behind : (properties : List Property) (n left : ℕ) (property : Property) → slice_get properties n ≡ Some property → is_some property.uri ≡ true → left ≢ 0
-    → number_at n left (drop n properties) ≡ number_at (n + 1) (left - 1) (drop (n + 1) properties)
+    → uri_property_number n left (drop n properties) ≡ uri_property_number (n + 1) (left - 1) (drop (n + 1) properties)
 number_behind properties n left property at some more =
     let within = slice_get_within properties n property at in
     let rest = rest_from properties n within in
@@ -65,7 +65,7 @@ number_behind properties n left property at some more =
     rw (rest.2, same, some, other) refl
 
 pub number_past : (properties : List Property) (n left : ℕ) (property : Property) → slice_get properties n ≡ Some property → is_some property.uri ≡ false
-    → number_at n left (drop n properties) ≡ number_at (n + 1) left (drop (n + 1) properties)
+    → uri_property_number n left (drop n properties) ≡ uri_property_number (n + 1) left (drop (n + 1) properties)
 number_past properties n left property at none =
     let within = slice_get_within properties n property at in
     let rest = rest_from properties n within in

@@ -15,12 +15,12 @@ pairs_by properties = flat_map (λ property. pairs_with property.uri (declaratio
 
 -- The number of the property that has the uri of this place among all uris, where the first property has this
 -- number.
-abbrev pub number_at : ℕ → ℕ → List Property → ℕ
-number_at n place [] = n
-number_at n place (property ∷ properties) =
+abbrev pub uri_property_number : ℕ → ℕ → List Property → ℕ
+uri_property_number n place [] = n
+uri_property_number n place (property ∷ properties) =
     if is_some property.uri
-    then (if nat_eq place 0 then n else number_at (n + 1) (place - 1) properties)
-    else number_at (n + 1) place properties
+    then (if nat_eq place 0 then n else uri_property_number (n + 1) (place - 1) properties)
+    else uri_property_number (n + 1) place properties
 
 -- The uri of the property of this number, if there is one, with how it is declared.
 abbrev pub pairs_at : List Property → ℕ → List (List ℕ × Declaration)

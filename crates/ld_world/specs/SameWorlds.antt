@@ -4,7 +4,7 @@ use Rattle.std.specs.List.{list_all}
 use Rattle.std.specs.Str.{bytes_eq}
 use Rattle.ld_lines.specs.declared.line.Line.{Line}
 use Rattle.ld_firing.specs.Seating.{reseated}
-use Rattle.ld_run.specs.Refusals.{Refusal, RunFull}
+use Rattle.ld_checks.specs.Refusals.{Refusal, RunFull}
 use Rattle.ld_run.specs.SameSteps.{done_reseated}
 use Rattle.ld_world.specs.World.{RunOf, WorldState, Deed, DoneLine, made, ran, stored, known, world_step, world_after, reply_block}
 

@@ -7,12 +7,13 @@ use Rattle.ld_model.specs.declared.property.Property.{Property}
 use Rattle.ld_model.specs.declared.unit.Unit.{Unit as Course}
 use Rattle.ld_state.specs.GlobalValues.{GlobalValues, declared_by, first_values}
 use Rattle.ld_state.specs.RunState.{RunState, made_at}
-use Rattle.ld_run.specs.Checks.{Passed, fitting_value}
+use Rattle.ld_checks.specs.Checks.{Passed, fitting_value}
 use Rattle.ld_lines.specs.declared.command.RunCommand.{RunCommand}
 use Rattle.ld_lines.specs.declared.line.Line.{Line}
 use Rattle.ld_lines.specs.declared.line.Line.TheVariants.{Create, OfRun, GlobalSet, GlobalGet}
-use Rattle.ld_run.specs.Refusals.{Refusal, BadLine, UnknownUnit, RunExists, UnknownRun, UnknownGlobal, NotAllowed, ◌>>=◌, ◌>>◌, refuse_if}
-use Rattle.ld_run.specs.Replies.{done_text, refusal_text, printed_value}
+use Rattle.ld_checks.specs.Refusals.{Refusal, BadLine, UnknownUnit, RunExists, UnknownRun, UnknownGlobal, NotAllowed, ◌unless_refused◌ as ◌>>=◌, ◌>>◌, refuse_if}
+use Rattle.ld_run.specs.RunView.{done_text}
+use Rattle.ld_replies.specs.Replies.{refusal_text, printed_value}
 use Rattle.ld_run.specs.RunStep.{DoneCommand, run_step}
 use Rattle.ld_value.specs.Datum.{Datum}
 

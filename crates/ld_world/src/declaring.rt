@@ -4,7 +4,7 @@ ghost use Rattle.ld_globals.specs.Store.{Key, declare_in, declared_at, last_writ
 ghost use Rattle.ld_json.specs.Fault.{Says, SaysFirst};
 ghost use Rattle.ld_model.specs.declared.unit.Unit.{Unit as Course};
 ghost use Rattle.ld_sharing.specs.StoreView.{Serves};
-ghost use Rattle.ld_world.specs.Declaring.{number_at, pairs_by};
+ghost use Rattle.ld_world.specs.Declaring.{uri_property_number, pairs_by};
 ghost use Rattle.ld_world.specs.Published.{differing, differs_at};
 ghost use Rattle.ld_world.specs.WorldView.{IsStoreOf};
 
@@ -52,7 +52,7 @@ pub(crate) fn declare_uris(
 
 /// The number of the property that has the uri of this place among all uris.
 fn find_number(properties: &[Property], place: u32) -> usize
-    ensures { result ≡ number_at 0 place properties.now }
+    ensures { result ≡ uri_property_number 0 place properties.now }
 {
     let mut left = place;
     let mut n = 0;

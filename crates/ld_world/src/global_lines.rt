@@ -3,10 +3,10 @@ ghost use Rattle.std.specs.Prelude.{◌≡◌, ◌≢◌, ◌≤◌, ◌++◌, �
 ghost use Rattle.ld_base.specs.Roomy.{KeepsRoom, room_of};
 ghost use Rattle.ld_lines.specs.declared.line.Line.TheVariants as line;
 ghost use Rattle.ld_model.specs.declared.unit.Unit.{Unit as Course};
-ghost use Rattle.ld_run.specs.Replies.{printed_value, refusal_text};
+ghost use Rattle.ld_replies.specs.Replies.{printed_value, refusal_text};
 ghost use Rattle.ld_run.specs.RunView.{RunView};
 ghost use Rattle.ld_value.specs.Datum.{datum_of};
-ghost use Rattle.ld_value.specs.Values.{IsPrintable};
+ghost use Rattle.ld_value.specs.Values.{HasText};
 ghost use Rattle.ld_value.specs.declared.moment.Moment.{Moment as MomentOf};
 ghost use Rattle.ld_world.specs.Answers.{AnswersLine};
 ghost use Rattle.ld_world.specs.GlobalFaults.{refusal_to_get, refusal_to_set};
@@ -17,11 +17,11 @@ use ld_base::memory::NoMemory;
 use ld_base::plain_text::PlainText;
 use ld_base::steps::Steps;
 use ld_base::text::Text;
+use ld_checks::refusal::Refusal;
 use ld_globals::faults::{GlobalFault, SetFault};
 use ld_globals::globals::Globals;
-use ld_run::refusal::Refusal;
-use ld_run::telling::refuse;
-use ld_run::value_text::push_value;
+use ld_replies::telling::refuse;
+use ld_replies::value_text::push_value;
 use ld_value::value::Value;
 use std::alloc::Global;
 use std::sync::ledger::Ledger;
@@ -91,7 +91,7 @@ fn say_set(out: &mut Text)
 
 /// Tells the value.
 fn tell_value(alloc: Global, value: Option<&Value>, out: &mut Text) -> Result<(), NoMemory>
-    requires { IfSome (option_map datum_of (option_copied value)) IsPrintable }
+    requires { IfSome (option_map datum_of (option_copied value)) HasText }
     ensures text { OnOk result (out.new.bytes ≡ codes "ok global-get "
         ++ printed_value (option_map datum_of (option_copied value.entry)) ++ 10 ∷ []) }
     ensures room { KeepsRoom out.old out.new }

@@ -17,9 +17,9 @@ use ld_json::doc::{Doc, DocFault, document};
 use ld_json::docs::Docs;
 use ld_json::fault::ReadFault;
 use ld_json::file::FileNo;
+use ld_method::parts::read_parts;
 use ld_method::whole::read_method;
 use ld_model::unit::Unit;
-use ld_reader::parts::read_parts;
 use ld_refs::check::{Checked, check};
 use std::alloc::Global;
 

@@ -3,7 +3,7 @@
 
 ghost use Rattle.std.specs.Prelude.{◌≡◌, ◌≤◌, [], IfOk, OnOk, IfErr, map};
 ghost use Rattle.ld_base.specs.Outside.{Rose};
-ghost use Rattle.ld_top.specs.Folder.{all_files, held_in, is_required, presence_fault, presence_faults};
+ghost use Rattle.ld_top.specs.Folder.{all_files, held_by_folder, is_required, presence_fault, presence_faults};
 ghost use Rattle.ld_top.specs.InFolder.{WhereTold};
 ghost use Rattle.ld_top.specs.Reading.{StopsAtFirst};
 
@@ -26,11 +26,11 @@ pub(super) fn read_files<H: Shelf>(
     folder: &str,
 ) -> Result<[Option<Bytes>; 6], FolderStop>
     ensures read { IfOk result (λ read. WhereTold (H.files shelf.old) (λ files.
-        read ≡ map (held_in files folder.now) all_files)) }
+        read ≡ map (held_by_folder files folder.now) all_files)) }
     ensures faultless { OnOk result (WhereTold (H.files shelf.old) (λ files.
-        presence_faults (held_in files folder.now) ≡ [])) }
+        presence_faults (held_by_folder files folder.now) ≡ [])) }
     ensures first { IfErr result (λ stop. WhereTold (H.files shelf.old) (λ files.
-        StopsAtFirst (presence_faults (held_in files folder.now)) stop)) }
+        StopsAtFirst (presence_faults (held_by_folder files folder.now)) stop)) }
     ensures fault { result ≡ Err FolderStop.ShelfFault
         → Rose (H.faults shelf.old) (H.faults shelf.new) }
     ensures counts { H.faults shelf.old ≤ H.faults shelf.new }
@@ -60,11 +60,11 @@ fn file_in<H: Shelf>(
     file: FileNo,
 ) -> Result<Option<Bytes>, FolderStop>
     ensures read { IfOk result (λ read. WhereTold (H.files shelf.old) (λ files.
-        read ≡ held_in files folder.now file)) }
+        read ≡ held_by_folder files folder.now file)) }
     ensures faultless { OnOk result (WhereTold (H.files shelf.old) (λ files.
-        presence_fault file (held_in files folder.now file) ≡ [])) }
+        presence_fault file (held_by_folder files folder.now file) ≡ [])) }
     ensures first { IfErr result (λ stop. WhereTold (H.files shelf.old) (λ files.
-        StopsAtFirst (presence_fault file (held_in files folder.now file)) stop)) }
+        StopsAtFirst (presence_fault file (held_by_folder files folder.now file)) stop)) }
     ensures fault { result ≡ Err FolderStop.ShelfFault
         → Rose (H.faults shelf.old) (H.faults shelf.new) }
     ensures counts { H.faults shelf.old ≤ H.faults shelf.new }

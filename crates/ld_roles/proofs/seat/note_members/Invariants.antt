@@ -1,5 +1,5 @@
 use Rattle.std.proofs.Common.{◌≡◌, length, map, take}
-use Rattle.ld_model.specs.Counting.{numbers_below}
+use Rattle.ld_base.specs.Numbers.{numbers_below}
 use Rattle.ld_roles.specs.Seats.{is_member_with}
 use Rattle.ld_roles.proofs.seat.note_members.Given as goal
 

@@ -5,7 +5,7 @@ use Rattle.std.specs.Str.{bytes_eq}
 use Rattle.ld_globals.specs.Kept.{pairs_of}
 use Rattle.ld_globals.specs.Store.{Agrees, IsFirstToDiffer, IsTold, declare_in}
 use Rattle.ld_sharing.specs.StoreView.{Serves}
-use Rattle.ld_world.specs.Declaring.{number_at}
+use Rattle.ld_world.specs.Declaring.{uri_property_number}
 use Rattle.ld_world.specs.Published.{differing, differs_at}
 use Rattle.ld_world.proofs.Differing.{first_differs, none_differs}
 use Rattle.ld_world.proofs.Published.{says_one}
@@ -38,5 +38,5 @@ returns-in-Err-Differs-clause-first c = λ units is_of.
     let place = c.in-Err-Differs.place in
     let told = subst (IsTold c.args.globals.now (pairs_of c.in_ok-list.list)) c.in-Err-Differs.field-0-is c.in-Err-Differs.ensures.differs in
     let first = subst (λ pairs. IsFirstToDiffer c.args.globals.now pairs place) c.in_ok-list.ensures told in
-    let number : c.find_number-number.result ≡ number_at 0 place properties = c.find_number-number.ensures ∙ ap (number_at 0 place) (c.as_slice-properties.ensures ∙ ap (λ unit. unit.properties) c.unit.ensures.unit) in
+    let number : c.find_number-number.result ≡ uri_property_number 0 place properties = c.find_number-number.ensures ∙ ap (uri_property_number 0 place) (c.as_slice-properties.ensures ∙ ap (λ unit. unit.properties) c.unit.ensures.unit) in
     says_one (differs_at c.find_number-number.result) (differing units 0 properties) c.differs.result (first_differs units c.args.globals.now is_of 0 place properties first ∙ ap (λ n. differs_at n ∷ []) (sym number)) c.differs.ensures

@@ -1,8 +1,8 @@
 use Rattle.std.proofs.Common.{◌≡◌, ◌++◌, ◌∷◌, [], IfSome, Ok, Err, ap, codes, option_copied, subst, sym, ◌∙◌}
 use Rattle.ld_globals.specs.Answers.{key_given, meaning}
 use Rattle.ld_globals.specs.Store.{get_answer, key_at}
-use Rattle.ld_run.specs.Replies.{printed_value}
-use Rattle.ld_value.specs.Values.{IsPrintable}
+use Rattle.ld_replies.specs.Replies.{printed_value}
+use Rattle.ld_value.specs.Values.{HasText}
 use Rattle.ld_world.proofs.Answering.{on_ok}
 use Rattle.ld_world.proofs.AnsweringGlobals.{get_line, get_refused, meant, tellable}
 use Rattle.ld_world.proofs.global_lines.get_global.Goals as goal
@@ -10,7 +10,7 @@ use Rattle.ld_world.proofs.global_lines.get_global.Goals as goal
 pub tell_value-requires : goal.tell_value-requires
 tell_value-requires g c =
     let key = key_given c.in_ok-key.key c.args.person in
-    subst (λ value. IfSome value IsPrintable) (sym (meant c.in-Ok.value)) (tellable c.args.globals.now key (meaning c.in-Ok.value) c.in-Ok.ensures.writable)
+    subst (λ value. IfSome value HasText) (sym (meant c.in-Ok.value)) (tellable c.args.globals.now key (meaning c.in-Ok.value) c.in-Ok.ensures.writable)
 
 pub returns-in-Ok-clause-ok : goal.returns-in-Ok-clause-ok
 returns-in-Ok-clause-ok g c = λ units runs moment is_of.

@@ -1,6 +1,6 @@
 use Rattle.std.proofs.Common.{Some, sym, subst}
 use Rattle.ld_lines.specs.declared.line.Line.TheVariants as line
-use Rattle.ld_run.specs.Refusals.{UnknownRun}
+use Rattle.ld_checks.specs.Refusals.{UnknownRun}
 use Rattle.ld_sharing.specs.StoreView.{Serves}
 use Rattle.ld_world.specs.WorldView.{world_with}
 use Rattle.ld_world.proofs.Answering.{asked_run, on_ok, refused_line, unknown_run}

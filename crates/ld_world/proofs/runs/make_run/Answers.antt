@@ -3,7 +3,7 @@ use Rattle.std.specs.Str.{bytes_eq}
 use Rattle.indexmap.proofs.CallerLemmas.{insert_entry-new}
 use Rattle.ld_lines.specs.declared.line.Line.TheVariants as line
 use Rattle.ld_roles.specs.declared.limit.TheConstants.{SEATS}
-use Rattle.ld_run.specs.Refusals.{RunExists, UnknownUnit}
+use Rattle.ld_checks.specs.Refusals.{RunExists, UnknownUnit}
 use Rattle.ld_sharing.specs.StoreView.{Serves, values_of}
 use Rattle.ld_state.specs.RunState.{made_at}
 use Rattle.ld_world.specs.WorldView.{ServesRuns, world_with}

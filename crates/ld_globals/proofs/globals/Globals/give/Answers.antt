@@ -7,7 +7,7 @@ use Rattle.std.specs.Str.{bytes_eq}
 use Rattle.indexmap.specs.IndexMap.{insert_entry}
 use Rattle.ld_value.specs.Datum.{datum_of, same_datum}
 use Rattle.ld_globals.specs.Given.{given_text}
-use Rattle.ld_globals.specs.Kept.{pair_of, IsCell, IsCounted, IsNumbering, IsNumberOf, IsTied, same_number, store_of, write_of, written_of}
+use Rattle.ld_globals.specs.Kept.{uri_and_declaration, IsCell, IsCounted, IsNumbering, IsNumberOf, IsTied, same_number, store_of, write_of, written_of}
 use Rattle.ld_globals.specs.Store.{Key, KeepsWrites, Store, Write, last_stamp, declared_at, declared_in, key_at, next_stamp, put_in, same_key, spend, value_at}
 use Rattle.ld_globals.specs.declared.cell.Cell.{Cell}
 use Rattle.ld_globals.specs.declared.key_number.KeyNumber.{KeyNumber}
@@ -52,7 +52,7 @@ invariant_of-self-2 c =
     let k : KeyNumber = record { uri = c.in-Some.uri; person = c.in_ok-person.person } in
     let cell : Cell = record { value = c.args.value; number = c.next_number-number.result } in
     let d = c.requires.writable.declaration in
-    let at : declared_in (map pair_of declared) c.args.uri.now.bytes ≡ Some d = ap (λ store. declared_at store c.args.uri.now.bytes) c.self.view_is ∙ c.requires.writable.declared in
+    let at : declared_in (map uri_and_declaration declared) c.args.uri.now.bytes ≡ Some d = ap (λ store. declared_at store c.args.uri.now.bytes) c.self.view_is ∙ c.requires.writable.declared in
     let number : IsNumberOf declared now key k = record { entry = (c.in-Some.field-0-1.now, c.in-Some.field-0-2.now); there = c.in-Some.ensures.entry; same = lookup_key_passes (λ q. bytes_eq c.args.uri.now.bytes q.bytes) declared c.in-Some.field-0-1.now (sym c.in-Some.ensures.key); person = c.in_ok-person.ensures.number } in
     let declares = declaration-is declared c.args.uri.now.bytes d c.in-Some.field-0-2.now at (sym c.in-Some.ensures.value) in
     let new = new-cell declared now key k number cell d declares c.requires.writable.suited c.requires.writable.fitting in
@@ -98,7 +98,7 @@ returns-clause-ok c =
     let put = put-other store key value other in
     let stored : List (Key × Write) = insert_entry same_key (map (written_of declared persons) cells) key (record { value = value; number = next_stamp s.stamp }) in
     let numbered : map (written_of declared now) c.write_cell-slot.new.cells.entries ≡ stored = written ∙ ap (λ n. insert_entry same_key (map (written_of declared persons) cells) key (record { value = value; number = n })) next in
-    (λ i. record { declared = map pair_of declared; written = numbered i; stamp = next i; spare = s.spare - 1 }) ∙ sym (ap spend put) ∙ made
+    (λ i. record { declared = map uri_and_declaration declared; written = numbered i; stamp = next i; spare = s.spare - 1 }) ∙ sym (ap spend put) ∙ made
 
 spent : (old new : Store) → KeepsWrites old new → KeepsWrites old (spend new)
 spent old new keeps = record { stamp = keeps.stamp; written = keeps.written; changed = keeps.changed }

@@ -3,14 +3,14 @@ use Rattle.std.proofs.lemmas.List.{length-map}
 use Rattle.ld_graph.specs.declared.edge.Edge.{Edge}
 use Rattle.ld_graph.specs.Edges.{Edges}
 use Rattle.ld_graph.specs.Linked.{none_at, rows_of}
-use Rattle.ld_graph.specs.Columns.{IsGraph, slots_of, sites_of}
+use Rattle.ld_graph.specs.Columns.{IsGraph, slots_of, edge_sites}
 use Rattle.ld_graph.proofs.Rowed.{free_within}
 use Rattle.ld_graph.proofs.Growing.{graph_edge, rows_edge, grows_spare}
 use Rattle.ld_graph.proofs.graph.Graph.add_free.Goals as goal
 
 pub overflow_add-self : goal.overflow_add-self
 overflow_add-self c =
-    let all = free_within (sites_of c.self.inside.edges.items) in
+    let all = free_within (edge_sites c.self.inside.edges.items) in
     let is = c.self.invariant.spare_is in
     let less = c.if-count.false in
     let count = c.len-count.ensures in
@@ -37,6 +37,6 @@ returns-clause-grows c =
     let items : c.push.new.self.items ≡ c.self.inside.edges.items ++ new c.self.inside.free ∷ [] = c.in_ok-push.ensures.items in
     let spare = ap (λ (x : Edges). x.spare) c.self.view_is in
     grows_spare c.args.self.now _
-    (ap (λ (x : List Edge). rows_of (slots_of x) (sites_of x) (length c.self.inside.site_firsts.items)) items
+    (ap (λ (x : List Edge). rows_of (slots_of x) (edge_sites x) (length c.self.inside.site_firsts.items)) items
     ∙ (rows_edge c.self.invariant (new c.self.inside.free) refl refl refl ∙ ap (λ (x : Edges). x.rows) c.self.view_is))
     (ap (λ (x : Edges). x.slots) c.self.view_is) (omega arith)

@@ -1,7 +1,7 @@
 use Rattle.std.proofs.Common.{rules, arith, ◌≡◌, ℕ, ◌+◌, ◌-◌, length, take, subst, vec_len}
 use Rattle.std.proofs.lemmas.List.{take_all}
 use Rattle.ld_graph.specs.Edges.{Grows}
-use Rattle.ld_graph.specs.Columns.{slots_of, sites_of}
+use Rattle.ld_graph.specs.Columns.{slots_of, edge_sites}
 use Rattle.ld_graph.proofs.Rowed.{rows_length}
 use Rattle.ld_graph.proofs.Graphs.{seen_sites}
 use Rattle.ld_graph.specs.Columns.{seen}
@@ -20,7 +20,7 @@ invariant_of-self c =
 
 pub returns-in_ok-resize-clause-ok : goal.returns-in_ok-resize-clause-ok
 returns-in_ok-resize-clause-ok c =
-    let n = rows_length (slots_of c.self.inside.edges.items) (sites_of c.self.inside.edges.items) (length c.resize.new.self.items) in
+    let n = rows_length (slots_of c.self.inside.edges.items) (edge_sites c.self.inside.edges.items) (length c.resize.new.self.items) in
     let len : length c.resize.new.self.items ≡ c.args.sites = search rules in
     omega arith
 

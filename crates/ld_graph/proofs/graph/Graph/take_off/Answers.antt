@@ -2,7 +2,7 @@ use Rattle.std.proofs.Common.{rules, arith, ◌≡◌, ℕ, ◌<◌, List, lengt
 use Rattle.std.proofs.lemmas.List.{get_or_read, length-map, length-set}
 use Rattle.ld_graph.specs.declared.edge.Edge.{Edge}
 use Rattle.ld_graph.specs.Linked.{none_at}
-use Rattle.ld_graph.specs.Columns.{sites_of}
+use Rattle.ld_graph.specs.Columns.{edge_sites}
 use Rattle.ld_graph.proofs.Rowed.{free_more, free_within}
 use Rattle.ld_graph.proofs.Graphs.{seen_sites, seen_row, no_first, first_there, has_site, beside_first, graph_less, changes_less, less_by_one}
 use Rattle.ld_graph.proofs.graph.Graph.take_off.Goals as goal
@@ -91,10 +91,10 @@ overflow_add-self c =
     let a = there.0 in
     let fit = c.self.invariant.linked.edges_fit in
     let is_spare = c.self.invariant.spare_is in
-    let more = free_more (sites_of c.self.inside.edges.items) c.index-first.result.now (omega (arith, length-map c.self.inside.edges.items (λ (e : Edge). e.site)))
+    let more = free_more (edge_sites c.self.inside.edges.items) c.index-first.result.now (omega (arith, length-map c.self.inside.edges.items (λ (e : Edge). e.site)))
     (has_site c.self.invariant c.args.site c.index-first.result.now lt is c.if-first.false) in
-    let all = free_within (set (sites_of c.self.inside.edges.items) c.index-first.result.now none_at) in
-    omega (arith, length-set (sites_of c.self.inside.edges.items) c.index-first.result.now none_at, length-map c.self.inside.edges.items (λ (e : Edge). e.site), length-map c.self.inside.edges.items (λ (e : Edge). e.slot))
+    let all = free_within (set (edge_sites c.self.inside.edges.items) c.index-first.result.now none_at) in
+    omega (arith, length-set (edge_sites c.self.inside.edges.items) c.index-first.result.now none_at, length-map c.self.inside.edges.items (λ (e : Edge). e.site), length-map c.self.inside.edges.items (λ (e : Edge). e.slot))
 
 pub invariant_of-self : goal.invariant_of-self
 invariant_of-self c =

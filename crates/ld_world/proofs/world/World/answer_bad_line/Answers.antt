@@ -1,5 +1,5 @@
 use Rattle.std.proofs.Common.{None, refl}
-use Rattle.ld_run.specs.Refusals.{BadLine}
+use Rattle.ld_checks.specs.Refusals.{BadLine}
 use Rattle.ld_world.specs.WorldView.{world_of}
 use Rattle.ld_world.proofs.Answering.{bad_line, refused_line, wanting_line}
 use Rattle.ld_world.proofs.world.World.answer_bad_line.Goals as goal

@@ -1,7 +1,7 @@
 use Rattle.std.proofs.Common.{◌≡◌, None, Err, ap, arith}
 use Rattle.std.proofs.lemmas.Grind.{common_steps}
 use Rattle.ld_lines.specs.Commands.{command_of}
-use Rattle.ld_run.specs.Refusals.{BadLine}
+use Rattle.ld_checks.specs.Refusals.{BadLine}
 use Rattle.ld_world.specs.Answers.{line_of}
 use Rattle.ld_world.specs.WorldView.{world_of}
 use Rattle.ld_world.proofs.Answering.{bad_line, on_ok, refused_line}
