@@ -3,11 +3,11 @@ use ld_base::plain_text::PlainText;
 use ld_json::doc::{Doc, document};
 use ld_json::docs::Docs;
 use ld_json::fault::ReadFault;
+use ld_method::parts::read_parts;
 use ld_method::whole::read_method;
 use ld_model::completion::OnCompletion;
 use ld_model::item::{ItemList, ReferenceList};
 use ld_model::unit::Unit;
-use ld_reader::parts::read_parts;
 use std::alloc::Global;
 use std::test::Fail;
 

@@ -3,14 +3,14 @@
 
 ghost use Rattle.ld_formats.specs.Completions.{act_completion, play_completion, unit_completion, ending};
 ghost use Rattle.ld_json.specs.Access.{IsObject};
-ghost use Rattle.ld_shape.specs.Reading.{Answers};
+ghost use Rattle.ld_shape.specs.Reading.{GivesOrSays};
 
-use crate::test_forms::MembersTest;
+use ld_conditions::changes::Follows;
+use ld_conditions::completions::read_common;
+use ld_conditions::test_forms::MembersTest;
 use ld_json::fault::ReadFault;
 use ld_json::node::Node;
 use ld_model::completion::{Completion, OnCompletion};
-use ld_reader::changes::Follows;
-use ld_reader::completions::read_common;
 use ld_shape::lists::ListOf;
 use ld_shape::members::{needed_at, optional_at};
 use ld_shape::reads::Reads;
@@ -89,7 +89,7 @@ pub fn ending_at<C: Reads<Value = Completion>>(
     node: &Node<'_>,
 ) -> Result<(Option<Completion>, Option<OnCompletion>), ReadFault>
     requires { IsObject node.now }
-    ensures { Answers ((ending C.shape).shape.reading node.now) result }
+    ensures { GivesOrSays ((ending C.shape).shape.reading node.now) result }
 {
     let complete = optional_at::<C>(alloc, node, "complete")?;
     let on_completion = optional_at::<Follows>(alloc, node, "on-completion")?;

@@ -1,7 +1,7 @@
 //! The method of a unit: plays, acts and role-parts.
-#![tactic(auto, unfolding(ld_formats::specs::Completions::ending, ld_formats::specs::Methods::act, ld_formats::specs::Methods::method, ld_formats::specs::Methods::play, ld_formats::specs::Methods::role_part), using(ld_json::proofs::First::says_more))]
+#![tactic(auto, unfolding(ld_formats::specs::Completions::ending, ld_formats::specs::Methods::act, ld_formats::specs::Methods::method, ld_formats::specs::Methods::play, ld_formats::specs::Methods::part_in_act), using(ld_json::proofs::First::says_more))]
 
-ghost use Rattle.ld_formats.specs.Methods.{role_part, act, play, method};
+ghost use Rattle.ld_formats.specs.Methods.{part_in_act, act, play, method};
 
 use crate::completions::{ActCompletion, PlayCompletion, UnitCompletion, ending_at};
 use ld_json::fault::ReadFault;
@@ -20,7 +20,7 @@ pub struct RolePartShape;
 impl Reads for RolePartShape {
     type Value = RolePart;
 
-    ghost shape = { role_part };
+    ghost shape = { part_in_act };
 
     fn read(alloc: Global, node: &Node<'_>) -> Result<RolePart, ReadFault> {
         node.only(

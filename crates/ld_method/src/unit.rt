@@ -3,19 +3,19 @@
 
 ghost use Rattle.ld_formats.specs.Units.{format, level_words, content_members, head};
 ghost use Rattle.ld_json.specs.Access.{IsObject};
-ghost use Rattle.ld_shape.specs.Reading.{Answers};
+ghost use Rattle.ld_shape.specs.Reading.{GivesOrSays};
 ghost use Rattle.ld_shape.specs.Words.{one_of};
 
 use crate::method::MethodShape;
 use ld_base::id::Id;
 use ld_base::plain_text::PlainText;
+use ld_conditions::items::ItemShape;
 use ld_json::code::Code;
 use ld_json::fault::ReadFault;
 use ld_json::node::Node;
 use ld_model::item::ItemList;
 use ld_model::method::Method;
 use ld_model::unit::Level;
-use ld_reader::items::ItemShape;
 use ld_shape::lists::list_at;
 use ld_shape::members::{default_at, needed_at, optional_at};
 use ld_shape::reads::Reads;
@@ -154,7 +154,7 @@ fn content_at(
     ReadFault,
 >
     requires { IsObject node.now }
-    ensures { Answers (content_members.shape.reading node.now) result }
+    ensures { GivesOrSays (content_members.shape.reading node.now) result }
 {
     let title = optional_at::<Title>(alloc, node, "title")?;
     let turns = default_at::<Number<1, 256>>(alloc, node, "turns", USUAL_TURNS)?;

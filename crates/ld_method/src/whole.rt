@@ -2,13 +2,13 @@
 #![tactic(auto, unfolding(ld_formats::specs::Units::method_documents), using(crate::proofs::Formed::answers_formed, crate::proofs::Formed::stands_for_one, ld_json::proofs::First::says_more))]
 
 ghost use Rattle.std.specs.Prelude.{◌≡◌, true, [], Some, IfOk};
-ghost use Rattle.ld_formats.specs.Units.{parts as parts_shape, method_with, unit as unit_shape, is_well_formed, unit_of};
+ghost use Rattle.ld_formats.specs.Units.{parts as parts_shape, method_with, unit as unit_shape, is_well_formed, unit_from};
 ghost use Rattle.ld_model.specs.declared.unit.Unit.{Unit as Course};
-ghost use Rattle.ld_shape.specs.Reading.{Answers};
+ghost use Rattle.ld_shape.specs.Reading.{GivesOrSays};
 
-use crate::conditions::ConditionsDocument;
 use crate::unit::{Head, HeadShape};
 use ld_base::items::Items;
+use ld_conditions::conditions::ConditionsDocument;
 use ld_json::docs::Docs;
 use ld_json::fault::ReadFault;
 use ld_json::file::FileNo;
@@ -22,7 +22,7 @@ use std::mem::replace;
 /// dropped. (docs/FORMATS.md, "Faults of shape")
 pub fn read_method(alloc: Global, docs: &Docs, parts: Parts) -> Result<Unit, ReadFault>
     requires { (parts_shape.reading docs.now).value ≡ Some parts }
-    ensures answer { Answers ((method_with parts).reading docs.now) result }
+    ensures answer { GivesOrSays ((method_with parts).reading docs.now) result }
     ensures formed { IfOk result (λ unit. is_well_formed unit ≡ true) }
 {
     read_with(alloc, docs, parts)
@@ -30,7 +30,7 @@ pub fn read_method(alloc: Global, docs: &Docs, parts: Parts) -> Result<Unit, Rea
 
 /// The unit of these parts, and of what its own document and that of the conditions tell.
 fn read_with(alloc: Global, docs: &Docs, parts: Parts) -> Result<Unit, ReadFault>
-    ensures { Answers ((method_with parts).reading docs.now) result }
+    ensures { GivesOrSays ((method_with parts).reading docs.now) result }
 {
     let head = read_required::<HeadShape>(alloc, docs, FileNo::Unit)?;
     let conditions = read_document_or::<ConditionsDocument>(
@@ -44,7 +44,7 @@ fn read_with(alloc: Global, docs: &Docs, parts: Parts) -> Result<Unit, ReadFault
 
 /// The unit of these parts, and of what was read besides.
 fn unit_with(alloc: Global, parts: Parts, head: Head, conditions: ConditionList) -> Unit
-    ensures { result ≡ unit_of parts (head, conditions) }
+    ensures { result ≡ unit_from parts (head, conditions) }
 {
     let mut parts = parts;
     let Head {

@@ -5,14 +5,14 @@ ghost use Rattle.std.specs.Prelude.{◌≡◌, OnOk, IfOk};
 ghost use Rattle.ld_formats.specs.Activities.{activity_words, activity_kind, supports_by, doing, content_by, activity_members, activity_by, activity};
 ghost use Rattle.ld_json.specs.Access.{IsObject};
 ghost use Rattle.ld_shape.specs.Objects.{only_members};
-ghost use Rattle.ld_shape.specs.Reading.{Answers};
+ghost use Rattle.ld_shape.specs.Reading.{GivesOrSays};
 ghost use Rattle.ld_shape.specs.Words.{one_of};
 
-use crate::changes::Follows;
-use crate::completions::ActivityCompletion;
-use crate::items::ItemShape;
 use ld_base::items::Items;
 use ld_base::memory::NoMemory;
+use ld_conditions::changes::Follows;
+use ld_conditions::completions::ActivityCompletion;
+use ld_conditions::items::ItemShape;
 use ld_json::code::Code;
 use ld_json::fault::ReadFault;
 use ld_json::node::Node;
@@ -71,7 +71,7 @@ fn kind_of(alloc: Global, node: &Node<'_>) -> Result<ActivityKind, NoMemory>
 
 /// An activity of this kind.
 fn read_of_kind(alloc: Global, node: &Node<'_>, kind: ActivityKind) -> Result<Activity, ReadFault>
-    ensures { Answers ((activity_by kind).reading node.now) result }
+    ensures { GivesOrSays ((activity_by kind).reading node.now) result }
 {
     only_of_kind(alloc, node, kind)?;
     let identifier = needed_at::<Identifier>(alloc, node, "identifier")?;
@@ -98,7 +98,7 @@ fn read_of_kind(alloc: Global, node: &Node<'_>, kind: ActivityKind) -> Result<Ac
 /// That the node is an object without members but those of an activity of this kind.
 fn only_of_kind(alloc: Global, node: &Node<'_>, kind: ActivityKind) -> Result<(), ReadFault>
     ensures object { OnOk result (IsObject node.now) }
-    ensures only { Answers (only_members (activity_members kind) node.now) result }
+    ensures only { GivesOrSays (only_members (activity_members kind) node.now) result }
 {
     match kind {
         ActivityKind::Learning => only_learning(alloc, node),
@@ -109,7 +109,8 @@ fn only_of_kind(alloc: Global, node: &Node<'_>, kind: ActivityKind) -> Result<()
 /// That the node is an object without members but those of a learning activity.
 fn only_learning(alloc: Global, node: &Node<'_>) -> Result<(), ReadFault>
     ensures object { OnOk result (IsObject node.now) }
-    ensures only { Answers (only_members (activity_members ActivityKind.Learning) node.now) result }
+    ensures only { GivesOrSays
+        (only_members (activity_members ActivityKind.Learning) node.now) result }
 {
     node.only(
         alloc,
@@ -132,7 +133,8 @@ fn only_learning(alloc: Global, node: &Node<'_>) -> Result<(), ReadFault>
 /// That the node is an object without members but those of a support activity.
 fn only_support(alloc: Global, node: &Node<'_>) -> Result<(), ReadFault>
     ensures object { OnOk result (IsObject node.now) }
-    ensures only { Answers (only_members (activity_members ActivityKind.Support) node.now) result }
+    ensures only { GivesOrSays
+        (only_members (activity_members ActivityKind.Support) node.now) result }
 {
     node.only(
         alloc,
@@ -165,7 +167,7 @@ type Content = (
 /// What stands behind the members that say what is shown of an activity of this kind.
 fn content_at(alloc: Global, node: &Node<'_>, kind: ActivityKind) -> Result<Content, ReadFault>
     requires { IsObject node.now }
-    ensures { Answers ((content_by kind).shape.reading node.now) result }
+    ensures { GivesOrSays ((content_by kind).shape.reading node.now) result }
 {
     let objectives = list_at::<ItemShape>(alloc, node, "learning-objectives")?;
     let prerequisites = list_at::<ItemShape>(alloc, node, "prerequisites")?;
@@ -181,7 +183,7 @@ fn content_at(alloc: Global, node: &Node<'_>, kind: ActivityKind) -> Result<Cont
 /// What is done in an activity, when it is completed, and what follows then.
 fn doing_at(alloc: Global, node: &Node<'_>) -> Result<Doing, ReadFault>
     requires { IsObject node.now }
-    ensures { Answers (doing.shape.reading node.now) result }
+    ensures { GivesOrSays (doing.shape.reading node.now) result }
 {
     let items = list_at::<ItemShape>(alloc, node, "items")?;
     let complete = optional_at::<ActivityCompletion>(alloc, node, "complete")?;
@@ -196,7 +198,7 @@ fn supports_at(
     kind: ActivityKind,
 ) -> Result<ReferenceList, ReadFault>
     requires { IsObject node.now }
-    ensures { Answers ((supports_by kind).shape.reading node.now) result }
+    ensures { GivesOrSays ((supports_by kind).shape.reading node.now) result }
 {
     match kind {
         ActivityKind::Learning => Ok(Items::new(alloc)),

@@ -1,28 +1,26 @@
-//! Properties, and what restricts their values.
-#![tactic(auto, unfolding(ld_formats::specs::Properties::left_out_restrictions, ld_formats::specs::Properties::owner_and_values, ld_formats::specs::Properties::property, ld_formats::specs::Properties::property_by, ld_formats::specs::Properties::restrictions), using(ld_json::proofs::First::says_more))]
+//! Properties.
+#![tactic(auto, unfolding(ld_formats::specs::Properties::owner_and_values, ld_formats::specs::Properties::property, ld_formats::specs::Properties::property_by), using(ld_json::proofs::First::says_more))]
 
 ghost use Rattle.std.specs.Prelude.{◌≡◌, IfOk};
-ghost use Rattle.ld_formats.specs.Properties.{datatype, owner_and_values, property, property_by, property_kind, property_members, property_words, restrictions, role_by, uri_by};
+ghost use Rattle.ld_formats.specs.Properties.{datatype, owner_and_values, property, property_by, property_kind, property_members, property_words, role_by, uri_by};
 ghost use Rattle.ld_json.specs.Access.{IsObject};
 ghost use Rattle.ld_model.specs.declared.property.PropertyKind.TheVariants.{Loc, LocRole, Glob};
 ghost use Rattle.ld_shape.specs.Objects.{only_members, present};
-ghost use Rattle.ld_shape.specs.Reading.{Answers};
+ghost use Rattle.ld_shape.specs.Reading.{GivesOrSays};
 ghost use Rattle.ld_shape.specs.Words.{one_of};
 
-use crate::completions::ValueText;
+use crate::restrictions::RestrictionsShape;
 use ld_base::id::Id;
-use ld_base::items::Items;
 use ld_base::memory::NoMemory;
 use ld_base::plain_text::PlainText;
+use ld_conditions::completions::ValueText;
 use ld_json::code::Code;
 use ld_json::fault::ReadFault;
 use ld_json::node::Node;
 use ld_model::property::{Property, PropertyKind, Restrictions};
-use ld_shape::lists::ListBetween;
-use ld_shape::members::{absent_at, default_at, known_at, needed_at, optional_at};
+use ld_shape::members::{known_at, needed_at, optional_at};
 use ld_shape::reads::Reads;
 use ld_shape::texts::{Identifier, Title, Uri};
-use ld_shape::values::Number;
 use ld_value::kind::Kind;
 use std::alloc::Global;
 use std::marker::PhantomData;
@@ -84,53 +82,6 @@ impl<R: Reads> Reads for Present<R> {
     }
 }
 
-/// What restricts the values of a property.
-pub struct RestrictionsShape;
-
-impl Reads for RestrictionsShape {
-    type Value = Restrictions;
-
-    ghost shape = { restrictions };
-
-    fn read(alloc: Global, node: &Node<'_>) -> Result<Restrictions, ReadFault> {
-        node.only(
-            alloc,
-            &[
-                "minInclusive",
-                "maxInclusive",
-                "minLength",
-                "maxLength",
-                "enumeration",
-                "pattern",
-                "whiteSpace",
-                "totalDigits",
-                "fractionDigits",
-            ],
-        )?;
-        let min_inclusive = optional_at::<ValueText>(alloc, node, "minInclusive")?;
-        let max_inclusive = optional_at::<ValueText>(alloc, node, "maxInclusive")?;
-        let min_length = optional_at::<Number<0, 4096>>(alloc, node, "minLength")?;
-        let max_length = optional_at::<Number<0, 4096>>(alloc, node, "maxLength")?;
-        let enumeration = default_at::<ListBetween<ValueText, 1, 100>>(
-            alloc,
-            node,
-            "enumeration",
-            Items::new(alloc),
-        )?;
-        absent_at(alloc, node, "pattern")?;
-        absent_at(alloc, node, "whiteSpace")?;
-        absent_at(alloc, node, "totalDigits")?;
-        absent_at(alloc, node, "fractionDigits")?;
-        Ok(Restrictions {
-            min_inclusive,
-            max_inclusive,
-            min_length,
-            max_length,
-            enumeration,
-        })
-    }
-}
-
 /// A property.
 pub struct PropertyShape;
 
@@ -161,7 +112,7 @@ fn read_property_of(
     node: &Node<'_>,
     kind: Option<PropertyKind>,
 ) -> Result<Property, ReadFault>
-    ensures { Answers ((property_by kind).reading node.now) result }
+    ensures { GivesOrSays ((property_by kind).reading node.now) result }
 {
     only_of_kind(alloc, node, kind)?;
     let identifier = needed_at::<Identifier>(alloc, node, "identifier")?;
@@ -184,7 +135,7 @@ fn read_property_of(
 /// That the node is an object, and its members are those of a property of this kind.
 fn only_of_kind(alloc: Global, node: &Node<'_>, kind: Option<PropertyKind>) -> Result<(), ReadFault>
     ensures object { IfOk result (λ _. IsObject node.now) }
-    ensures only { Answers (only_members (property_members kind) node.now) result }
+    ensures only { GivesOrSays (only_members (property_members kind) node.now) result }
 {
     match kind {
         None => only_unknown(alloc, node),
@@ -199,7 +150,7 @@ fn only_of_kind(alloc: Global, node: &Node<'_>, kind: Option<PropertyKind>) -> R
 /// That the members are those of a property of any kind.
 fn only_unknown(alloc: Global, node: &Node<'_>) -> Result<(), ReadFault>
     ensures object { IfOk result (λ _. IsObject node.now) }
-    ensures only { Answers (only_members (property_members None) node.now) result }
+    ensures only { GivesOrSays (only_members (property_members None) node.now) result }
 {
     node.only(
         alloc,
@@ -219,7 +170,7 @@ fn only_unknown(alloc: Global, node: &Node<'_>) -> Result<(), ReadFault>
 /// That the members are those of a role's property.
 fn only_of_role(alloc: Global, node: &Node<'_>) -> Result<(), ReadFault>
     ensures object { IfOk result (λ _. IsObject node.now) }
-    ensures only { Answers (only_members (property_members (Some LocRole)) node.now) result }
+    ensures only { GivesOrSays (only_members (property_members (Some LocRole)) node.now) result }
 {
     node.only(
         alloc,
@@ -238,7 +189,7 @@ fn only_of_role(alloc: Global, node: &Node<'_>) -> Result<(), ReadFault>
 /// That the members are those of a property of each run, or of each person in each run.
 fn only_of_runs(alloc: Global, node: &Node<'_>) -> Result<(), ReadFault>
     ensures object { IfOk result (λ _. IsObject node.now) }
-    ensures only { Answers (only_members (property_members (Some Loc)) node.now) result }
+    ensures only { GivesOrSays (only_members (property_members (Some Loc)) node.now) result }
 {
     node.only(
         alloc,
@@ -256,7 +207,7 @@ fn only_of_runs(alloc: Global, node: &Node<'_>) -> Result<(), ReadFault>
 /// That the members are those of a property that all runs share.
 fn only_shared(alloc: Global, node: &Node<'_>) -> Result<(), ReadFault>
     ensures object { IfOk result (λ _. IsObject node.now) }
-    ensures only { Answers (only_members (property_members (Some Glob)) node.now) result }
+    ensures only { GivesOrSays (only_members (property_members (Some Glob)) node.now) result }
 {
     node.only(
         alloc,
@@ -285,7 +236,7 @@ fn owner_and_values_at(
     ReadFault,
 >
     requires { IsObject node.now }
-    ensures { Answers ((owner_and_values kind).shape.reading node.now) result }
+    ensures { GivesOrSays ((owner_and_values kind).shape.reading node.now) result }
 {
     let role = role_at(alloc, node, kind)?;
     let uri = uri_at(alloc, node, kind)?;
@@ -301,7 +252,7 @@ fn role_at(
     kind: Option<PropertyKind>,
 ) -> Result<Option<Id>, ReadFault>
     requires { IsObject node.now }
-    ensures { Answers ((role_by kind).shape.reading node.now) result }
+    ensures { GivesOrSays ((role_by kind).shape.reading node.now) result }
 {
     match kind {
         None => optional_at::<Identifier>(alloc, node, "role"),
@@ -317,7 +268,7 @@ fn uri_at(
     kind: Option<PropertyKind>,
 ) -> Result<Option<PlainText>, ReadFault>
     requires { IsObject node.now }
-    ensures { Answers ((uri_by kind).shape.reading node.now) result }
+    ensures { GivesOrSays ((uri_by kind).shape.reading node.now) result }
 {
     match kind {
         None => optional_at::<Uri>(alloc, node, "uri"),

@@ -7,7 +7,7 @@ ghost use Rattle.ld_json.specs.Access.{IsArray, IsObject, item_nodes};
 ghost use Rattle.ld_json.specs.Fault.{SaysFirst};
 ghost use Rattle.ld_shape.specs.Lists.{each, list_of};
 ghost use Rattle.ld_shape.specs.Objects.{read_or};
-ghost use Rattle.ld_shape.specs.Reading.{Answers, Gives};
+ghost use Rattle.ld_shape.specs.Reading.{GivesOrSays, Gives};
 ghost use Rattle.ld_shape.specs.Recursion.{shape_of};
 ghost use Rattle.ld_shape.specs.Words.{one_of};
 
@@ -104,7 +104,7 @@ fn kind_of(alloc: Global, node: &Node<'_>) -> Result<RoleKind, NoMemory>
 
 /// A role at the top; the roles within it have this kind.
 fn read_role_of(alloc: Global, node: &Node<'_>, kind: RoleKind) -> Result<Role, ReadFault>
-    ensures { Answers ((role_of kind).reading node.now) result }
+    ensures { GivesOrSays ((role_of kind).reading node.now) result }
 {
     node.only(
         alloc,
@@ -147,7 +147,7 @@ fn read_role_of(alloc: Global, node: &Node<'_>, kind: RoleKind) -> Result<Role, 
 /// A role within one of this kind.
 #[cycle(roles)]
 fn read_inner(alloc: Global, node: &Node<'_>, kind: RoleKind) -> Result<Role, ReadFault>
-    ensures { Answers ((inner_role kind).reading node.now) result }
+    ensures { GivesOrSays ((inner_role kind).reading node.now) result }
 {
     read_one(alloc, &*node, kind)
 }
@@ -155,7 +155,7 @@ fn read_inner(alloc: Global, node: &Node<'_>, kind: RoleKind) -> Result<Role, Re
 /// A role within one of this kind, made of roles within it.
 #[cycle(roles)]
 fn read_one(alloc: Global, node: &Node<'_>, kind: RoleKind) -> Result<Role, ReadFault>
-    ensures { Answers ((inner_step kind (inner_role kind)).reading node.now) result }
+    ensures { GivesOrSays ((inner_step kind (inner_role kind)).reading node.now) result }
 {
     node.only(
         alloc,

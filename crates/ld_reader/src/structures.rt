@@ -1,12 +1,12 @@
 //! Structures of activities.
-#![tactic(auto, unfolding(ld_formats::specs::Structures::content_by, ld_formats::specs::Structures::from_one, ld_formats::specs::Structures::structure, ld_formats::specs::Structures::structure_by, ld_shape::specs::Forms::number_of), using(crate::proofs::StructureNames::content_names, ld_json::proofs::First::says_more))]
+#![tactic(auto, unfolding(ld_formats::specs::Structures::content_by, ld_formats::specs::Structures::from_one, ld_formats::specs::Structures::structure, ld_formats::specs::Structures::structure_by, ld_shape::specs::Forms::number_within), using(crate::proofs::StructureNames::content_names, ld_json::proofs::First::says_more))]
 
 ghost use Rattle.std.specs.Prelude.{◌≡◌, Some, OnOk, IfOk};
 ghost use Rattle.ld_formats.specs.Structures.{structure_words, structure_kind, count_of, children_count, from_one, some_selected, selected_by, content_by, structure_members, structure_by, structure};
 ghost use Rattle.ld_json.specs.Access.{IsObject};
 ghost use Rattle.ld_shape.specs.Forms.{number};
 ghost use Rattle.ld_shape.specs.Objects.{only_members};
-ghost use Rattle.ld_shape.specs.Reading.{Answers};
+ghost use Rattle.ld_shape.specs.Reading.{GivesOrSays};
 ghost use Rattle.ld_shape.specs.Words.{one_of};
 
 use ld_base::memory::NoMemory;
@@ -94,7 +94,7 @@ fn count_if_list(alloc: Global, node: &Node<'_>) -> Result<Option<usize>, NoMemo
 
 /// A structure of this kind, with so many children.
 fn read_of_key(alloc: Global, node: &Node<'_>, key: Key) -> Result<Structure, ReadFault>
-    ensures { Answers ((structure_by key).reading node.now) result }
+    ensures { GivesOrSays ((structure_by key).reading node.now) result }
 {
     only_structure(alloc, node, key)?;
     let identifier = needed_at::<Identifier>(alloc, node, "identifier")?;
@@ -117,7 +117,7 @@ fn read_of_key(alloc: Global, node: &Node<'_>, key: Key) -> Result<Structure, Re
 /// kinds.
 fn only_structure(alloc: Global, node: &Node<'_>, key: Key) -> Result<(), ReadFault>
     ensures object { OnOk result (IsObject node.now) }
-    ensures only { Answers (only_members (structure_members key) node.now) result }
+    ensures only { GivesOrSays (only_members (structure_members key) node.now) result }
 {
     node.only(
         alloc,
@@ -144,7 +144,7 @@ type Content = (Option<u32>, (ReferenceList, (ReferenceList, ((), ()))));
 /// children.
 fn content_at(alloc: Global, node: &Node<'_>, key: Key) -> Result<Content, ReadFault>
     requires { IsObject node.now }
-    ensures { Answers ((content_by key).shape.reading node.now) result }
+    ensures { GivesOrSays ((content_by key).shape.reading node.now) result }
 {
     let selected = selected_at(alloc, node, key)?;
     let environments = list_at::<Identifier>(alloc, node, "environments")?;
@@ -158,7 +158,7 @@ fn content_at(alloc: Global, node: &Node<'_>, key: Key) -> Result<Content, ReadF
 /// sequence it is `not-in-profile`, whatever it holds.
 fn selected_at(alloc: Global, node: &Node<'_>, key: Key) -> Result<Option<u32>, ReadFault>
     requires { IsObject node.now }
-    ensures { Answers ((selected_by key).shape.reading node.now) result }
+    ensures { GivesOrSays ((selected_by key).shape.reading node.now) result }
 {
     match key {
         (StructureKind::Sequence, _) => {
@@ -176,7 +176,7 @@ fn selected_at(alloc: Global, node: &Node<'_>, key: Key) -> Result<Option<u32>, 
 /// The number of children to be done, of so many.
 fn selected_among(alloc: Global, node: &Node<'_>, count: usize) -> Result<Option<u32>, ReadFault>
     requires { IsObject node.now }
-    ensures { Answers ((some_selected (Some count)).shape.reading node.now) result }
+    ensures { GivesOrSays ((some_selected (Some count)).shape.reading node.now) result }
 {
     let Some(member) = node.optional("number-to-select") else {
         return Ok(None);
@@ -188,7 +188,7 @@ fn selected_among(alloc: Global, node: &Node<'_>, count: usize) -> Result<Option
 /// The whole number from 1 to `most` that the node is. One that doesn't fit 32 bits is want of memory:
 /// no machine holds so long a list.
 fn number_up_to(alloc: Global, node: &Node<'_>, most: usize) -> Result<u32, ReadFault>
-    ensures { Answers ((number 1 most).reading node.now) result }
+    ensures { GivesOrSays ((number 1 most).reading node.now) result }
 {
     let number = node.whole(alloc)?;
     if number < 1 {

@@ -1,6 +1,6 @@
 //! The documents of roles, properties, environments and activities, and the parts of a unit that
 //! they tell.
-#![tactic(auto, unfolding(ld_formats::specs::Environments::environments_document, ld_formats::specs::Properties::properties_document, ld_formats::specs::Roles::roles_document, ld_formats::specs::Structures::activities_document, ld_formats::specs::Units::parts), using(crate::proofs::Formed::answers_formed, ld_json::proofs::First::says_more))]
+#![tactic(auto, unfolding(ld_formats::specs::Environments::environments_document, ld_formats::specs::Properties::properties_document, ld_formats::specs::Roles::roles_document, ld_formats::specs::Structures::activities_document, ld_formats::specs::Units::parts), using(crate::proofs::AnswersFormed::answers_formed, ld_json::proofs::First::says_more))]
 
 ghost use Rattle.std.specs.Prelude.{◌≡◌, true, IfOk};
 ghost use Rattle.ld_formats.specs.Environments.{environments_document};
@@ -8,13 +8,8 @@ ghost use Rattle.ld_formats.specs.Properties.{properties_document};
 ghost use Rattle.ld_formats.specs.Roles.{roles_document};
 ghost use Rattle.ld_formats.specs.Structures.{activities_document};
 ghost use Rattle.ld_formats.specs.Units.{parts};
-ghost use Rattle.ld_shape.specs.Reading.{Answers};
+ghost use Rattle.ld_shape.specs.Reading.{GivesOrSays};
 
-use crate::activities::ActivityShape;
-use crate::environments::EnvironmentShape;
-use crate::properties::PropertyShape;
-use crate::roles::RoleShape;
-use crate::structures::StructureShape;
 use ld_base::items::Items;
 use ld_json::docs::Docs;
 use ld_json::fault::ReadFault;
@@ -25,6 +20,11 @@ use ld_model::environment::EnvironmentList;
 use ld_model::property::PropertyList;
 use ld_model::role::RoleList;
 use ld_model::unit::Parts;
+use ld_reader::activities::ActivityShape;
+use ld_reader::environments::EnvironmentShape;
+use ld_reader::properties::PropertyShape;
+use ld_reader::roles::RoleShape;
+use ld_reader::structures::StructureShape;
 use ld_shape::documents::{read_document_or, read_required};
 use ld_shape::lists::{ListOf, list_at};
 use ld_shape::members::needed_at;
@@ -98,7 +98,7 @@ impl Reads for ActivitiesDocument {
 /// # Errors
 /// The first fault of shape of these documents, in the order of the files, and `NoMemory`.
 pub fn read_parts(alloc: Global, docs: &Docs) -> Result<Parts, ReadFault>
-    ensures answer { Answers (parts.reading docs.now) result }
+    ensures answer { GivesOrSays (parts.reading docs.now) result }
     ensures formed { IfOk result (λ read. parts.has_form read ≡ true) }
 {
     read_documents(alloc, docs)
@@ -107,7 +107,7 @@ pub fn read_parts(alloc: Global, docs: &Docs) -> Result<Parts, ReadFault>
 /// What the documents tell, document by document. Those of properties and of environments may be
 /// absent: then there are none.
 fn read_documents(alloc: Global, docs: &Docs) -> Result<Parts, ReadFault>
-    ensures { Answers (parts.reading docs.now) result }
+    ensures { GivesOrSays (parts.reading docs.now) result }
 {
     let roles = read_required::<RolesDocument>(alloc, docs, FileNo::Roles)?;
     let properties = read_document_or::<PropertiesDocument>(

@@ -4,7 +4,7 @@ use Rattle.ld_formats.specs.Tests.{test}
 use Rattle.ld_json.specs.Access.{item_nodes}
 use Rattle.ld_shape.proofs.Passing.{then_read}
 use Rattle.ld_shape.specs.Lists.{each}
-use Rattle.ld_method.proofs.test_forms.+tests.Given as goal
+use Rattle.ld_conditions.proofs.test_forms.+tests.Given as goal
 
 abbrev pub decreases-read_test : goal.decreases-read_test
 decreases-read_test l = 2 * depth l.node.now.tree + 1

@@ -7,7 +7,7 @@ ghost use Rattle.ld_json.specs.Access.{IsArray, IsObject, item_nodes};
 ghost use Rattle.ld_json.specs.Fault.{SaysFirst};
 ghost use Rattle.ld_shape.specs.Lists.{each, list_of, pair_of};
 ghost use Rattle.ld_shape.specs.Objects.{needed_in};
-ghost use Rattle.ld_shape.specs.Reading.{Answers, Gives, mapped};
+ghost use Rattle.ld_shape.specs.Reading.{GivesOrSays, Gives, mapped};
 ghost use Rattle.ld_shape.specs.Soles.{chosen, sole};
 
 use crate::completions::ValueText;
@@ -39,7 +39,7 @@ impl Reads for TermShape {
 /// The term that the node stands for, or its first fault. (docs/FORMATS.md, "Documents")
 #[cycle(terms)]
 pub fn read_term(alloc: Global, node: &Node<'_>) -> Result<Term, ReadFault>
-    ensures { Answers (term.reading node.now) result }
+    ensures { GivesOrSays (term.reading node.now) result }
 {
     read_one(alloc, &*node)
 }
@@ -47,7 +47,7 @@ pub fn read_term(alloc: Global, node: &Node<'_>) -> Result<Term, ReadFault>
 /// A term, made of terms or of none.
 #[cycle(terms)]
 fn read_one(alloc: Global, node: &Node<'_>) -> Result<Term, ReadFault>
-    ensures { Answers ((sole (term_cases term)).reading node.now) result }
+    ensures { GivesOrSays ((sole (term_cases term)).reading node.now) result }
 {
     match node.sole(alloc)? {
         "sum" => sum_at(alloc, node),
@@ -62,7 +62,7 @@ fn read_one(alloc: Global, node: &Node<'_>) -> Result<Term, ReadFault>
 #[cycle(terms)]
 fn sum_at(alloc: Global, node: &Node<'_>) -> Result<Term, ReadFault>
     requires { IsObject node.now }
-    ensures { Answers (mapped sum ((needed_in (codes "sum") (list_of 2 term)).reading node.now))
+    ensures { GivesOrSays (mapped sum ((needed_in (codes "sum") (list_of 2 term)).reading node.now))
         result }
 {
     let terms = terms_at(alloc, node, "sum")?;
@@ -74,7 +74,7 @@ fn sum_at(alloc: Global, node: &Node<'_>) -> Result<Term, ReadFault>
 #[cycle(terms)]
 fn product_at(alloc: Global, node: &Node<'_>) -> Result<Term, ReadFault>
     requires { IsObject node.now }
-    ensures { Answers
+    ensures { GivesOrSays
         (mapped product ((needed_in (codes "multiply") (list_of 2 term)).reading node.now)) result }
 {
     let terms = terms_at(alloc, node, "multiply")?;
@@ -86,7 +86,7 @@ fn product_at(alloc: Global, node: &Node<'_>) -> Result<Term, ReadFault>
 #[cycle(terms)]
 fn difference_at(alloc: Global, node: &Node<'_>) -> Result<Term, ReadFault>
     requires { IsObject node.now }
-    ensures { Answers
+    ensures { GivesOrSays
         (mapped difference ((needed_in (codes "subtract") (pair_of term)).reading node.now))
         result }
 {
@@ -99,7 +99,7 @@ fn difference_at(alloc: Global, node: &Node<'_>) -> Result<Term, ReadFault>
 #[cycle(terms)]
 fn quotient_at(alloc: Global, node: &Node<'_>) -> Result<Term, ReadFault>
     requires { IsObject node.now }
-    ensures { Answers
+    ensures { GivesOrSays
         (mapped quotient ((needed_in (codes "divide") (pair_of term)).reading node.now)) result }
 {
     let (a, b) = pair_at(alloc, node, "divide")?;
@@ -151,7 +151,7 @@ fn read_each(alloc: Global, node: &Node<'_>, count: usize) -> Result<Vec<Term>, 
 #[cycle(terms)]
 fn pair_at(alloc: Global, node: &Node<'_>, name: &str) -> Result<(Term, Term), ReadFault>
     requires { IsObject node.now }
-    ensures { Answers ((needed_in name.now (pair_of term)).reading node.now) result }
+    ensures { GivesOrSays ((needed_in name.now (pair_of term)).reading node.now) result }
 {
     let pair = (&*node).member(alloc, &*name)?;
     read_pair(alloc, &pair)
@@ -160,7 +160,7 @@ fn pair_at(alloc: Global, node: &Node<'_>, name: &str) -> Result<(Term, Term), R
 /// The two terms of an array.
 #[cycle(terms)]
 fn read_pair(alloc: Global, node: &Node<'_>) -> Result<(Term, Term), ReadFault>
-    ensures { Answers ((pair_of term).reading node.now) result }
+    ensures { GivesOrSays ((pair_of term).reading node.now) result }
 {
     count_two(alloc, node)?;
     let a = read_term(alloc, &node.item(0))?;
@@ -171,7 +171,7 @@ fn read_pair(alloc: Global, node: &Node<'_>) -> Result<(Term, Term), ReadFault>
 /// A term that is made of no others, by the name of its member.
 fn read_plain_term(alloc: Global, node: &Node<'_>, name: &str) -> Result<Term, ReadFault>
     requires { IsObject node.now }
-    ensures { Answers (chosen plain_term_cases node.now name.now) result }
+    ensures { GivesOrSays (chosen plain_term_cases node.now name.now) result }
 {
     let form = match name {
         "property" => TermForm::Property(needed_at::<Identifier>(alloc, node, "property")?),
@@ -196,7 +196,7 @@ fn read_plain_term(alloc: Global, node: &Node<'_>, name: &str) -> Result<Term, R
 /// A literal, by the name of its member, which tells the datatype.
 fn read_literal(alloc: Global, node: &Node<'_>, name: &str) -> Result<Term, ReadFault>
     requires { IsObject node.now }
-    ensures { Answers (chosen literal_cases node.now name.now) result }
+    ensures { GivesOrSays (chosen literal_cases node.now name.now) result }
 {
     let form = match name {
         "text" => TermForm::Text(needed_at::<ValueText>(alloc, node, "text")?),

@@ -5,7 +5,7 @@ use Rattle.ld_json.specs.Access.{item_nodes}
 use Rattle.ld_formats.specs.Terms.{term}
 use Rattle.ld_shape.proofs.Depths.{depth-at, depth-get}
 use Rattle.ld_shape.proofs.Passing.{pass_faults, pass_value, stop_at}
-use Rattle.ld_reader.proofs.terms.+terms.Goals as goal
+use Rattle.ld_conditions.proofs.terms.+terms.Goals as goal
 
 pub read_each-read_term-requires : goal.read_each-read_term-requires
 read_each-read_term-requires t c =

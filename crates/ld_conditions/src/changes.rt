@@ -2,7 +2,7 @@
 #![tactic(auto, unfolding(ld_formats::specs::Changes::change, ld_formats::specs::Changes::notice, ld_formats::specs::Changes::on_completion), using(ld_json::proofs::First::says_more))]
 
 ghost use Rattle.ld_formats.specs.Changes.{change, notice, on_completion};
-ghost use Rattle.ld_shape.specs.Reading.{Answers};
+ghost use Rattle.ld_shape.specs.Reading.{GivesOrSays};
 
 use crate::items::ItemShape;
 use crate::terms::TermShape;
@@ -70,7 +70,7 @@ impl Reads for Follows {
 
 /// What follows a completion, as the node says, or its first fault. (docs/FORMATS.md, "Documents")
 pub fn read_on_completion(alloc: Global, node: &Node<'_>) -> Result<OnCompletion, ReadFault>
-    ensures { Answers (on_completion.reading node.now) result }
+    ensures { GivesOrSays (on_completion.reading node.now) result }
 {
     Follows::read(alloc, node)
 }

@@ -1,4 +1,4 @@
-use Rattle.std.proofs.Common.{◌≡◌, arith, ◌<◌, codes}
+use Rattle.std.proofs.Common.{◌≡◌, arith, ◌<◌, codes, rules}
 use Rattle.std.proofs.lemmas.Result.{err_from_is_err_and}
 use Rattle.serde_json.specs.Data.{depth}
 use Rattle.ld_formats.proofs.Unrolled.{test_is}
@@ -7,7 +7,7 @@ use Rattle.ld_json.proofs.First.{says_more}
 use Rattle.ld_json.specs.Access.{item_nodes}
 use Rattle.ld_shape.proofs.Depths.{depth-get, depth-at}
 use Rattle.ld_shape.proofs.Passing.{pass_faults, pass_value, stop_at}
-use Rattle.ld_method.proofs.test_forms.+tests.Goals as goal
+use Rattle.ld_conditions.proofs.test_forms.+tests.Goals as goal
 
 pub read_test-returns : goal.read_test-returns
 read_test-returns t c = rw (test_is c.args.node.now) c.read_one.ensures
@@ -43,3 +43,19 @@ read_tests-returns-in_err-test t c =
     let failed = err_from_is_err_and c.from_residual-in_err-test.result c.from_residual-in_err-test.ensures.1 in
     rw (failed.1, failed.2, c.in_ok-count.ensures.faultless)
     (stop_at test (item_nodes c.args.node.now) c.loop-index.index c.item.result c.in_err-test.field-0.0 c.item.ensures.item c.loop-index.invariant.faults c.in_err-test.ensures)
+
+pub read_of_members-returns-in_err-only : goal.read_of_members-returns-in_err-only
+unfolding of_members
+read_of_members-returns-in_err-only t c = search rules
+
+pub read_of_members-returns-in_err-role : goal.read_of_members-returns-in_err-role
+unfolding of_members
+read_of_members-returns-in_err-role t c = search rules
+
+pub read_of_members-returns-in_err-test : goal.read_of_members-returns-in_err-test
+unfolding of_members
+read_of_members-returns-in_err-test t c = search rules
+
+pub read_of_members-returns : goal.read_of_members-returns
+unfolding of_members
+read_of_members-returns t c = search rules

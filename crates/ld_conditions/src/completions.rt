@@ -4,7 +4,7 @@
 ghost use Rattle.ld_formats.specs.Cases.{value_text};
 ghost use Rattle.ld_formats.specs.Completions.{value_set, activity_completion, common_cases};
 ghost use Rattle.ld_json.specs.Access.{IsObject};
-ghost use Rattle.ld_shape.specs.Reading.{Answers};
+ghost use Rattle.ld_shape.specs.Reading.{GivesOrSays};
 ghost use Rattle.ld_shape.specs.Soles.{chosen};
 
 use ld_base::id::Id;
@@ -73,7 +73,7 @@ impl Reads for ActivityCompletion {
 /// things may have.
 pub fn read_common(alloc: Global, node: &Node<'_>, name: &str) -> Result<Completion, ReadFault>
     requires { IsObject node.now }
-    ensures { Answers (chosen common_cases node.now name.now) result }
+    ensures { GivesOrSays (chosen common_cases node.now name.now) result }
 {
     match name {
         "time-limit" => {

@@ -3,12 +3,12 @@
 
 ghost use Rattle.ld_formats.specs.Conditions.{action, condition, conditions_document};
 
+use crate::changes::{ChangeShape, NoticeShape};
 use crate::test_forms::TestShape;
 use ld_json::code::Code;
 use ld_json::fault::ReadFault;
 use ld_json::node::Node;
 use ld_model::condition::{Action, Condition, ConditionList};
-use ld_reader::changes::{ChangeShape, NoticeShape};
 use ld_shape::lists::{ListOf, list_at};
 use ld_shape::members::needed_at;
 use ld_shape::reads::Reads;

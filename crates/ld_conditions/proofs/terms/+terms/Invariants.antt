@@ -4,7 +4,7 @@ use Rattle.ld_json.specs.Access.{item_nodes}
 use Rattle.ld_formats.specs.Terms.{term}
 use Rattle.ld_shape.specs.Lists.{each}
 use Rattle.ld_shape.proofs.Passing.{then_read}
-use Rattle.ld_reader.proofs.terms.+terms.Given as goal
+use Rattle.ld_conditions.proofs.terms.+terms.Given as goal
 
 abbrev pub decreases-read_term : goal.decreases-read_term
 decreases-read_term l = 5 * depth l.node.now.tree + 4

@@ -1,5 +1,5 @@
 //! The readers of tests.
-#![tactic(auto, unfolding(ld_formats::specs::Tests::of_members), using(ld_json::proofs::First::says_more))]
+#![tactic(auto, using(ld_json::proofs::First::says_more))]
 
 ghost use Rattle.std.specs.Prelude.{◌≡◌, IfOk, IfErr, codes};
 ghost use Rattle.ld_formats.specs.Tests.{test, test_cases, plain_test_cases, of_members};
@@ -8,16 +8,16 @@ ghost use Rattle.ld_json.specs.declared.fault.ReadFault.TheVariants.{NoMemory};
 ghost use Rattle.ld_model.specs.TestForms.{test_of};
 ghost use Rattle.ld_shape.specs.Lists.{list_of};
 ghost use Rattle.ld_shape.specs.Objects.{needed_in};
-ghost use Rattle.ld_shape.specs.Reading.{Answers};
+ghost use Rattle.ld_shape.specs.Reading.{GivesOrSays};
 ghost use Rattle.ld_shape.specs.Soles.{chosen, sole};
 
+use crate::terms::TermShape;
 use ld_base::id::Id;
 use ld_base::items::Items;
 use ld_json::code::Code;
 use ld_json::fault::ReadFault;
 use ld_json::node::Node;
 use ld_model::expression::{Term, Test, TestForm};
-use ld_reader::terms::TermShape;
 use ld_shape::lists::{PairOf, count_from};
 use ld_shape::members::needed_at;
 use ld_shape::reads::Reads;
@@ -62,7 +62,7 @@ fn test_of_form(alloc: Global, form: TestForm) -> Result<Test, ReadFault>
 /// The test of an object whose only member has this name, if it is made of no tests.
 fn read_plain(alloc: Global, node: &Node<'_>, name: &str) -> Result<Test, ReadFault>
     requires { IsObject node.now }
-    ensures { Answers (chosen plain_test_cases node.now name.now) result }
+    ensures { GivesOrSays (chosen plain_test_cases node.now name.now) result }
 {
     match name {
         "is" => {
@@ -100,7 +100,7 @@ fn read_plain(alloc: Global, node: &Node<'_>, name: &str) -> Result<Test, ReadFa
 /// A test.
 #[cycle(tests)]
 fn read_test(alloc: Global, node: &Node<'_>) -> Result<Test, ReadFault>
-    ensures { Answers (test.reading node.now) result }
+    ensures { GivesOrSays (test.reading node.now) result }
 {
     read_one(alloc, &*node)
 }
@@ -108,7 +108,7 @@ fn read_test(alloc: Global, node: &Node<'_>) -> Result<Test, ReadFault>
 /// A test, made of tests or of none.
 #[cycle(tests)]
 fn read_one(alloc: Global, node: &Node<'_>) -> Result<Test, ReadFault>
-    ensures { Answers ((sole (test_cases test)).reading node.now) result }
+    ensures { GivesOrSays ((sole (test_cases test)).reading node.now) result }
 {
     match node.sole(alloc)? {
         "and" => {
@@ -134,7 +134,7 @@ fn read_one(alloc: Global, node: &Node<'_>) -> Result<Test, ReadFault>
 /// A role, and what is tested of each of its members.
 #[cycle(tests)]
 fn read_of_members(alloc: Global, node: &Node<'_>) -> Result<(Id, Test), ReadFault>
-    ensures { Answers ((of_members test).reading node.now) result }
+    ensures { GivesOrSays ((of_members test).reading node.now) result }
 {
     node.only(alloc, &["role", "expression"])?;
     let role = needed_at::<Identifier>(alloc, node, "role")?;
@@ -146,7 +146,7 @@ fn read_of_members(alloc: Global, node: &Node<'_>) -> Result<(Id, Test), ReadFau
 #[cycle(tests)]
 fn expression_at(alloc: Global, node: &Node<'_>) -> Result<Test, ReadFault>
     requires { IsObject node.now }
-    ensures { Answers ((needed_in (codes "expression") test).reading node.now) result }
+    ensures { GivesOrSays ((needed_in (codes "expression") test).reading node.now) result }
 {
     read_test(alloc, &node.member(alloc, "expression")?)
 }
@@ -154,7 +154,7 @@ fn expression_at(alloc: Global, node: &Node<'_>) -> Result<Test, ReadFault>
 /// The tests of an array, two or more.
 #[cycle(tests)]
 fn read_tests(alloc: Global, node: &Node<'_>) -> Result<Items<Test>, ReadFault>
-    ensures { Answers ((list_of 2 test).reading node.now) result }
+    ensures { GivesOrSays ((list_of 2 test).reading node.now) result }
 {
     let count = count_from(alloc, node, 2)?;
     let mut tests = Items::new(alloc);
