@@ -6,7 +6,7 @@ use Rattle.ld_json.specs.Fault.{Told}
 use Rattle.ld_model.specs.declared.unit.Level.{Level}
 use Rattle.ld_model.specs.declared.unit.Level.TheVariants.{A, B, C}
 use Rattle.ld_walk.specs.declared.kind.Kind.{Kind}
-use Rattle.ld_walk.specs.Kinds.{is_role, is_property, is_environment, is_object_or_service, is_item, is_activity, is_structure}
+use Rattle.ld_walk.specs.Kinds.{is_role, is_property_kind, is_environment, is_object_or_service, is_item, is_activity_kind, is_structure}
 use Rattle.ld_parts.specs.Listing.{method_at}
 use Rattle.ld_walk.specs.Parts.{What, Declares, Follows, Leaf, LeftOut, Part}
 use Rattle.ld_walk.specs.Places.{fault_at}
@@ -60,11 +60,11 @@ beyond limit test parts = map (λ part. fault_at TooMany part.at) (drop limit (f
 -- What is counted together.
 abbrev pub is_counted : Counted → Kind → Bool
 is_counted counted.Roles kind = is_role kind
-is_counted counted.Properties kind = is_property kind
+is_counted counted.Properties kind = is_property_kind kind
 is_counted counted.Environments kind = is_environment kind
 is_counted counted.ObjectsAndServices kind = is_object_or_service kind
 is_counted counted.Items kind = is_item kind
-is_counted counted.ActivitiesAndStructures kind = is_activity kind || is_structure kind
+is_counted counted.ActivitiesAndStructures kind = is_activity_kind kind || is_structure kind
 
 -- At most 60 roles, 300 properties, 400 environments, 1,000 learning objects and services together,
 -- 4,000 items, 400 activities and structures together.

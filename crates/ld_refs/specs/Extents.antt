@@ -22,7 +22,7 @@ use Rattle.ld_walk.specs.Parts.{What, Declares, Part}
 use Rattle.ld_types.specs.Faults.{fault_if}
 use Rattle.ld_refs.specs.Reaching.{environment_graph, structure_graph}
 use Rattle.ld_refs.specs.Targets.{kind_by}
-use Rattle.ld_ways.specs.Graphs.{expanded_sizes, number_at}
+use Rattle.ld_ways.specs.Graphs.{expanded_sizes, number_or_zero_at}
 
 -- The sizes of environments, of activities and of structures, each by its number.
 pub record Sizes : Type 0 where
@@ -32,9 +32,9 @@ pub record Sizes : Type 0 where
 
 -- The size of what is of this kind; 0 where it is none of the three.
 abbrev pub size_of_kind : Sizes → Option Kind → ℕ
-size_of_kind sizes (Some (kind.Thing (place.Environment e))) = number_at sizes.environments e
-size_of_kind sizes (Some (kind.Thing (place.Activity a))) = number_at sizes.activities a
-size_of_kind sizes (Some (kind.Thing (place.Structure s))) = number_at sizes.structures s
+size_of_kind sizes (Some (kind.Thing (place.Environment e))) = number_or_zero_at sizes.environments e
+size_of_kind sizes (Some (kind.Thing (place.Activity a))) = number_or_zero_at sizes.activities a
+size_of_kind sizes (Some (kind.Thing (place.Structure s))) = number_or_zero_at sizes.structures s
 size_of_kind sizes _ = 0
 
 -- The size of what the identifier names.

@@ -9,3 +9,4 @@ pub mod check;
 pub(crate) mod checks;
 pub mod laws;
 pub(crate) mod method;
+pub(crate) mod stages;

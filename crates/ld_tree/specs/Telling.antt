@@ -12,8 +12,8 @@ pub record Printed : Type 0 where
   pub bytes : List ℕ
   pub count : ℕ
 
-abbrev pub printed_after : Printed → TreeLine → Printed
-printed_after printed line =
+abbrev pub line_printed_after : Printed → TreeLine → Printed
+line_printed_after printed line =
     record { bytes = printed.bytes ++ 10 ∷ line_text line; count = printed.count + 1 }
 
 -- An identifier, and whether a line told that its activity is open.

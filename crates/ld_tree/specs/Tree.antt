@@ -206,13 +206,13 @@ done_act_lines unit seen p act = if is_act_done unit seen p act
     ∷ all_item_lines unit seen p 3 (feedback_of act.on_completion)
     else []
 
-abbrev pub is_opened : Course → Seen → List ℕ → Bool
-is_opened unit seen id =
+abbrev pub is_act_opened : Course → Seen → List ℕ → Bool
+is_act_opened unit seen id =
     is_some_and (λ thing. is_some (seen.value (act_opened_cell thing))) (thing_number unit id)
 
 -- An act, if it is opened, and the person's role-parts in it.
 abbrev pub open_act_lines : Course → Seen → ℕ → Act → List TreeLine
-open_act_lines unit seen p act = if is_opened unit seen act.identifier
+open_act_lines unit seen p act = if is_act_opened unit seen act.identifier
     then status_line 2 (codes "act") act.identifier opened act.title
     ∷ flat_map (part_lines unit seen p) act.role_parts
     else []

@@ -7,7 +7,7 @@ ghost use Rattle.ld_tree.specs.Flags.{flag_after};
 ghost use Rattle.ld_tree.specs.Tree.{activity_lines, activity_word, all_environment_lines, all_item_lines, feedback_of, flagged, is_passed, once_done, status_by, status_word, structure_lines, target_lines};
 ghost use Rattle.ld_tree.specs.TreeLooks.{activity_looks, child_looks, environments_looks, feedback_looks, items_looks, passed_looks, structure_looks, target_looks};
 
-use crate::line::{LineSink, TreeLine};
+use crate::line::{LineSink, line_of};
 use crate::viewer::Viewer;
 use ld_base::id::Id;
 use ld_base::memory::NoMemory;
@@ -37,13 +37,14 @@ impl<'a, V: View> Viewer<'a, V> {
             self.now.person.0 activity.now) }
     {
         let done = self.is_done(&activity.identifier, steps);
-        lines.put(&TreeLine {
+        let status = Some(status_word(done, flag));
+        lines.put(&line_of(
             depth,
-            word: activity_word(activity.kind),
-            identifier: &activity.identifier,
-            note: Some(status_word(done, flag)),
-            title: activity.title.as_ref(),
-        })?;
+            activity_word(activity.kind),
+            &activity.identifier,
+            status,
+            &activity.title,
+        ))?;
         if is_closed(done, flag) {
             return Ok(());
         }
@@ -149,13 +150,14 @@ impl<'a, V: View> Viewer<'a, V> {
             structure.now) }
     {
         let done = self.is_done(&structure.identifier, steps);
-        lines.put(&TreeLine {
+        let status = Some(status_word(done, flag));
+        lines.put(&line_of(
             depth,
-            word: "structure",
-            identifier: &structure.identifier,
-            note: Some(status_word(done, flag)),
-            title: structure.title.as_ref(),
-        })?;
+            "structure",
+            &structure.identifier,
+            status,
+            &structure.title,
+        ))?;
         if is_closed(done, flag) {
             return Ok(());
         }

@@ -7,7 +7,7 @@ ghost use Rattle.ld_tree.specs.Things.{IsThing};
 ghost use Rattle.ld_tree.specs.Tree.{all_environment_lines, all_item_lines, environment_lines, feedback_of, item_lines, object_lines, once_done, service_lines, service_word, status_by, within_lines};
 ghost use Rattle.ld_tree.specs.TreeLooks.{environment_looks, environments_looks, feedback_looks, item_looks, items_looks, object_looks, service_looks, within_looks};
 
-use crate::line::{LineSink, TreeLine};
+use crate::line::{LineSink, line_of};
 use crate::viewer::Viewer;
 use ld_base::id::Id;
 use ld_base::memory::NoMemory;
@@ -43,13 +43,13 @@ impl<'a, V: View> Viewer<'a, V> {
         if !self.is_visible_near(guess, &item.identifier, steps) {
             return Ok(());
         }
-        lines.put(&TreeLine {
+        lines.put(&line_of(
             depth,
-            word: "item",
-            identifier: &item.identifier,
-            note: Some(item.href.as_str()),
-            title: item.title.as_ref(),
-        })
+            "item",
+            &item.identifier,
+            Some(item.href.as_str()),
+            &item.title,
+        ))
     }
 
     /// Puts the items that are visible. Items side by side have numbers side by side, so all are
@@ -150,13 +150,7 @@ impl<'a, V: View> Viewer<'a, V> {
         if !self.is_visible(&object.identifier, steps) {
             return Ok(());
         }
-        lines.put(&TreeLine {
-            depth,
-            word: "object",
-            identifier: &object.identifier,
-            note: None,
-            title: object.title.as_ref(),
-        })?;
+        lines.put(&line_of(depth, "object", &object.identifier, None, &object.title))?;
         self.put_items(depth + 1, object.items.as_slice(), lines, steps)
     }
 
@@ -204,13 +198,13 @@ impl<'a, V: View> Viewer<'a, V> {
         if !self.is_visible(&service.identifier, steps) {
             return Ok(());
         }
-        lines.put(&TreeLine {
+        lines.put(&line_of(
             depth,
-            word: "service",
-            identifier: &service.identifier,
-            note: Some(service_word(service.kind)),
-            title: service.title.as_ref(),
-        })
+            "service",
+            &service.identifier,
+            Some(service_word(service.kind)),
+            &service.title,
+        ))
     }
 
     /// Puts the services that are visible.
@@ -294,13 +288,7 @@ impl<'a, V: View> Viewer<'a, V> {
             self.now.person.0 (environment_looks left self.now.unit.now self.now.person.0)
             environment.now) }
     {
-        lines.put(&TreeLine {
-            depth,
-            word: "environment",
-            identifier: id,
-            note: None,
-            title: environment.title.as_ref(),
-        })?;
+        lines.put(&line_of(depth, "environment", id, None, &environment.title))?;
         let objects = environment.learning_objects.as_slice();
         self.put_objects(depth + 1, objects, lines, steps)?;
         self.put_services(depth + 1, environment.services.as_slice(), lines, steps)?;

@@ -1,7 +1,8 @@
 //! A line of a tree, and what takes lines.
-ghost use Rattle.std.specs.Prelude.{◌≡◌, Bool, true, OnOk, IsErr};
-ghost use Rattle.ld_tree.specs.LineView.{line_view};
+ghost use Rattle.std.specs.Prelude.{◌≡◌, Bool, true, OnOk, IsErr, option_copied};
+ghost use Rattle.ld_tree.specs.LineView.{line_view, noted};
 ghost use Rattle.ld_tree.specs.Lines.{TreeLine as Line};
+ghost use Rattle.ld_tree.specs.Tree.{thing_line};
 
 use ld_base::id::Id;
 use ld_base::memory::NoMemory;
@@ -18,6 +19,27 @@ pub(crate) struct TreeLine<'a> {
     /// How it stands with a thing that can be done, the address of an item, or the kind of a service.
     pub(crate) note: Option<&'a str>,
     pub(crate) title: Option<&'a PlainText>,
+}
+
+/// The line of a thing.
+pub(crate) fn line_of<'a>(
+    depth: u128,
+    word: &'static str,
+    identifier: &'a Id,
+    note: Option<&'a str>,
+    title: &'a Option<PlainText>,
+) -> TreeLine<'a>
+    ensures { line_view result ≡ thing_line depth word.now identifier.now
+        (noted (option_copied note.entry)) title.now }
+{
+    let title = title.as_ref();
+    TreeLine {
+        depth,
+        word,
+        identifier,
+        note,
+        title,
+    }
 }
 
 /// Who is told the lines of a tree, one after another. It means what was told so far, what that is

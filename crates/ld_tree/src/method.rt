@@ -1,14 +1,14 @@
 //! The lines of the method: the unit, its plays, their acts and their role-parts.
 #![tactic(auto, unfolding(crate::specs::Tree::tree_lines, crate::specs::TreeLooks::part_looks, crate::specs::TreeLooks::play_looks, crate::specs::TreeLooks::tree_looks))]
 
-ghost use Rattle.std.specs.Prelude.{◌≡◌, ◌+◌, ◌++◌, ◌≤◌, true, find, fold, flat_map, length, not, OnOk, IsErr};
+ghost use Rattle.std.specs.Prelude.{◌≡◌, ◌+◌, ◌≤◌, true, find, fold, flat_map, length, not, OnOk, IsErr};
 ghost use Rattle.ld_expr.specs.Lookup.{list_from};
 ghost use Rattle.ld_expr.specs.Viewing.{HasCells, seen_by};
-ghost use Rattle.ld_tree.specs.Tree.{current_act_lines, done_act_lines, is_act_done, is_opened, open_act_lines, part_lines, play_lines, tree_lines};
+ghost use Rattle.ld_tree.specs.Tree.{current_act_lines, done_act_lines, is_act_done, is_act_opened, open_act_lines, part_lines, play_lines, tree_lines};
 ghost use Rattle.ld_tree.specs.TreeLooks.{act_looks, current_act_looks, done_act_looks, open_act_looks, opened_looks, part_looks, play_looks, tree_looks};
 
 use crate::activities::status_word;
-use crate::line::{LineSink, TreeLine};
+use crate::line::{LineSink, line_of};
 use crate::viewer::Viewer;
 use ld_base::id::Id;
 use ld_base::memory::NoMemory;
@@ -40,13 +40,8 @@ impl<'a, V: View> Viewer<'a, V> {
             return Ok(());
         }
         let done = self.is_done(&part.identifier, steps);
-        lines.put(&TreeLine {
-            depth: 3,
-            word: "part",
-            identifier: &part.identifier,
-            note: Some(status_word(done, true)),
-            title: part.title.as_ref(),
-        })?;
+        let status = Some(status_word(done, true));
+        lines.put(&line_of(3, "part", &part.identifier, status, &part.title))?;
         let all = self.unit.structures.len() as u128;
         self.put_target(all + 1, 4, true, &part.target, lines, steps)
     }
@@ -92,13 +87,7 @@ impl<'a, V: View> Viewer<'a, V> {
         if !self.is_done(&act.identifier, steps) {
             return Ok(());
         }
-        lines.put(&TreeLine {
-            depth: 2,
-            word: "act",
-            identifier: &act.identifier,
-            note: Some("done"),
-            title: act.title.as_ref(),
-        })?;
+        lines.put(&line_of(2, "act", &act.identifier, Some("done"), &act.title))?;
         self.put_feedback(3, true, &act.on_completion, lines, steps)
     }
 
@@ -143,13 +132,7 @@ impl<'a, V: View> Viewer<'a, V> {
         if !self.is_opened(&act.identifier, steps) {
             return Ok(());
         }
-        lines.put(&TreeLine {
-            depth: 2,
-            word: "act",
-            identifier: &act.identifier,
-            note: Some("open"),
-            title: act.title.as_ref(),
-        })?;
+        lines.put(&line_of(2, "act", &act.identifier, Some("open"), &act.title))?;
         self.put_parts(act.role_parts.as_slice(), lines, steps)
     }
 
@@ -221,37 +204,9 @@ impl<'a, V: View> Viewer<'a, V> {
             return Ok(());
         }
         let done = self.is_done(&play.identifier, steps);
-        lines.put(&TreeLine {
-            depth: 1,
-            word: "play",
-            identifier: &play.identifier,
-            note: Some(status_word(done, true)),
-            title: play.title.as_ref(),
-        })?;
+        let status = Some(status_word(done, true));
+        lines.put(&line_of(1, "play", &play.identifier, status, &play.title))?;
         self.put_feedback(2, done, &play.on_completion, lines, steps)?;
-        self.put_acts(play, lines, steps)
-    }
-
-    /// Puts the acts of the play that are done, and the one that is open.
-    fn put_acts<S: LineSink, L: Ledger>(
-        &self,
-        play: &'a Play,
-        lines: &mut S,
-        steps: &mut Steps<L>,
-    ) -> Result<(), NoMemory>
-        requires { HasCells (V.has_cell self.now.view.now) (flat_map (done_act_looks
-            self.now.unit.now self.now.person.0) play.now.acts ++ current_act_looks
-            self.now.unit.now self.now.person.0 play.now) }
-        ensures ok { OnOk result (S.told lines.new ≡ fold S.after (S.told lines.old) (flat_map
-            (done_act_lines self.now.unit.now (seen_by (V.persons_of self.now.view.now)
-            (V.cells_of self.now.view.now)) self.now.person.0) play.now.acts ++ current_act_lines
-            self.now.unit.now (seen_by (V.persons_of self.now.view.now)
-            (V.cells_of self.now.view.now)) self.now.person.0 play.now)) }
-        ensures err { IsErr result → S.can_fail ≡ true }
-        ensures cost { steps.new ≤ steps.old + length (flat_map (done_act_looks self.now.unit.now
-            self.now.person.0) play.now.acts ++ current_act_looks self.now.unit.now
-            self.now.person.0 play.now) }
-    {
         self.put_done_acts(play.acts.as_slice(), lines, steps)?;
         self.put_current_act(play, lines, steps)
     }
@@ -294,13 +249,8 @@ impl<'a, V: View> Viewer<'a, V> {
             self.now.person.0) }
     {
         let done = self.is_done(&self.unit.identifier, steps);
-        lines.put(&TreeLine {
-            depth: 0,
-            word: "unit",
-            identifier: &self.unit.identifier,
-            note: Some(status_word(done, true)),
-            title: self.unit.title.as_ref(),
-        })?;
+        let status = Some(status_word(done, true));
+        lines.put(&line_of(0, "unit", &self.unit.identifier, status, &self.unit.title))?;
         self.put_feedback(1, done, &self.unit.method.on_completion, lines, steps)?;
         self.put_plays(self.unit.method.plays.as_slice(), lines, steps)
     }
@@ -308,7 +258,7 @@ impl<'a, V: View> Viewer<'a, V> {
     /// Whether the act of this identifier is opened.
     fn is_opened<L: Ledger>(&self, id: &Id, steps: &mut Steps<L>) -> bool
         requires { HasCells (V.has_cell self.now.view.now) (opened_looks self.now.unit.now id.now) }
-        ensures value { result ≡ is_opened self.now.unit.now
+        ensures value { result ≡ is_act_opened self.now.unit.now
             (seen_by (V.persons_of self.now.view.now) (V.cells_of self.now.view.now)) id.now }
         ensures cost { steps.new ≤ steps.old + length (opened_looks self.now.unit.now id.now) }
     {

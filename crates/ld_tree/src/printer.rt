@@ -5,7 +5,7 @@ ghost use Rattle.std.specs.Prelude.{◌≡◌, ◌++◌, ◌∷◌, [], true, On
 ghost use Rattle.ld_tree.specs.LineView.{line_view, note_text};
 ghost use Rattle.ld_tree.specs.Lines.{indent, line_text, spaced, title_text};
 ghost use Rattle.ld_tree.specs.Plain.{is_plain, is_plain_byte, plain_text};
-ghost use Rattle.ld_tree.specs.Telling.{Printed, printed_after};
+ghost use Rattle.ld_tree.specs.Telling.{Printed, line_printed_after};
 
 use crate::line::{LineSink, TreeLine};
 use ld_base::memory::NoMemory;
@@ -55,7 +55,7 @@ impl LineSink for Printer {
 
     ghost told = { λ p. record { bytes = string_bytes p.text; count = p.lines } };
 
-    ghost after = { printed_after };
+    ghost after = { line_printed_after };
 
     ghost can_fail = { true };
 

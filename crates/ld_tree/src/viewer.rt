@@ -48,10 +48,7 @@ impl<'a, V: View> Viewer<'a, V> {
         ensures cost { steps.new
             ≤ steps.old + length (visible_looks self.now.unit.now self.now.person.0 id.now) }
     {
-        match thing_number(self.unit, self.names, id) {
-            Some(thing) => says_yes(self.view, CellName::Vis(thing, self.person), steps),
-            None => false,
-        }
+        self.is_visible_near(None, id, steps)
     }
 
     /// Whether the thing of this identifier is visible for the person, as `is_visible` says. Its number

@@ -12,12 +12,12 @@ pub put_structure-returns-then-is_closed-clause-ok :
     goal.put_structure-returns-then-is_closed-clause-ok
 put_structure-returns-then-is_closed-clause-ok g t c =
     let closed : (not c.is_done-done.result && not c.args.flag) ≡ true = cc in
-    rw (closed_line g.S.LineSink.after _ c.is_done-done.result _ c.args.flag _ c.is_done-done.ensures.value closed) (cc (c.in_ok-put.ensures.ok, c.status_word.ensures, c.is_done-done.ensures.value, c.as_ref.ensures.value))
+    rw (closed_line g.S.LineSink.after _ c.is_done-done.result _ c.args.flag _ c.is_done-done.ensures.value closed) (cc (c.in_ok-put.ensures.ok, c.status_word.ensures, c.is_done-done.ensures.value, c.line_of.ensures))
 
 pub put_structure-returns-clause-ok : goal.put_structure-returns-clause-ok
 put_structure-returns-clause-ok g t c =
     let shown : (not c.is_done-done.result && not c.args.flag) ≡ false = cc in
-    let put : g.S.LineSink.told c.put.new.self ≡ g.S.LineSink.after (g.S.LineSink.told c.args.lines.now) (status_line c.args.depth (codes "structure") c.args.structure.now.identifier (status_by (is_done c.args.self.now.unit.now (seen_by (g.V.View.persons_of c.args.self.now.view.now) (g.V.View.cells_of c.args.self.now.view.now)) (of_person c.args.self.now.person.0) c.args.structure.now.identifier) c.args.flag) c.args.structure.now.title) = cc (c.in_ok-put.ensures.ok, c.status_word.ensures, c.is_done-done.ensures.value, c.as_ref.ensures.value) in
+    let put : g.S.LineSink.told c.put.new.self ≡ g.S.LineSink.after (g.S.LineSink.told c.args.lines.now) (status_line c.args.depth (codes "structure") c.args.structure.now.identifier (status_by (is_done c.args.self.now.unit.now (seen_by (g.V.View.persons_of c.args.self.now.view.now) (g.V.View.cells_of c.args.self.now.view.now)) (of_person c.args.self.now.person.0) c.args.structure.now.identifier) c.args.flag) c.args.structure.now.title) = cc (c.in_ok-put.ensures.ok, c.status_word.ensures, c.is_done-done.ensures.value, c.line_of.ensures) in
     let environments = rw c.as_slice-environments.ensures at c.in_ok-put_environments.ensures.ok in
     rw (told_shown g.S.LineSink.after _ _ _ _ c.is_done-done.result _ c.args.flag _ _ c.is_done-done.ensures.value shown put environments) (rw c.as_slice-children.ensures at c.put_children.ensures.ok)
 
