@@ -57,7 +57,7 @@ apart_alike : (y : System) → Lawful y → (s : y.Situation) (m i : ℕ) → Ma
 apart_alike y w s m i may there u = record {
   sound = may.sound;
   sound_other = w.keeps_sound s m may;
-  same_course = sym (w.keeps_course s m may);
+  grows = subst (λ (c : y.Course). y.Grows (y.course s) c) (sym (w.keeps_course s m may)) (w.stays (y.course s));
   there = there;
   there_other = w.keeps_sites s m i may ∙ there;
   agree = λ k member. sym (w.reported s m k may (λ c. u k member c));
@@ -140,22 +140,30 @@ covers_fired {y} law {s} {m} may {w} {w'} covers same grows t e = record {
 }
 
 pub follows_self : {w : Wiring} → Follows w w
-follows_self = record { sites = omega arith; slots = omega arith; room = omega arith; was_out = λ i out. out; rows = λ i out. refl }
+follows_self = record { sites = omega arith; slots = omega arith; room = omega arith; was_out = λ i out. out; rows = λ i out. refl; loose = λ i is_in. inl is_in }
 
 pub follows_then : {a b c : Wiring} → Follows a b → Follows b c → Follows a c
-follows_then f h = record {
+follows_then {a} {b} {c} f h = record {
   sites = let x = f.sites in let z = h.sites in omega arith;
   slots = let x = f.slots in let z = h.slots in omega arith;
   room = let x = f.room in let z = h.room in omega arith;
   was_out = λ i out. f.was_out i (h.was_out i out);
   rows = λ i out. h.rows i out ∙ f.rows i (h.was_out i out);
+  loose = λ i is_in. elim (f.loose i is_in) [
+    | inl still ↦ h.loose i still
+    | inr anew ↦ elim (cases_Bool (has c.relinked i)) [
+      | inl still ↦ inr still
+      | inr out ↦ absurd (let was_out = h.was_out i out in cc)
+    ]
+  ];
 }
 
-pub follows_same : (a b : Wiring) → b.edges ≡ a.edges → b.relinked ≡ a.relinked → b.sites ≡ a.sites → Follows a b
-follows_same a b edges relinked sites = record {
+pub follows_same : (a b : Wiring) → b.edges ≡ a.edges → b.relinked ≡ a.relinked → b.loose ≡ a.loose → b.sites ≡ a.sites → Follows a b
+follows_same a b edges relinked loose sites = record {
   sites = omega arith;
   slots = let e : b.edges.slots ≡ a.edges.slots = ap (λ (x : Edges). x.slots) edges in omega arith;
   room = let e : edge_room b.edges ≡ edge_room a.edges = ap (λ (x : Edges). edge_room x) edges in omega arith;
   was_out = λ i out. subst (λ (t : List Bool). has t i ≡ false) relinked out;
   rows = λ i out. ap (λ (x : Edges). get_or x.rows i []) edges;
+  loose = λ i is_in. inl (subst (λ (t : List Bool). has t i ≡ true) (sym loose) is_in);
 }

@@ -1,7 +1,7 @@
 mod Sets
 mod Sums
 mod Sweeps
-mod Edges
+pub mod Edges
 mod Weights
 mod Goings
 mod Visits
@@ -10,5 +10,6 @@ mod Binding
 mod Sweeping
 mod Turns
 pub mod Restoring
+pub mod TakingBack
 pub mod Touching
 mod Walking

@@ -1,11 +1,10 @@
-use Rattle.std.proofs.Common.{◌≡◌, ℕ, ◌<◌, ◌≤◌, true, false, List, [], get_or, Contains, refl, sym, ◌∙◌, subst, arith, inl, inr}
+use Rattle.std.proofs.Common.{◌≡◌, ℕ, ◌<◌, true, false, List, [], get_or, Contains, refl, sym, ◌∙◌, subst, arith, inl, inr}
 use Rattle.std.proofs.lemmas.Bool.{cases_Bool}
 use Rattle.ld_graph.specs.Table.{has}
 use Rattle.ld_graph.specs.Edges.{Edges}
 use Rattle.ld_cascade.specs.System.{System, Lawful, IsSeenAlike}
-use Rattle.ld_cascade.specs.Wiring.{Wiring, IsSameTable, EdgesAre, slot_count}
+use Rattle.ld_cascade.specs.Wiring.{Wiring, IsSameTable, EdgesAre}
 use Rattle.ld_cascade.specs.Tidy.{Tidy, Bound, Changes, Touched}
-use Rattle.ld_cascade.specs.Rooms.{HasRoomOutside}
 use Rattle.ld_cascade.proofs.Sweeps.{no_site}
 use Rattle.ld_cascade.proofs.Edges.{edges_stay}
 
@@ -23,7 +22,7 @@ tidy_touched y w s t slots old now tidy ch touched i out =
           let alike : IsSeenAlike y s t i = record {
             sound = ch.sound_before;
             sound_other = ch.sound_after;
-            same_course = ch.same_course;
+            grows = ch.grows;
             there = there;
             there_other = ch.keeps_sites i there;
             agree = λ k member. ch.others k (λ changes. absurd (let is_in = touched.readers k changes i (was.edges_are.linked k member) in cc));
@@ -63,40 +62,43 @@ tidy_anew y law s wiring sound dirty none i out = elim (cases_Bool (y.is_site s 
 
 -- what is not loose after such writes was not loose, and reads what it read
 reads_touched : (y : System) → Lawful y → (s t : y.Situation) (slots : List ℕ) (old now : Wiring)
-    → Changes y s t slots → Touched y s t slots old now → (i : ℕ) → has now.loose i ≡ false → (has old.loose i ≡ false) × (y.reads s i ≡ y.reads t i)
-reads_touched y law s t slots old now ch touched i out =
+    → Bound y s old → Changes y s t slots → Touched y s t slots old now → (i : ℕ) → has now.loose i ≡ false
+    → EdgesAre old.edges i (y.reads t i)
+reads_touched y law s t slots old now bound ch touched i out =
     let was_out : has old.loose i ≡ false = elim (cases_Bool (has old.loose i)) [
       | inl is_in ↦ absurd (let still = touched.keeps_loose i is_in in cc)
       | inr is_out ↦ is_out
     ] in
+    let edges = bound.edges_are i was_out in
     let reads : y.reads s i ≡ y.reads t i = elim (cases_Bool (y.is_site s i)) [
-      | inl there ↦ law.reads_by_mark s t i ch.sound_before ch.sound_after ch.same_course there (ch.keeps_sites i there) (sym (ch.same_marks i there))
+      | inl there ↦ elim touched.loosens [
+        | inl same ↦ law.reads_by_mark s t i ch.sound_before ch.sound_after same there (ch.keeps_sites i there) (sym (ch.same_marks i there))
+        | inr loosened ↦ law.same_reads s t i (record {
+          sound = ch.sound_before;
+          sound_other = ch.sound_after;
+          grows = ch.grows;
+          there = there;
+          there_other = ch.keeps_sites i there;
+          agree = λ k member. ch.others k (λ changes. absurd (let is_in = loosened k changes i (edges.linked k member) in cc));
+        })
+      ]
       | inr no_site_before ↦ elim (cases_Bool (y.is_site t i)) [
         | inl new_site ↦ absurd (let is_in = touched.fresh_loose i no_site_before new_site in cc)
         | inr no_site_after ↦ law.no_reads s i ch.sound_before no_site_before ∙ sym (law.no_reads t i ch.sound_after no_site_after)
       ]
     ] in
-    (was_out, reads)
+    subst (λ (x : List ℕ). EdgesAre old.edges i x) reads edges
 
 -- so they leave the links bound
 pub bound_touched : (y : System) → Lawful y → (s t : y.Situation) (slots : List ℕ) (old now : Wiring)
     → Bound y s old → Changes y s t slots → Touched y s t slots old now → Bound y t now
 bound_touched y law s t slots old now bound ch touched = record {
-  edges_are = λ i out.
-      let was = reads_touched y law s t slots old now ch touched i out in
-      edges_stay (touched.same_rows i) (subst (λ (x : List ℕ). EdgesAre old.edges i x) was.1 (bound.edges_are i was.0));
+  edges_are = λ i out. edges_stay (touched.same_rows i) (reads_touched y law s t slots old now bound ch touched i out);
   dirty = λ i is_in. elim (touched.only_loose i is_in) [
     | inl was ↦ touched.keeps i (bound.dirty i was)
     | inr is_dirty ↦ is_dirty
   ];
 }
-
--- and the room that there was
-pub rooms_touched : (y : System) → Lawful y → (s t : y.Situation) (slots : List ℕ) (old now : Wiring) (room : ℕ)
-    → HasRoomOutside y s old.loose room → Changes y s t slots → Touched y s t slots old now → HasRoomOutside y t now.loose room
-rooms_touched y law s t slots old now room rooms ch touched i out =
-    let was = reads_touched y law s t slots old now ch touched i out in
-    subst (λ (x : List ℕ). slot_count x ≤ room) was.1 (rooms i was.0)
 
 -- no site has an edge, every site is dirty, and the dirty sites are the loose ones
 pub bound_anew : (y : System) → Lawful y → (s : y.Situation) (wiring : Wiring) → y.IsSound s

@@ -13,7 +13,7 @@ use Rattle.ld_cascade.specs.Standing.{Standing, Goes, Arrives, steps_due}
 use Rattle.ld_cascade.proofs.Edges.{Visiting, Marks, tidy_cleared, tidy_fired, rooms_cleared, covers_fired, follows_same, follows_then}
 use Rattle.ld_cascade.proofs.Weights.{weight_cleared, weight_fired, weight_after, marked_reads, work_due}
 use Rattle.ld_cascade.proofs.Goings.{plus_none}
-use Rattle.ld_cascade.proofs.Binding.{Binding, Loosened, bound_cleared, bound_fired, rooms_fired}
+use Rattle.ld_cascade.proofs.Binding.{Binding, Loosened, loosened_keeps, bound_cleared, bound_fired, rooms_fired}
 
 pub fired_quiet : (y : System) (s : y.Situation) (i : ℕ) → fires y s i ≡ false → fired y s i ≡ []
 fired_quiet y s i quiet = rw quiet refl
@@ -174,6 +174,10 @@ fired_arrives {y} law {p} {q} {r} {m} may l b f covers own =
           was_out = λ i out. l.follows.was_out i (subst (λ (t : List Bool). has t i ≡ false) f.same_relinked out);
           rows = λ i out. subst (λ (es : Edges). HasSameRow p.wiring.edges es i) (sym f.same_edges)
               (l.follows.rows i (subst (λ (t : List Bool). has t i ≡ false) f.same_relinked out));
+          loose = λ i is_in. elim (l.follows.loose i is_in) [
+            | inl still ↦ inl (loosened_keeps f.loosened i still)
+            | inr anew ↦ inr (subst (λ (t : List Bool). has t i ≡ true) (sym f.same_relinked) anew)
+          ];
         };
         same_sites = same_sites;
         room = let a = l.room in let b = f.room in omega arith;
@@ -193,6 +197,7 @@ pub record Cleared (w w' : Wiring) (m : ℕ) : Type 0 where
   pub dirty : IsWithout w.dirty w'.dirty m
   pub edges : w'.edges ≡ w.edges
   pub relinked : w'.relinked ≡ w.relinked
+  pub loose : w'.loose ≡ w.loose
   pub sites : w'.sites ≡ w.sites
 
 -- its edges may be linked anew
@@ -216,7 +221,7 @@ looked y p q w steps m c l here was_dirty same sums room first second = record {
     | inl was ↦ inl (subst (λ (t : List Bool). has t i ≡ true) c.relinked was)
     | inr e ↦ inr e
   ];
-  follows = follows_then (follows_same p.wiring w c.edges c.relinked c.sites) l.follows;
+  follows = follows_then (follows_same p.wiring w c.edges c.relinked c.loose c.sites) l.follows;
   same_sites = l.sites ∙ c.sites;
   room = room;
   steps = omega arith;

@@ -7,8 +7,10 @@ pub record System : Type 1 where
   pub Course : Type 0
   -- what is true of each situation that there can be
   pub IsSound : Situation → Type 0
-  -- the part of a situation that the calls of `Sites` do not change
+  -- the part of a situation that the calls of `Sites` do not change, and what it may become by writes
+  -- that are no firing
   pub course : Situation → Course
+  pub Grows : Course → Course → Type 0
   -- which numbers are sites, and a bound of them
   pub is_site : Situation → ℕ → Bool
   pub count : Situation → ℕ
@@ -48,17 +50,20 @@ pub record MayFire (y : System) (s : y.Situation) (i : ℕ) : Type 0 where
 abbrev pub Agree : (y : System) → y.Situation → y.Situation → List ℕ → Type 0
 Agree y s t slots = (k : ℕ) → Contains slots k → y.content s k ≡ y.content t k
 
--- two situations of one course both have the site, and agree on what it reads in the first
+-- both situations have the site, the course of the second grew from that of the first, and they agree on what
+-- it reads in the first
 pub record IsSeenAlike (y : System) (s t : y.Situation) (i : ℕ) : Type 0 where
   pub sound : y.IsSound s
   pub sound_other : y.IsSound t
-  pub same_course : y.course s ≡ y.course t
+  pub grows : y.Grows (y.course s) (y.course t)
   pub there : y.is_site s i ≡ true
   pub there_other : y.is_site t i ≡ true
   pub agree : Agree y s t (y.reads s i)
 
 -- the laws of a system
 pub record Lawful (y : System) : Type 0 where
+  -- a course may stay as it is
+  pub stays : (c : y.Course) → y.Grows c c
   -- a site's test and reads follow from what stands in the slots that it reads
   pub same_test : (s t : y.Situation) (i : ℕ) → IsSeenAlike y s t i → y.test s i ≡ y.test t i
   pub same_reads : (s t : y.Situation) (i : ℕ) → IsSeenAlike y s t i → y.reads s i ≡ y.reads t i

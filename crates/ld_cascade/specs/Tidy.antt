@@ -27,22 +27,27 @@ pub record Covers (y : System) (s : y.Situation) (wiring : Wiring) : Type 0 wher
   pub sites : y.count s ≤ wiring.sites
   pub slots : y.slots s ≤ wiring.edges.slots
 
--- a change by writes that are no firing: what is a site stays one, and but in these slots and at new
--- sites nothing differs
+-- a change by writes that are no firing: the course stays or grows, what is a site stays one, and but in these
+-- slots and at new sites nothing differs
 pub record Changes (y : System) (s t : y.Situation) (slots : List ℕ) : Type 0 where
   pub sound_before : y.IsSound s
   pub sound_after : y.IsSound t
-  pub same_course : y.course s ≡ y.course t
+  pub grows : y.Grows (y.course s) (y.course t)
   pub keeps_sites : (i : ℕ) → y.is_site s i ≡ true → y.is_site t i ≡ true
   pub same_marks : (i : ℕ) → y.is_site s i ≡ true → y.mark t i ≡ y.mark s i
   pub others : (k : ℕ) → (Contains slots k → ⊥) → y.content s k ≡ y.content t k
 
--- the edges stay, what was dirty or loose is so, the readers of these slots are dirty, the new sites
--- are dirty and loose, and a site that became loose is dirty
+-- the readers of these slots are loose
+abbrev pub AreLoosened : List ℕ → Wiring → Wiring → Type 0
+AreLoosened slots old now = (k : ℕ) → Contains slots k → (i : ℕ) → IsLinked old.edges k i → has now.loose i ≡ true
+
+-- the edges stay, what was dirty or loose is so, the readers of these slots are dirty, and loose, too, unless the
+-- course stayed; the new sites are dirty and loose, and a site that became loose is dirty
 pub record Touched (y : System) (s t : y.Situation) (slots : List ℕ) (old now : Wiring) : Type 0 where
   pub same_rows : (i : ℕ) → HasSameRow old.edges now.edges i
   pub keeps : (i : ℕ) → has old.dirty i ≡ true → has now.dirty i ≡ true
   pub readers : (k : ℕ) → Contains slots k → (i : ℕ) → IsLinked old.edges k i → has now.dirty i ≡ true
+  pub loosens : (y.course s ≡ y.course t) ⊎ AreLoosened slots old now
   pub fresh : (i : ℕ) → y.is_site s i ≡ false → y.is_site t i ≡ true → has now.dirty i ≡ true
   pub keeps_loose : (i : ℕ) → has old.loose i ≡ true → has now.loose i ≡ true
   pub fresh_loose : (i : ℕ) → y.is_site s i ≡ false → y.is_site t i ≡ true → has now.loose i ≡ true

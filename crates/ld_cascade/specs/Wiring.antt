@@ -1,4 +1,4 @@
-use Rattle.std.specs.Prelude.{◌≡◌, ℕ, ◌≤◌, Bool, true, false, List, [], get_or, length, Contains, nat_eq}
+use Rattle.std.specs.Prelude.{◌≡◌, ℕ, ◌≤◌, ◌⊎◌, Bool, true, false, List, [], get_or, length, Contains, nat_eq}
 use Rattle.std.specs.Set.{distinct_count}
 use Rattle.ld_graph.specs.Table.{has}
 use Rattle.ld_graph.specs.Edges.{Edges, IsLinked, edge_room}
@@ -48,13 +48,30 @@ pub record EdgesAre (edges : Edges) (i : ℕ) (slots : List ℕ) : Type 0 where
   pub linked : (k : ℕ) → Contains slots k → IsLinked edges k i
   pub once : length (get_or edges.rows i []) ≡ slot_count slots
 
--- no range and no room is smaller, and each site that is not linked anew has the edges that it had
+-- no range and no room is smaller; each site that is not linked anew has the edges that it had, and
+-- is loose if it was
 pub record Follows (old now : Wiring) : Type 0 where
   pub sites : old.sites ≤ now.sites
   pub slots : old.edges.slots ≤ now.edges.slots
   pub room : edge_room old.edges ≤ edge_room now.edges
   pub was_out : (i : ℕ) → has now.relinked i ≡ false → has old.relinked i ≡ false
   pub rows : (i : ℕ) → has now.relinked i ≡ false → HasSameRow old.edges now.edges i
+  pub loose : (i : ℕ) → has old.loose i ≡ true → (has now.loose i ≡ true) ⊎ (has now.relinked i ≡ true)
+
+-- every dirty site is loose: so it is where none is dirty, and where links were taken back
+abbrev pub IsAtRest : Wiring → Type 0
+IsAtRest wiring = (i : ℕ) → has wiring.dirty i ≡ true → has wiring.loose i ≡ true
+
+-- the sites that were loose or linked anew are loose, and no others; the dirty sites are these; none
+-- counts as linked anew; and the edges stay
+pub record IsTakenBack (old now : Wiring) : Type 0 where
+  pub loose : (i : ℕ) → has old.loose i ≡ true → has now.loose i ≡ true
+  pub anew : (i : ℕ) → has old.relinked i ≡ true → has now.loose i ≡ true
+  pub only : (i : ℕ) → has now.loose i ≡ true → (has old.loose i ≡ true) ⊎ (has old.relinked i ≡ true)
+  pub dirty : IsSameTable now.loose now.dirty
+  pub relinked : IsEmpty now.relinked
+  pub edges : now.edges ≡ old.edges
+  pub sites : now.sites ≡ old.sites
 
 -- sites beyond the range have no edges, are neither dirty nor loose and were not linked anew
 pub record IsInRange (wiring : Wiring) : Type 0 where

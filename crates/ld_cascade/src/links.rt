@@ -3,8 +3,10 @@
 ghost use Rattle.std.specs.Prelude.{◌≡◌, ℕ, ◌+◌, ◌^◌, ◌<◌, ◌≤◌, ◌⊎◌, Bool, true, false, List, [], get_or, length, IfOk, IfSome, IfNone, Contains, max};
 ghost use Rattle.ld_graph.specs.Table.{has};
 ghost use Rattle.ld_graph.specs.Edges.{Edges, IsLinked, edge_room};
-ghost use Rattle.ld_cascade.specs.Wiring.{Wiring, IsEmpty, IsWith, IsWithout, IsSameTable, HasSameRow, Follows};
+ghost use Rattle.ld_cascade.specs.Tidy.{AreLoosened};
+ghost use Rattle.ld_cascade.specs.Wiring.{Wiring, IsEmpty, IsWith, IsWithout, IsSameTable, HasSameRow, Follows, IsTakenBack};
 
+use crate::site_sets::{has_site, put_all};
 use ld_base::memory::NoMemory;
 use ld_graph::dirty::Dirty;
 use ld_graph::graph::Graph;
@@ -129,6 +131,44 @@ impl Links {
         }
     }
 
+    /// Sets the readers of each slot of the list dirty, and loose: their reads are asked when they are
+    /// judged.
+    pub fn loosen_readers(&mut self, slots: &[u32])
+        requires slots { (k : ℕ) → Contains slots.now k → k < self.old.edges.slots }
+        ensures keeps { (i : ℕ) → has self.old.dirty i ≡ true → has self.new.dirty i ≡ true }
+        ensures keeps_loose { (i : ℕ) → has self.old.loose i ≡ true → has self.new.loose i ≡ true }
+        ensures readers { (k : ℕ) → Contains slots.now k → (i : ℕ)
+            → IsLinked self.old.edges k i → has self.new.dirty i ≡ true }
+        ensures loosens { AreLoosened slots.now self.old self.new }
+        ensures only { (i : ℕ) → has self.new.loose i ≡ true
+            → (has self.old.loose i ≡ true) ⊎ (has self.new.dirty i ≡ true) }
+        ensures edges { self.new.edges ≡ self.old.edges }
+        ensures relinked { self.new.relinked ≡ self.old.relinked }
+        ensures sites { self.new.sites ≡ self.old.sites }
+        ensures follows { Follows self.old self.new }
+    {
+        for slot in slots {
+            self.loosen_readers_of(*slot);
+        }
+    }
+
+    /// Sets each site dirty, and loose, that has an edge to the slot.
+    fn loosen_readers_of(&mut self, slot: u32)
+        requires slot { slot < self.old.edges.slots }
+        ensures keeps { (i : ℕ) → has self.old.dirty i ≡ true → has self.new.dirty i ≡ true }
+        ensures keeps_loose { (i : ℕ) → has self.old.loose i ≡ true → has self.new.loose i ≡ true }
+        ensures readers { (i : ℕ) → IsLinked self.old.edges slot i → has self.new.dirty i ≡ true }
+        ensures loosens { (i : ℕ) → IsLinked self.old.edges slot i → has self.new.loose i ≡ true }
+        ensures only { (i : ℕ) → has self.new.loose i ≡ true
+            → (has self.old.loose i ≡ true) ⊎ (has self.new.dirty i ≡ true) }
+        ensures edges { self.new.edges ≡ self.old.edges }
+        ensures relinked { self.new.relinked ≡ self.old.relinked }
+        ensures sites { self.new.sites ≡ self.old.sites }
+    {
+        self.touch(slot);
+        self.graph.set_readers(slot, &mut self.loose_sites);
+    }
+
     /// Sets the site dirty, and loose: its reads are asked when it is judged.
     pub fn fresh(&mut self, site: u32)
         requires site { site < self.old.sites }
@@ -151,6 +191,19 @@ impl Links {
         ensures loose { self.new.loose ≡ self.old.loose }
         ensures sites { self.new.sites ≡ self.old.sites }
     {
+        self.relinked_sites.empty();
+    }
+
+    /// Makes the sites loose that were linked anew since `begin`, and those dirty that are loose, and
+    /// no others: call it where the state was taken back to what it was at `begin`. The links are
+    /// those of that state then, if every dirty site was loose there (`back_is_tidy`). It takes no
+    /// memory, and time that grows with the number of these sites and of those that were dirty.
+    pub fn take_back(&mut self)
+        ensures back { IsTakenBack self.old self.new }
+    {
+        self.dirty_sites.empty();
+        put_all(&self.relinked_sites, &mut self.loose_sites);
+        put_all(&self.loose_sites, &mut self.dirty_sites);
         self.relinked_sites.empty();
     }
 
@@ -313,14 +366,4 @@ impl Links {
         self.loose_sites.empty();
         self.relinked_sites.empty();
     }
-}
-
-/// Whether the set has the site.
-fn has_site(sites: &Dirty, site: u32) -> bool
-    ensures { result ≡ has sites.now site }
-{
-    let Some(next) = sites.next_from(site) else {
-        return false;
-    };
-    next == site
 }

@@ -179,7 +179,7 @@ fn sweep<G: Sites, L: Ledger>(
 /// It answers `TurnBudget` exactly where one sweep more than `turns` fires, and `NoMemory` only
 /// where some site is dirty. After either the state may be any of the same course, sound or not,
 /// and the links follow the old ones: take the state back to where `begin` was called, and then
-/// call `restore`.
+/// call `take_back`, or `restore`.
 pub fn settle<G: Sites, L: Ledger>(
     alloc: Global,
     sites: &mut G,

@@ -15,6 +15,7 @@ lamps = record {
   Course = ℕ;
   IsSound = λ s. length s.lit ≡ length s.marks;
   course = λ s. length s.lit;
+  Grows = λ n m. n ≡ m;
   is_site = λ s i. nat_lt i (length s.lit);
   count = λ s. length s.lit;
   slots = λ s. length s.lit;
@@ -63,8 +64,9 @@ reads_one n i k member = elim (cases_lt i n) [
 -- rows of lamps keep the laws
 pub is_lawful : Lawful lamps
 is_lawful = record {
+  stays = λ n. refl;
   same_test = λ s t i a. a.agree i (rw a.there (Contains-push [] i));
-  same_reads = λ s t i a. ap (λ (n : ℕ). cond (nat_lt i n) (i ∷ []) []) a.same_course;
+  same_reads = λ s t i a. ap (λ (n : ℕ). cond (nat_lt i n) (i ∷ []) []) a.grows;
   reads_by_mark = λ s t i _ _ same _ _ _. ap (λ (n : ℕ). cond (nat_lt i n) (i ∷ []) []) same;
   keeps_sound = λ s i m. length-set s.lit (i - 1) (get_or s.lit i false) ∙ (m.sound ∙ sym (length-set s.marks i (get_or s.lit i false)));
   keeps_course = λ s i m. length-set s.lit (i - 1) (get_or s.lit i false);

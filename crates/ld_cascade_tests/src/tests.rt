@@ -1,13 +1,13 @@
 ghost use Rattle.std.specs.Prelude.{◌≡◌, ℕ, ◌<◌, ◌≤◌, length, IfOk};
-ghost use Rattle.ld_cascade.specs.Rooms.{Restorable};
-ghost use Rattle.ld_cascade.specs.Tidy.{IsTidy, Tidy, Bound, Covers};
+ghost use Rattle.ld_cascade.specs.Tidy.{Tidy, Bound, Covers};
+ghost use Rattle.ld_cascade.specs.Wiring.{Follows};
 ghost use Rattle.ld_cascade_tests.specs.Lamps.{lamps, lamps_of};
-ghost use Rattle.ld_cascade_tests.specs.Row.{Row};
 
 use crate::lamps::Lamps;
 use ld_base::steps::Steps;
 use ld_cascade::laws::{
-    begins_bound, begins_restorable, begins_tidy, stays_bound, stays_restorable, stays_tidy,
+    back_is_bound, back_is_tidy, begins_bound, begins_restorable, begins_tidy, stays_bound,
+    stays_restorable, stays_tidy,
 };
 use ld_cascade::links::Links;
 use ld_cascade::plain::settle_plainly;
@@ -181,7 +181,9 @@ fn settle_lamps_plainly<L: Ledger>(
 }
 
 /// Five lamps are settled, and the last is switched off. Two turns are too few to hand that on to
-/// the first. The lamps are taken back and their links restored, and then five turns do it.
+/// the first. The lamps and their links are taken back, and then five turns do it. Of the sites ten
+/// are judged until the lamps are settled, three until the refusal, and six by the last settling:
+/// none is judged because of what was taken back.
 #[test]
 fn refused_settling_is_taken_back(rt: HostRuntime) -> Result<(), Fail> {
     let alloc = rt.alloc();
@@ -196,6 +198,7 @@ fn refused_settling_is_taken_back(rt: HostRuntime) -> Result<(), Fail> {
     assert_eq!(rt; second, Some(Ok(wanted)));
     assert_eq!(rt; row.lit.as_slice(), [false; 5].as_slice());
     assert_eq!(rt; row.marks.as_slice(), [false; 5].as_slice());
+    assert_eq!(rt; row.judged(), 19);
     Ok(())
 }
 
@@ -218,7 +221,55 @@ fn settle_again<L: Ledger>(
     links.begin();
     let lit = row.lit.clone()?;
     let marks = row.marks.clone()?;
+    back_is_tidy(row);
+    back_is_bound(row);
+    let Err(_) = switch_last_off(alloc, row, &mut links, 2, &mut steps) else {
+        return Ok(None);
+    };
+    row.take_back(lit, marks);
+    links.take_back();
+    Ok(Some(switch_last_off(alloc, row, &mut links, 256, &mut steps)))
+}
+
+/// The same where the links are restored at once: each site that was linked anew until the refusal
+/// is asked for its reads, and none is judged.
+#[test]
+fn refused_settling_is_restored(rt: HostRuntime) -> Result<(), Fail> {
+    let alloc = rt.alloc();
+    let mut row = Lamps::new(alloc, 5)?;
+    let wanted = Settled {
+        turns: 5,
+        fired: 5,
+        rejected: 0,
+        sent: 0,
+    };
+    let second = settle_restored::<Brand>(alloc, &mut row, Blank::new(1))?;
+    assert_eq!(rt; second, Some(Ok(wanted)));
+    assert_eq!(rt; row.lit.as_slice(), [false; 5].as_slice());
+    assert_eq!(rt; row.judged(), 19);
+    Ok(())
+}
+
+/// As `settle_again`, but the links are restored.
+fn settle_restored<L: Ledger>(
+    alloc: Global,
+    row: &mut Lamps,
+    blank: Blank,
+) -> Result<Option<Result<Settled, Stop>>, Fail>
+    requires name { blank.name ≡ L.name }
+    requires parts { blank.parts ≡ L.parts }
+    requires enough { 0 < L.parts }
+    requires some { 0 < length row.old.lit.items }
+    requires few { length row.old.lit.items ≤ 4000000 }
+{
+    let mut steps = Steps::<L>::new(blank);
+    let mut links = link_lamps(alloc, row)?;
+    let _settled = settle(alloc, row, &mut links, 256, &mut steps)?;
+    links.begin();
+    let lit = row.lit.clone()?;
+    let marks = row.marks.clone()?;
     begins_restorable(row);
+    stays_restorable(row);
     let Err(_) = switch_last_off(alloc, row, &mut links, 2, &mut steps) else {
         return Ok(None);
     };
@@ -235,19 +286,18 @@ fn switch_last_off<L: Ledger>(
     turns: u32,
     steps: &mut Steps<L>,
 ) -> Result<Settled, Stop>
-    requires tidy { (i : ℕ) → IsTidy lamps (lamps_of row.old) links.old.edges i }
+    requires tidy { Tidy lamps (lamps_of row.old) links.old }
     requires bound { Bound lamps (lamps_of row.old) links.old }
     requires covers { Covers lamps (lamps_of row.old) links.old }
     requires some { 0 < length row.old.lit.items }
     requires few { length row.old.lit.items ≤ 4000000 }
     requires turns { turns ≤ 256 }
     ensures count { length row.new.lit.items ≡ length row.old.lit.items }
-    ensures restorable { (s : Row) → Restorable lamps s links.old → Restorable lamps s links.new }
+    ensures follows { Follows links.old links.new }
 {
     let last = row.lit.len() as u32 - 1;
     stays_tidy(row);
     stays_bound(row);
-    stays_restorable(row);
     row.switch_off(last);
     links.touch(last);
     settle(alloc, row, links, turns, steps)

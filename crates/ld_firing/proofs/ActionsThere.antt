@@ -1,9 +1,10 @@
 -- That in a unit in which no check finds a fault each cell that a firing looks at or writes is one of the run.
 use Rattle.std.proofs.Common.{◌≡◌, refl, sym, ap, subst, ◌∙◌, ℕ, ◌+◌, ◌<◌, inl, inr, List, [], ◌∷◌, ◌++◌, map, flat_map, slice_get, Option, Some, None, Bool, true, false, not, ◌&&◌, is_some, codes, arith, Contains}
 use Rattle.ld_base.specs.Maybe.{◌>>=◌}
+use Rattle.ld_base.specs.Numbers.{numbers_below}
 use Rattle.ld_json.specs.declared.code.Code.TheVariants.{BadType}
 use Rattle.ld_json.specs.declared.file.FileNo.TheVariants as file
-use Rattle.ld_model.specs.Counting.{each_numbered, numbers_below}
+use Rattle.ld_model.specs.Counting.{each_numbered}
 use Rattle.ld_model.specs.Expressions.{TermOf, TermsOf, property_term, literal_term, list_term, pair_term, now_term, opened_term, started_term, no_term, term_and}
 use Rattle.ld_model.specs.declared.activity.Activity.{Activity as ActivityOf}
 use Rattle.ld_model.specs.declared.cell.CellName.{CellName}
@@ -49,7 +50,7 @@ use Rattle.ld_expr.specs.Lookup.{is_some_and, list_from, property_among}
 use Rattle.ld_expr.specs.Owners.{of_person, is_for_persons}
 use Rattle.ld_expr.specs.Seen.{visibility_cell, act_opened_cell, mark_cell}
 use Rattle.ld_state.specs.RunCells.{is_act_place}
-use Rattle.ld_firing.specs.ActionCells.{has_slot, visible_cells, change_cells, all_change_cells, action_cells, actions_cells, opening_cells, firing_cells}
+use Rattle.ld_firing.specs.ActionCells.{has_slot, visible_cells, change_cells, all_change_cells, action_cells, actions_cells, opened_act_cells, firing_cells}
 use Rattle.ld_firing.specs.Actions.{actions_in, actions_if, branch_of, actions_of, is_of_persons, owners_of_change}
 use Rattle.ld_rules.specs.SiteTests.{rule_of}
 use Rattle.ld_state.proofs.Elements.{IsIn, in_either, in_left, in_right, in_each, in_from_contains, is_below, from_flat_map, from_map, from_numbered, nothing_of_each, nothing_first, nothing_later, some_same, different, stands_in}
@@ -351,7 +352,7 @@ module _ (unit : Course) (persons : ℕ) where
           (λ condition at. condition_actions_there meets n p verdict condition at below)
 
   -- The act that a rule opens.
-  opening_cell_there : MeetsChecks unit → (rule : Rule) → AreCells unit persons (opening_cells unit rule)
+  opening_cell_there : MeetsChecks unit → (rule : Rule) → AreCells unit persons (opened_act_cells unit rule)
   opening_cell_there meets (OpensAct p a) = by (act_at unit p a) refl
     where
       of_act : (act : ActOf) → act_at unit p a ≡ Some act
@@ -402,7 +403,7 @@ firing_there unit persons meets site rule verdict ruled owned =
     both_are_cells unit persons (mark_cell site.rule site.owner ∷ []) _
     (one_is_cell unit persons (mark_cell site.rule site.owner)
     (mark_there unit persons site.rule rule site.owner ruled (is_for_persons (kind_of rule)) refl owned))
-    (both_are_cells unit persons (opening_cells unit rule) (actions_cells unit persons site.owner (actions_of unit rule verdict))
+    (both_are_cells unit persons (opened_act_cells unit rule) (actions_cells unit persons site.owner (actions_of unit rule verdict))
     (opening_cell_there unit persons meets rule)
     (rule_actions_there unit persons meets site.owner rule verdict owned))
 

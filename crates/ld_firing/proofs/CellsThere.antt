@@ -1,6 +1,7 @@
 -- Which cells a run has, by what they are cells of.
 use Rattle.std.proofs.Common.{◌≡◌, refl, ap, subst, ℕ, ◌<◌, inl, inr, List, [], ◌∷◌, ◌++◌, length, map, flat_map, slice_get, Some, Bool, true, false, not, is_some}
-use Rattle.ld_model.specs.Counting.{each_numbered, numbers_below}
+use Rattle.ld_base.specs.Numbers.{numbers_below}
+use Rattle.ld_model.specs.Counting.{each_numbered}
 use Rattle.ld_model.specs.Properties.{is_personal}
 use Rattle.ld_model.specs.Roles.{roles_of}
 use Rattle.ld_model.specs.declared.cell.CellName.{CellName}

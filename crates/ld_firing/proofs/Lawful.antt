@@ -1,15 +1,14 @@
 -- That the system of a unit's runs keeps the laws.
-use Rattle.std.proofs.Common.{◌≡◌, sym, ap, subst, ◌∙◌, ℕ, length, filter_map, slice_get, Option, Some, false, Contains}
+use Rattle.std.proofs.Common.{◌≡◌, refl, sym, ap, subst, ◌∙◌, ℕ, length, slice_get, Option, Some, false, Contains, arith}
 use Rattle.ld_base.specs.Maybe.{◌>>=◌}
 use Rattle.ld_cascade.specs.System.{IsSeenAlike, Lawful}
 use Rattle.ld_model.specs.declared.cell.CellName.{CellName}
 use Rattle.ld_model.specs.declared.unit.Unit.{Unit as Course}
 use Rattle.ld_names.specs.Rules.{Site}
 use Rattle.ld_expr.specs.Lookup.{list_from}
-use Rattle.ld_roles.specs.Roster.{Persons}
 use Rattle.ld_state.specs.RunCells.{all_cells, slot_of}
 use Rattle.ld_state.specs.RunState.{RunState, seen_in, cell_of}
-use Rattle.ld_firing.specs.RunSystem.{site_at, slots_named, content_of, run_system}
+use Rattle.ld_firing.specs.RunSystem.{IsSoundRun, site_at, slots_named, content_of, run_system}
 use Rattle.ld_rules.specs.SiteLooks.{site_looks}
 use Rattle.ld_rules.specs.SiteTests.{site_test}
 use Rattle.ld_rules.proofs.Alike.{AgreeOn}
@@ -17,10 +16,12 @@ use Rattle.ld_state.proofs.Cells.{slot_stands}
 use Rattle.ld_firing.proofs.ChecksMet.{checks_met}
 use Rattle.ld_state.proofs.Elements.{IsIn, contains_from_in, stands_in}
 use Rattle.ld_firing.proofs.Found.{in_filter_map}
-use Rattle.ld_firing.proofs.Laws.{enrolment_seats, enrolment_persons, matched_by, keeps_course, keeps_sites, keeps_count, keeps_slots, keeps_size, keeps_sound, within, no_test, no_mark, no_reads, no_size, reads_below, changes_below, own_mark, other_marks, reported}
+use Rattle.ld_firing.proofs.Laws.{counted_by, keeps_course, keeps_sites, keeps_count, keeps_slots, keeps_size, keeps_sound, within, no_test, no_mark, no_reads, no_size, reads_below, changes_below, own_mark, other_marks, reported}
+use Rattle.ld_firing.proofs.Growing.{cell_stays, same_given, site_stays, slot_stays}
 use Rattle.ld_firing.proofs.ReadsByMark.{reads_by_mark}
 use Rattle.ld_firing.proofs.RulesThere.{site_looks_there}
-use Rattle.ld_firing.proofs.Sites.{site_found, some_of, said_of, same_site_at}
+use Rattle.ld_firing.proofs.Sites.{site_found, some_of, said_of}
+use Rattle.ld_firing.proofs.SitesNumbered.{seats_of}
 use Rattle.ld_rules.proofs.SitesAlike.{same_site_test, same_site_looks}
 
 module _ (unit : Course) where
@@ -29,15 +30,19 @@ module _ (unit : Course) where
       → content_of unit s k ≡ cell_of unit s c
   holds_value s k c at = ap (λ (found : Option CellName). found >>= cell_of unit s) at
 
+  -- A sound run has each cell at which the test of one of its sites looks.
+  looked_there : (s : RunState) (i : ℕ) → IsSoundRun unit s → (site : Site) → site_at unit s i ≡ Some site
+      → (c : CellName) → IsIn (site_looks unit (seen_in unit s) site) c → IsIn (all_cells unit (length s.persons)) c
+  looked_there s i sound site at c inside =
+      let has = site_found unit s i site at in
+      site_looks_there unit (checks_met unit sound.valid) (seen_in unit s) site has.rule has.ruled has.owned c inside
+
   -- Two states that are seen alike have the same in each cell at which the test of the site looks.
   agree : (s t : RunState) (i : ℕ) → IsSeenAlike (run_system unit) s t i → (site : Site)
       → site_at unit s i ≡ Some site
       → AgreeOn (seen_in unit s) (seen_in unit t) (site_looks unit (seen_in unit s) site)
   agree s t i alike site at c inside =
-      let persons = enrolment_persons s t unit alike.same_course in
-      let has = site_found unit s i site at in
-      let there = site_looks_there unit (checks_met unit alike.sound.valid) (seen_in unit s) site has.rule has.ruled has.owned c inside in
-      let stands = stands_in (all_cells unit (length s.persons)) c there in
+      let stands = stands_in (all_cells unit (length s.persons)) c (looked_there s i alike.sound site at c inside) in
       let k = stands.number in
       let slot = slot_stands unit (length s.persons) k c stands.at in
       let looked : IsIn (slots_named unit s (site_looks unit (seen_in unit s) site)) k =
@@ -46,15 +51,13 @@ module _ (unit : Course) where
       contains_from_in ((run_system unit).reads s i) k
       (subst (λ (found : Option Site). IsIn (slots_named unit s (list_from (site_looks unit (seen_in unit s)) found)) k)
       (sym at) looked) in
-      let there_too : slice_get (all_cells unit (length t.persons)) k ≡ Some c =
-      ap (λ (ps : Persons). slice_get (all_cells unit (length ps)) k) (sym persons) ∙ stands.at in
+      let there_too = cell_stays unit (length s.persons) (length t.persons) k c alike.grows.persons stands.at in
       sym (holds_value s k c stands.at) ∙ alike.agree k read ∙ holds_value t k c there_too
 
   other_site : (s t : RunState) (i : ℕ) → IsSeenAlike (run_system unit) s t i → (site : Site)
       → site_at unit s i ≡ Some site → site_at unit t i ≡ Some site
   other_site s t i alike site at =
-      sym (same_site_at unit s t i (enrolment_seats s t unit alike.same_course)
-      (enrolment_persons s t unit alike.same_course)) ∙ at
+      site_stays unit s t i site alike.grows.seats alike.grows.persons (seats_of unit t alike.sound_other) at
 
   -- A site's test follows from what stands in the slots that it reads.
   pub same_test : (s t : RunState) (i : ℕ) → IsSeenAlike (run_system unit) s t i
@@ -63,8 +66,7 @@ module _ (unit : Course) where
       let found = some_of (site_at unit s i) alike.there in
       let site = found.0 in
       said_of unit s i site (site_test unit (seen_in unit s)) false found.1
-      ∙ same_site_test unit (seen_in unit s) (seen_in unit t)
-      (matched_by unit s t (enrolment_persons s t unit alike.same_course)) site (agree s t i alike site found.1)
+      ∙ same_site_test unit (seen_in unit s) (seen_in unit t) (counted_by unit s t) site (agree s t i alike site found.1)
       ∙ sym (said_of unit t i site (site_test unit (seen_in unit t)) false (other_site s t i alike site found.1))
 
   -- And so do the slots that it reads.
@@ -73,17 +75,20 @@ module _ (unit : Course) where
   same_reads s t i alike =
       let found = some_of (site_at unit s i) alike.there in
       let site = found.0 in
-      let persons = enrolment_persons s t unit alike.same_course in
+      let looks = site_looks unit (seen_in unit s) site in
       ap (λ (one : Option Site). slots_named unit s (list_from (site_looks unit (seen_in unit s)) one)) found.1
-      ∙ ap (slots_named unit s) (same_site_looks unit (seen_in unit s) (seen_in unit t)
-      (matched_by unit s t persons) site (agree s t i alike site found.1))
-      ∙ ap (λ (ps : Persons). filter_map (slot_of unit (length ps)) (site_looks unit (seen_in unit t) site)) persons
+      ∙ same_given (slot_of unit (length s.persons)) (slot_of unit (length t.persons)) looks
+      (λ c inside. slot_stays unit (length s.persons) (length t.persons) c alike.grows.persons
+      (looked_there s i alike.sound site found.1 c inside))
+      ∙ ap (slots_named unit t) (same_site_looks unit (seen_in unit s) (seen_in unit t)
+      (counted_by unit s t) site (agree s t i alike site found.1))
       ∙ sym (ap (λ (one : Option Site). slots_named unit t (list_from (site_looks unit (seen_in unit t)) one))
       (other_site s t i alike site found.1))
 
 -- The system of a unit's runs keeps the laws.
 pub run_is_lawful : (unit : Course) → Lawful (run_system unit)
 run_is_lawful unit = record {
+  stays = λ e. record { seats = refl; persons = omega arith };
   same_test = same_test unit;
   same_reads = same_reads unit;
   reads_by_mark = reads_by_mark unit;

@@ -19,9 +19,10 @@ use Rattle.ld_state.specs.RunState.{RunState, seen_in, cell_of}
 use Rattle.ld_firing.specs.RunSystem.{owner_number, site_number, site_at, slots_named, Enrolment, IsSoundRun, verdict_in, firing_at, run_system}
 use Rattle.ld_rules.specs.SiteLooks.{site_looks, open_looks}
 use Rattle.ld_rules.specs.SiteTests.{site_test, site_mark}
-use Rattle.ld_rules.proofs.Alike.{AreMatched}
+use Rattle.ld_rules.proofs.Alike.{AgreeOnPersons, AreCounted}
 use Rattle.ld_state.proofs.Cells.{slot_stands}
-use Rattle.ld_state.proofs.Elements.{IsIn, in_from_contains, contains_from_in}
+use Rattle.ld_state.specs.StateView.{is_following}
+use Rattle.ld_state.proofs.Elements.{IsIn, different, in_from_contains, contains_from_in}
 use Rattle.ld_firing.proofs.Found.{in_filter_map, given_by, number_there}
 use Rattle.ld_firing.proofs.Firings.{IsEnrolled, firing_enrolment, firing_own_mark, firing_other_mark, firing_told, Suits, firing_suits}
 use Rattle.ld_state.proofs.SameCells.{both, one_owner}
@@ -38,14 +39,30 @@ pub enrolment_persons : (s t : RunState) → (run : Course)
     → (run_system run).course s ≡ (run_system run).course t → s.persons ≡ t.persons
 enrolment_persons s t run same = ap (λ (e : Enrolment). e.persons) same
 
--- Who is a member of which role follows from the persons.
-pub matched_by : (unit : Course) (s t : RunState) → s.persons ≡ t.persons
-    → AreMatched (seen_in unit s) (seen_in unit t)
+-- The roster tells how many persons there are.
+pub counted_by : (unit : Course) (s t : RunState) → AreCounted (seen_in unit s) (seen_in unit t)
 unfolding cell_of
-matched_by unit s t persons = record {
-  persons = ap (λ (ps : Persons). length ps) persons;
-  members = λ r p. ap (λ (ps : Persons). Some (truth_datum (is_member_in unit ps r p))) persons;
-}
+counted_by unit s t same = cc
+
+-- Who is a member of which role follows from the persons.
+following_same : (unit : Course) (s t : RunState) (c : CellName) → s.persons ≡ t.persons → is_following c ≡ true
+    → cell_of unit s c ≡ cell_of unit t c
+unfolding cell_of
+following_same unit s t (Member r p) persons follows =
+    ap (λ (ps : Persons). Some (truth_datum (is_member_in unit ps r.0 p.0))) persons
+following_same unit s t Roster persons follows = ap (λ (ps : Persons). Some (number_datum (pos (length ps)))) persons
+following_same unit s t (Prop _ _) persons follows = different (sym follows)
+following_same unit s t (Vis _ _) persons follows = different (sym follows)
+following_same unit s t (Chosen _ _) persons follows = different (sym follows)
+following_same unit s t (Opened _ _) persons follows = different (sym follows)
+following_same unit s t (ActOpened _) persons follows = different (sym follows)
+following_same unit s t Started persons follows = different (sym follows)
+following_same unit s t (Mark _ _) persons follows = different (sym follows)
+following_same unit s t Now persons follows = different (sym follows)
+
+pub persons_alike : (unit : Course) (s t : RunState) → s.persons ≡ t.persons → (cells : List CellName)
+    → AgreeOnPersons (seen_in unit s) (seen_in unit t) cells
+persons_alike unit s t persons cells c inside follows = following_same unit s t c persons follows
 
 -- A cell has one value in both where the persons are the same and the stored values are.
 pub same_cell_of : (unit : Course) (s t : RunState) (c : CellName) → s.persons ≡ t.persons
@@ -101,7 +118,9 @@ module _ (unit : Course) where
   keeps_size s i j may =
       ap₂ (λ (size : Site → ℕ) found. option_map_or size found 0)
       (fun_ext (λ site. ap length (same_open_looks unit (seen_in unit (after s i)) (seen_in unit s)
-      (matched_by unit (after s i) s (enrolled s i).persons) site))) (same_sites s i j)
+      (counted_by unit (after s i) s) site
+      (persons_alike unit (after s i) s (enrolled s i).persons (open_looks unit (seen_in unit (after s i)) site)))))
+      (same_sites s i j)
 
   -- ---- numbers of sites
 

@@ -4,10 +4,10 @@ use Rattle.std.proofs.lemmas.List.{length-map}
 use Rattle.std.proofs.lemmas.List.Sums.{sum_by-append, sum_by-cons}
 use Rattle.std.specs.List.{list_any}
 use Rattle.ld_base.specs.Maybe.{◌>>=◌}
+use Rattle.ld_base.specs.Numbers.{numbers_below}
 use Rattle.ld_cascade.specs.System.{fires}
 use Rattle.ld_cascade.specs.Settling.{Firing, step, fired, visited, fired_below, after_sweeps, sweep_firings, all_firings, notices}
 use Rattle.ld_value.specs.Datum.{Datum, truth_datum}
-use Rattle.ld_model.specs.Counting.{numbers_below}
 use Rattle.ld_model.specs.declared.cell.CellName.{CellName}
 use Rattle.ld_model.specs.declared.cell.CellName.TheVariants.{Now}
 use Rattle.ld_model.specs.declared.cell.Owner.{Owner}

@@ -6,6 +6,7 @@ pub mod Effects
 pub mod Fired
 pub mod Firings
 pub mod Found
+pub mod Growing
 pub mod Lawful
 pub mod Laws
 pub mod LawsCells

@@ -6,7 +6,7 @@ use Rattle.std.proofs.lemmas.List.FromFn.{map-range_with_len_more}
 use Rattle.std.proofs.lemmas.List.Sums.{sum_by-append, sum_by-cons, sum_by-take-le}
 use Rattle.std.proofs.lemmas.Option.{slice_get_read}
 use Rattle.std.specs.List.{list_any, sum_by}
-use Rattle.ld_model.specs.Counting.{numbers_below}
+use Rattle.ld_base.specs.Numbers.{numbers_below}
 use Rattle.ld_model.specs.declared.cell.CellName.{CellName}
 use Rattle.ld_model.specs.declared.unit.Unit.{Unit as Course}
 use Rattle.ld_expr.proofs.Having.{has_front, has_back}

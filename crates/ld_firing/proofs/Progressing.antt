@@ -12,8 +12,8 @@ use Rattle.std.specs.List.{cons_option}
 use Rattle.std.specs.Option.{option_map, option_eq}
 use Rattle.ld_base.specs.Maybe.{◌>>=◌}
 use Rattle.ld_base.specs.declared.fired.Fired.{Fired}
+use Rattle.ld_base.specs.Numbers.{numbers_below}
 use Rattle.ld_value.specs.Datum.{Datum, text_datum, truth_datum, number_datum, moment_datum, span_datum, same_datum, same_truth}
-use Rattle.ld_model.specs.Counting.{numbers_below}
 use Rattle.ld_model.specs.declared.cell.CellName.{CellName}
 use Rattle.ld_model.specs.Properties.{is_personal}
 use Rattle.ld_model.specs.declared.cell.CellName.TheVariants.{Now}

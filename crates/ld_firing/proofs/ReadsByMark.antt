@@ -1,7 +1,6 @@
 -- That what a site reads follows from the persons and from its own mark.
-use Rattle.std.proofs.Common.{◌≡◌, refl, sym, ap, ap₂, ◌∙◌, ℕ, List, [], ◌∷◌, length, filter_map, Option, Some, None, Bool, true, false, ◌&&◌, unwrap_or, if◌then◌else◌}
+use Rattle.std.proofs.Common.{◌≡◌, refl, sym, ap, ap₂, ◌∙◌, ℕ, [], ◌∷◌, length, filter_map, Option, Some, None, true, false, ◌&&◌, unwrap_or, if◌then◌else◌}
 use Rattle.ld_value.specs.Datum.{Datum, text_datum, truth_datum, number_datum, moment_datum, span_datum}
-use Rattle.ld_model.specs.declared.cell.CellName.{CellName}
 use Rattle.ld_model.specs.declared.unit.Unit.{Unit as Course}
 use Rattle.ld_names.specs.declared.rule.Rule.{Rule}
 use Rattle.ld_names.specs.Rules.{Site}
@@ -11,7 +10,7 @@ use Rattle.ld_roles.specs.Roster.{Persons}
 use Rattle.ld_state.specs.RunCells.{slot_of}
 use Rattle.ld_state.specs.RunState.{RunState, seen_in, cell_of}
 use Rattle.ld_firing.specs.RunSystem.{IsSoundRun, run_system, site_at, slots_named, verdict_in}
-use Rattle.ld_firing.proofs.Laws.{enrolment_persons, enrolment_seats, matched_by}
+use Rattle.ld_firing.proofs.Laws.{counted_by, enrolment_persons, enrolment_seats, persons_alike}
 use Rattle.ld_firing.proofs.Sites.{some_of, said_of, same_site_at}
 use Rattle.ld_rules.specs.SiteLooks.{open_looks, site_looks}
 use Rattle.ld_rules.specs.SiteTests.{is_latched, rule_of, says_for_good, site_mark}
@@ -43,7 +42,8 @@ module _ (unit : Course) (s t : RunState) where
   looks_by_mark site persons same =
       ap₂ (λ latched looks. if latched then site_mark site ∷ [] else looks)
       (by (rule_of unit site))
-      (same_open_looks unit (seen_in unit s) (seen_in unit t) (matched_by unit s t persons) site)
+      (same_open_looks unit (seen_in unit s) (seen_in unit t) (counted_by unit s t) site
+      (persons_alike unit s t persons (open_looks unit (seen_in unit s) site)))
     where
       by : (found : Option Rule) → is_some_and (is_latched (seen_in unit s) site) found
           ≡ is_some_and (is_latched (seen_in unit t) site) found

@@ -4,8 +4,9 @@ use Rattle.std.proofs.Common.{◌≡◌, refl, sym, ap, subst, ℕ, zero, suc, �
 use Rattle.std.specs.List.{last_or}
 use Rattle.std.specs.Option.{option_map}
 use Rattle.ld_base.specs.Maybe.{◌>>=◌}
+use Rattle.ld_base.specs.Numbers.{numbers_below}
 use Rattle.ld_json.specs.declared.file.FileNo.TheVariants as file
-use Rattle.ld_model.specs.Counting.{each_numbered, numbers_below}
+use Rattle.ld_model.specs.Counting.{each_numbered}
 use Rattle.ld_model.specs.Roles.{roles_of}
 use Rattle.ld_model.specs.declared.activity.Activity.{Activity as ActivityOf}
 use Rattle.ld_model.specs.declared.cell.CellName.{CellName}
@@ -33,7 +34,7 @@ use Rattle.ld_expr.specs.Membership.{members_of}
 use Rattle.ld_expr.specs.Owners.{of_person, is_for_persons}
 use Rattle.ld_expr.specs.Seen.{Seen, member_cell, chosen_cell, opened_cell, act_opened_cell}
 use Rattle.ld_state.specs.RunCells.{all_cells, cell_if, is_act_place, is_activity_place}
-use Rattle.ld_rules.specs.SiteLooks.{cell_list, all_done_looks, completion_looks_if, role_reaches, reaching_roles, activity_looks, target_looks, part_looks, act_looks, person_looks, run_looks, rule_looks, looks_by, open_looks, site_looks}
+use Rattle.ld_rules.specs.SiteLooks.{cell_list, all_done_looks, completion_looks_if, role_reaches, reaching_roles, site_activity_looks, site_target_looks, site_part_looks, site_act_looks, person_looks, run_looks, rule_looks, looks_by, open_looks, site_looks}
 use Rattle.ld_rules.specs.SiteTests.{activity_completing, act_completing, play_completing, unit_completing, opening_cell, says_for_good, is_latched, site_mark, rule_of}
 use Rattle.ld_state.proofs.Elements.{IsIn, in_left, in_right, in_filter, is_below, from_flat_map, from_map, none_is_some, some_same, stands_in}
 use Rattle.ld_firing.proofs.CellsThere.{AreCells, both_are_cells, one_is_cell, started_there, mark_there, member_there, chosen_there, opened_there, opening_there}
@@ -138,7 +139,7 @@ module _ (unit : Course) (meets : MeetsChecks unit) where
     -- ---- rules for a person
 
     activity_there : (n p : ℕ) (activity : ActivityOf) → slice_get unit.activities n ≡ Some activity
-        → p < seen.persons → AreCells unit seen.persons (activity_looks unit seen p activity)
+        → p < seen.persons → AreCells unit seen.persons (site_activity_looks unit seen p activity)
     activity_there n p activity at below =
         let thing = activity_is n activity at in
         let active = ap is_activity_place thing.placed in
@@ -171,7 +172,7 @@ module _ (unit : Course) (meets : MeetsChecks unit) where
     person_there : (p : ℕ) → p < seen.persons → (rule : Rule)
         → AreCells unit seen.persons (person_looks unit seen p rule)
     person_there p below (CompletesActivity n) =
-        cells_from unit seen.persons (activity_looks unit seen p) (slice_get unit.activities n)
+        cells_from unit seen.persons (site_activity_looks unit seen p) (slice_get unit.activities n)
         (λ activity at. activity_there n p activity at below)
     person_there p below (CompletesStructure n) =
         cells_from unit seen.persons (λ structure. all_done_looks unit (of_person p) structure.children)
@@ -202,19 +203,19 @@ module _ (unit : Course) (meets : MeetsChecks unit) where
     act_done_there p a act found = run_done_there unit seen.persons act.identifier (Act p a) (act_is p a act found) refl
 
     part_there : (p a : ℕ) (act : ActOf) (part : RolePartOf) → IsAct unit p a act
-        → AreCells unit seen.persons (part_looks unit seen act part)
+        → AreCells unit seen.persons (site_part_looks unit seen act part)
     part_there p a act part found =
         let looks = flat_map (λ q. done_looks unit (of_person q) part.target) (members_of unit seen part.role) in
         both_are_cells unit seen.persons (cell_list (opening_cell unit act))
-        (members_looks unit seen part.role ++ target_looks unit seen part) (opening_looked p a act found)
-        (both_are_cells unit seen.persons (members_looks unit seen part.role) (target_looks unit seen part)
+        (members_looks unit seen part.role ++ site_target_looks unit seen part) (opening_looked p a act found)
+        (both_are_cells unit seen.persons (members_looks unit seen part.role) (site_target_looks unit seen part)
         (members_looks_there unit seen part.role)
         (cells_unless unit seen.persons (is_some (environment_named unit part.target)) looks
         (of_members_there unit seen (λ q. done_looks unit (of_person q) part.target) part.role
         (λ q below. done_there unit seen.persons q part.target below))))
 
     act_there : (p a : ℕ) (act : ActOf) → IsAct unit p a act
-        → AreCells unit seen.persons (act_looks unit seen act)
+        → AreCells unit seen.persons (site_act_looks unit seen act)
     act_there p a act found =
         both_are_cells unit seen.persons (cell_list (opening_cell unit act))
         (completion_looks_if unit seen (act_completing unit act) act.complete) (opening_looked p a act found)
@@ -255,11 +256,11 @@ module _ (unit : Course) (meets : MeetsChecks unit) where
         cells_from unit seen.persons (λ act. done_looks unit Run act.identifier) (act_at unit p a)
         (λ act is. act_done_there p a act (act_of unit p a act is))
     run_there (CompletesPart p a r) =
-        cells_from unit seen.persons (λ act. list_from (part_looks unit seen act) (role_part_at unit p a r)) (act_at unit p a)
-        (λ act is. cells_from unit seen.persons (part_looks unit seen act) (role_part_at unit p a r)
+        cells_from unit seen.persons (λ act. list_from (site_part_looks unit seen act) (role_part_at unit p a r)) (act_at unit p a)
+        (λ act is. cells_from unit seen.persons (site_part_looks unit seen act) (role_part_at unit p a r)
         (λ part at. part_there p a act part (act_of unit p a act is)))
     run_there (CompletesAct p a) =
-        cells_from unit seen.persons (act_looks unit seen) (act_at unit p a)
+        cells_from unit seen.persons (site_act_looks unit seen) (act_at unit p a)
         (λ act is. act_there p a act (act_of unit p a act is))
     run_there (CompletesPlay p) =
         cells_from unit seen.persons (λ play. completion_looks_if unit seen (play_completing play) play.complete)

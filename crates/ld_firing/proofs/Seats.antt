@@ -3,9 +3,10 @@
 use Rattle.std.proofs.Common.{◌≡◌, ℕ, zero, suc, ◌+◌, ◌<◌, ◌≤◌, ◌==◌, List, [], ◌∷◌, ◌++◌, map, length, sum_by, Bool, true, false, cond, Option, Some, None, option_map, refl, sym, ap, ◌∙◌, subst, length-append}
 use Rattle.std.proofs.lemmas.List.{map-append, length-map}
 use Rattle.std.proofs.lemmas.List.Sums.{sum_by-append, sum_by-cons}
+use Rattle.ld_base.specs.Numbers.{numbers_below}
 use Rattle.ld_cascade.specs.System.{System}
 use Rattle.ld_cascade.specs.Settling.{Firing, Sums, sums_of, counted, plus, swept, after_sweeps, all_firings, sweep_firings}
-use Rattle.ld_model.specs.Counting.{numbers_below, number_where}
+use Rattle.ld_model.specs.Counting.{number_where}
 use Rattle.ld_model.specs.declared.unit.Unit.{Unit as Course}
 use Rattle.ld_names.specs.Rules.{Site}
 use Rattle.ld_firing.specs.Actions.{Doing, site_firing}

@@ -1,7 +1,8 @@
 -- The sites of a unit stand in the order of their numbers.
 use Rattle.std.proofs.Common.{◌≡◌, ℕ, zero, suc, ◌+◌, ◌*◌, ◌<◌, ◌≤◌, List, [], ◌∷◌, length, map, filter_map, refl, arith}
 use Rattle.std.specs.List.{range_with_len}
-use Rattle.ld_model.specs.Counting.{each_numbered_from, numbers_below}
+use Rattle.ld_base.specs.Numbers.{numbers_below}
+use Rattle.ld_model.specs.Counting.{each_numbered_from}
 use Rattle.ld_model.specs.declared.unit.Unit.{Unit as Course}
 use Rattle.ld_names.specs.declared.rule.Rule.{Rule}
 use Rattle.ld_names.specs.declared.rule.RuleKind.{RuleKind}

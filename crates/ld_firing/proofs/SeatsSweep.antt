@@ -5,9 +5,9 @@ use Rattle.std.specs.Option.{option_map_or}
 use Rattle.std.proofs.lemmas.Bool.{eqb-true}
 use Rattle.std.proofs.lemmas.List.{map-append, length-map}
 use Rattle.std.proofs.lemmas.List.Sums.{fold-append, sum_by-append}
+use Rattle.ld_base.specs.Numbers.{numbers_below}
 use Rattle.ld_cascade.specs.System.{System, due}
 use Rattle.ld_cascade.specs.Settling.{Firing, step, fired, visited, fired_below, swept, sweep_firings, sums_of, counted}
-use Rattle.ld_model.specs.Counting.{numbers_below}
 use Rattle.ld_model.specs.declared.unit.Unit.{Unit as Course}
 use Rattle.ld_names.specs.Rules.{Site, sites_of, rules_of}
 use Rattle.ld_firing.specs.Actions.{nothing_done, site_firing}

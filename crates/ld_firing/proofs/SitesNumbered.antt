@@ -2,7 +2,7 @@
 use Rattle.std.proofs.Common.{◌≡◌, refl, sym, ap, subst, ◌∙◌, ℕ, ◌+◌, ◌*◌, ◌<◌, ◌≤◌, inl, inr, List, [], ◌∷◌, length, map, slice_get, Some, Bool, true, is_some, Contains, arith}
 use Rattle.std.proofs.lemmas.Bool.{eq-eqb, ne_eqb, and_from}
 use Rattle.std.specs.List.{list_all}
-use Rattle.ld_model.specs.Counting.{numbers_below}
+use Rattle.ld_base.specs.Numbers.{numbers_below}
 use Rattle.ld_model.specs.declared.cell.CellName.{CellName}
 use Rattle.ld_model.specs.declared.cell.Owner.TheVariants.{Run}
 use Rattle.ld_model.specs.declared.unit.Unit.{Unit as Course}

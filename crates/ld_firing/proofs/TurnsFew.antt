@@ -3,7 +3,7 @@ use Rattle.std.proofs.Common.{◌≡◌, ℕ, ◌≤◌, List, length, Option, S
 use Rattle.std.proofs.lemmas.Bool.{leb-true}
 use Rattle.ld_base.specs.Identifier.{has_identifier_form}
 use Rattle.ld_model.specs.declared.unit.Unit.{Unit as Course}
-use Rattle.ld_formats.specs.Units.{is_well_formed, unit as unit_shape, parts, method_documents, head, content_members, format, parts_of, told_of}
+use Rattle.ld_formats.specs.Units.{is_well_formed, unit as unit_shape, parts, method_documents, head, content_members, format, declared_parts, head_and_conditions}
 use Rattle.ld_value.proofs.Choices.{and_left, and_right}
 
 abbrev has_title_form : Option (List ℕ) → Bool
@@ -20,7 +20,7 @@ third first second rest all = and_right second rest (and_right first (second && 
 pub turns_are_few : (unit : Course) → is_well_formed unit ≡ true → unit.turns ≤ 256
 unfolding is_well_formed unit_shape method_documents head content_members
 turns_are_few unit formed =
-    let own = in_the_middle (parts.has_form (parts_of unit)) (head.has_form (told_of unit).0) _ formed in
+    let own = in_the_middle (parts.has_form (declared_parts unit)) (head.has_form (head_and_conditions unit).0) _ formed in
     let behind = third (format.has_form unit.format) (has_identifier_form unit.identifier) _ own in
     let turns = in_the_middle (has_title_form unit.title) (nat_le 1 unit.turns && nat_le unit.turns 256) _ behind in
     leb-true unit.turns 256 (and_right (nat_le 1 unit.turns) (nat_le unit.turns 256) turns)

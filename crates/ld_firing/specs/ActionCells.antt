@@ -43,11 +43,11 @@ abbrev pub actions_cells : Course → ℕ → Owner → List Action → List Cel
 actions_cells unit persons owner actions = flat_map (action_cells unit persons owner) actions
 
 -- The opening of an act that the rule opens.
-abbrev pub opening_cells : Course → Rule → List CellName
-opening_cells unit rule = list_from (λ thing. act_opened_cell thing ∷ []) (opened_by unit rule)
+abbrev pub opened_act_cells : Course → Rule → List CellName
+opened_act_cells unit rule = list_from (λ thing. act_opened_cell thing ∷ []) (opened_by unit rule)
 
 -- The cells of the firing of the rule of this number: its mark, what it opens, and those of its actions.
 abbrev pub firing_cells : Course → ℕ → Owner → ℕ → Rule → Bool → List CellName
 firing_cells unit persons owner number rule verdict =
     mark_cell number owner
-    ∷ (opening_cells unit rule ++ actions_cells unit persons owner (actions_of unit rule verdict))
+    ∷ (opened_act_cells unit rule ++ actions_cells unit persons owner (actions_of unit rule verdict))

@@ -3,8 +3,8 @@ use Rattle.std.specs.Prelude.{ℕ, pos, List, [], ◌∷◌, ◌++◌, map, filt
 use Rattle.std.specs.List.{list_any}
 use Rattle.std.specs.Option.{option_eq}
 use Rattle.ld_base.specs.Maybe.{◌>>=◌, provided}
+use Rattle.ld_base.specs.Numbers.{numbers_below}
 use Rattle.ld_value.specs.Datum.{Datum, truth_datum, same_datum}
-use Rattle.ld_model.specs.Counting.{numbers_below}
 use Rattle.ld_model.specs.Properties.{is_personal}
 use Rattle.ld_model.specs.declared.cell.CellName.{CellName}
 use Rattle.ld_model.specs.declared.cell.CellName.TheVariants.{Now}

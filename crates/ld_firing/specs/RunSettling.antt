@@ -1,9 +1,10 @@
 -- The settling of a run, by the sweeps over its system.
 use Rattle.std.specs.Prelude.{ℕ, ◌+◌, ◌==◌, length, Option, Bool}
 use Rattle.std.specs.Option.{option_map}
+use Rattle.ld_base.specs.Numbers.{numbers_below}
 use Rattle.ld_cascade.specs.System.{System}
 use Rattle.ld_cascade.specs.Settling.{Sums, sums_of, no_sums, after_sweeps, all_firings, sweep_firings}
-use Rattle.ld_model.specs.Counting.{numbers_below, number_where}
+use Rattle.ld_model.specs.Counting.{number_where}
 use Rattle.ld_model.specs.declared.unit.Unit.{Unit as Course}
 use Rattle.ld_state.specs.RunState.{RunState}
 use Rattle.ld_firing.specs.RunSystem.{run_system}

@@ -55,6 +55,11 @@ pub record Enrolment : Type 0 where
   pub seats : ℕ
   pub persons : Persons
 
+-- The seats stay, and there are no fewer persons.
+pub record IsGrown (before now : Enrolment) : Type 0 where
+  pub seats : before.seats ≡ now.seats
+  pub persons : length before.persons ≤ length now.persons
+
 -- No two persons have one name.
 abbrev pub HaveNamesOfTheirOwn : Persons → Type 0
 HaveNamesOfTheirOwn persons = all_differ (map (λ person. person.name) persons) ≡ true
@@ -84,6 +89,7 @@ run_system unit = record {
   Course = Enrolment;
   IsSound = IsSoundRun unit;
   course = λ s. record { seats = s.seats; persons = s.persons };
+  Grows = IsGrown;
   is_site = λ s i. is_some (site_at unit s i);
   count = λ s. length (rules_of unit) * s.seats;
   slots = λ s. length (all_cells unit (length s.persons));

@@ -1,7 +1,7 @@
 //! Changes of properties.
 ghost use Rattle.std.specs.Prelude.{◌≡◌, ◌+◌, ◌*◌, ◌≤◌, ◌<◌, flat_map, fold, length, map, IfOk, IfSome, OnOk, option_copied, option_map};
 ghost use Rattle.ld_base.specs.Maybe.{◌>>=◌ as ◌then◌};
-ghost use Rattle.ld_model.specs.Counting.{numbers_below};
+ghost use Rattle.ld_base.specs.Numbers.{numbers_below};
 ghost use Rattle.ld_model.specs.Properties.{is_personal};
 ghost use Rattle.ld_expr.specs.Lookup.{is_some_and, property_number, property_of};
 ghost use Rattle.ld_expr.specs.Owners.{fits_property, of_person};

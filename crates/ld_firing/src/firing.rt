@@ -8,7 +8,7 @@ ghost use Rattle.ld_expr.specs.Viewing.{HasCells};
 ghost use Rattle.ld_value.specs.Datum.{datum_of, truth_datum};
 ghost use Rattle.ld_state.specs.RunState.{seen_in};
 ghost use Rattle.ld_state.specs.StateView.{IsStateOf, run_of};
-ghost use Rattle.ld_firing.specs.ActionCells.{actions_cells, firing_cells, has_slot, opening_cells};
+ghost use Rattle.ld_firing.specs.ActionCells.{actions_cells, firing_cells, has_slot, opened_act_cells};
 ghost use Rattle.ld_firing.specs.Actions.{actions_of, branch_of, do_action, opened_by, rule_effect, site_firing, with_opening, with_write};
 ghost use Rattle.ld_firing.specs.Costs.{action_cost, site_cost};
 ghost use Rattle.ld_firing.specs.Progress.{Does, progress_of};
@@ -126,7 +126,7 @@ impl<'a> Actor<'a> {
     ) -> Result<(), NoMemory>
         requires own { IsStateOf self.now.unit.now state.old }
         requires cells { HasCells (has_slot self.now.unit.now (length state.old.rows))
-            (opening_cells self.now.unit.now rule) }
+            (opened_act_cells self.now.unit.now rule) }
         ensures does { (fired : Counts) → OnOk result (Does self.now.unit.now
             (progress_of state.old changed.old.items fired)
             (progress_of state.new changed.new.items fired)

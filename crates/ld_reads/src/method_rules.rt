@@ -1,7 +1,7 @@
 //! Which cells the rules for the run read: those of acts, role-parts, plays and the unit.
 ghost use Rattle.std.specs.Prelude.{◌≡◌, ◌+◌, ◌≤◌, OnErr, OnOk, length};
 ghost use Rattle.ld_expr.specs.Looks.{members_looks};
-ghost use Rattle.ld_rules.specs.SiteLooks.{act_looks, cell_list, completion_looks_if, opening_looks, part_looks, run_looks, target_looks};
+ghost use Rattle.ld_rules.specs.SiteLooks.{site_act_looks, cell_list, completion_looks_if, opening_looks, site_part_looks, run_looks, site_target_looks};
 ghost use Rattle.ld_rules.specs.SiteTests.{act_completing, opening_cell, play_completing, unit_completing};
 ghost use Rattle.ld_rules.specs.SiteView.{completing_of};
 ghost use Rattle.ld_state.specs.RunState.{seen_in};
@@ -101,13 +101,13 @@ fn read_part<L: Ledger>(
     steps: &mut Steps<L>,
 ) -> Result<(), NoMemory>
     ensures gathers { OnOk result (Gathers reader.now.unit.now (run_of reader.now.state.now)
-        (part_looks reader.now.unit.now (seen_in reader.now.unit.now (run_of reader.now.state.now))
+        (site_part_looks reader.now.unit.now (seen_in reader.now.unit.now (run_of reader.now.state.now))
         act.now part.now) list.old list.new) }
     ensures short { OnErr result (FallsShort reader.now.unit.now (run_of reader.now.state.now)
-        (part_looks reader.now.unit.now (seen_in reader.now.unit.now (run_of reader.now.state.now))
+        (site_part_looks reader.now.unit.now (seen_in reader.now.unit.now (run_of reader.now.state.now))
         act.now part.now) list.old) }
     ensures room { list.old.room ≤ list.new.room }
-    ensures cost { steps.new ≤ steps.old + length (part_looks reader.now.unit.now
+    ensures cost { steps.new ≤ steps.old + length (site_part_looks reader.now.unit.now
         (seen_in reader.now.unit.now (run_of reader.now.state.now)) act.now part.now) }
 {
     read_opened_act(reader, act, list)?;
@@ -124,10 +124,10 @@ fn read_target<L: Ledger>(
     steps: &mut Steps<L>,
 ) -> Result<(), NoMemory>
     ensures gathers { OnOk result (Gathers reader.now.unit.now (run_of reader.now.state.now)
-        (target_looks reader.now.unit.now
+        (site_target_looks reader.now.unit.now
         (seen_in reader.now.unit.now (run_of reader.now.state.now)) part.now) list.old list.new) }
     ensures short { OnErr result (FallsShort reader.now.unit.now (run_of reader.now.state.now)
-        (target_looks reader.now.unit.now
+        (site_target_looks reader.now.unit.now
         (seen_in reader.now.unit.now (run_of reader.now.state.now)) part.now) list.old) }
     ensures room { list.old.room ≤ list.new.room }
     ensures cost { steps.new ≤ steps.old + length (members_looks reader.now.unit.now
@@ -147,13 +147,13 @@ fn read_act<L: Ledger>(
     steps: &mut Steps<L>,
 ) -> Result<(), NoMemory>
     ensures gathers { OnOk result (Gathers reader.now.unit.now (run_of reader.now.state.now)
-        (act_looks reader.now.unit.now
+        (site_act_looks reader.now.unit.now
         (seen_in reader.now.unit.now (run_of reader.now.state.now)) act.now) list.old list.new) }
     ensures short { OnErr result (FallsShort reader.now.unit.now (run_of reader.now.state.now)
-        (act_looks reader.now.unit.now
+        (site_act_looks reader.now.unit.now
         (seen_in reader.now.unit.now (run_of reader.now.state.now)) act.now) list.old) }
     ensures room { list.old.room ≤ list.new.room }
-    ensures cost { steps.new ≤ steps.old + length (act_looks reader.now.unit.now
+    ensures cost { steps.new ≤ steps.old + length (site_act_looks reader.now.unit.now
         (seen_in reader.now.unit.now (run_of reader.now.state.now)) act.now) }
 {
     read_opened_act(reader, act, list)?;

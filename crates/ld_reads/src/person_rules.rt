@@ -3,7 +3,7 @@ ghost use Rattle.std.specs.Prelude.{◌≡◌, ◌+◌, ◌≤◌, OnErr, OnOk, 
 ghost use Rattle.ld_expr.specs.Looks.{test_looks};
 ghost use Rattle.ld_expr.specs.Owners.{of_person};
 ghost use Rattle.ld_expr.specs.Seen.{member_cell};
-ghost use Rattle.ld_rules.specs.SiteLooks.{activity_looks, all_done_looks, person_looks, reaching_roles};
+ghost use Rattle.ld_rules.specs.SiteLooks.{site_activity_looks, all_done_looks, person_looks, reaching_roles};
 ghost use Rattle.ld_state.specs.RunState.{seen_in};
 ghost use Rattle.ld_state.specs.StateView.{run_of};
 ghost use Rattle.ld_reads.specs.Gathering.{FallsShort, Gathers};
@@ -86,15 +86,15 @@ fn read_activity<L: Ledger>(
 ) -> Result<(), NoMemory>
     requires { slice_get reader.now.unit.now.activities number ≡ Some activity.now }
     ensures gathers { OnOk result (Gathers reader.now.unit.now (run_of reader.now.state.now)
-        (activity_looks reader.now.unit.now
+        (site_activity_looks reader.now.unit.now
         (seen_in reader.now.unit.now (run_of reader.now.state.now))
         person.0 activity.now) list.old list.new) }
     ensures short { OnErr result (FallsShort reader.now.unit.now (run_of reader.now.state.now)
-        (activity_looks reader.now.unit.now
+        (site_activity_looks reader.now.unit.now
         (seen_in reader.now.unit.now (run_of reader.now.state.now))
         person.0 activity.now) list.old) }
     ensures room { list.old.room ≤ list.new.room }
-    ensures cost { steps.new ≤ steps.old + length (activity_looks reader.now.unit.now
+    ensures cost { steps.new ≤ steps.old + length (site_activity_looks reader.now.unit.now
         (seen_in reader.now.unit.now (run_of reader.now.state.now))
         person.0 activity.now) }
 {

@@ -2,7 +2,7 @@
 use Rattle.std.specs.Prelude.{ℕ, zero, suc, List, [], ◌∷◌, ◌++◌, map, flat_map, filter, length, Option, Bool, ◌&&◌, is_some, slice_get, if◌then◌else◌}
 use Rattle.std.specs.List.{list_any}
 use Rattle.std.specs.Str.{bytes_eq}
-use Rattle.ld_model.specs.Counting.{numbers_below}
+use Rattle.ld_base.specs.Numbers.{numbers_below}
 use Rattle.ld_model.specs.Roles.{roles_of}
 use Rattle.ld_model.specs.declared.activity.Activity.{Activity}
 use Rattle.ld_model.specs.declared.cell.CellName.{CellName}
@@ -60,24 +60,24 @@ reaching_roles unit id =
     (λ r. is_some_and (λ role. role_reaches unit id role.identifier) (slice_get (roles_of unit) r))
     (numbers_below (length (roles_of unit)))
 
-abbrev pub activity_looks : Course → Seen → ℕ → Activity → List CellName
-activity_looks unit seen p activity =
+abbrev pub site_activity_looks : Course → Seen → ℕ → Activity → List CellName
+site_activity_looks unit seen p activity =
     map (λ r. member_cell r p) (reaching_roles unit activity.identifier)
     ++ completion_looks_if unit seen (activity_completing unit p activity) activity.complete
 
 -- What each member has done of the target; of an environment there is nothing to do.
-abbrev pub target_looks : Course → Seen → RolePart → List CellName
-target_looks unit seen part =
+abbrev pub site_target_looks : Course → Seen → RolePart → List CellName
+site_target_looks unit seen part =
     let looks = flat_map (λ p. done_looks unit (of_person p) part.target) (members_of unit seen part.role) in
     if is_some (environment_named unit part.target) then [] else looks
 
 -- Whether the act is opened, who the members are, and what each of them has done.
-abbrev pub part_looks : Course → Seen → Act → RolePart → List CellName
-part_looks unit seen act part =
-    cell_list (opening_cell unit act) ++ (members_looks unit seen part.role ++ target_looks unit seen part)
+abbrev pub site_part_looks : Course → Seen → Act → RolePart → List CellName
+site_part_looks unit seen act part =
+    cell_list (opening_cell unit act) ++ (members_looks unit seen part.role ++ site_target_looks unit seen part)
 
-abbrev pub act_looks : Course → Seen → Act → List CellName
-act_looks unit seen act =
+abbrev pub site_act_looks : Course → Seen → Act → List CellName
+site_act_looks unit seen act =
     cell_list (opening_cell unit act) ++ completion_looks_if unit seen (act_completing unit act) act.complete
 
 -- An act but the first of its play waits for the one before.
@@ -87,7 +87,7 @@ opening_looks unit p (suc a) = list_from (λ act. done_looks unit Run act.identi
 
 abbrev pub person_looks : Course → Seen → ℕ → Rule → List CellName
 person_looks unit seen p (CompletesActivity a) =
-    list_from (activity_looks unit seen p) (slice_get unit.activities a)
+    list_from (site_activity_looks unit seen p) (slice_get unit.activities a)
 person_looks unit seen p (CompletesStructure s) =
     list_from
     (λ structure. all_done_looks unit (of_person p) structure.children)
@@ -101,8 +101,8 @@ person_looks unit seen p _ = []
 abbrev pub run_looks : Course → Seen → Rule → List CellName
 run_looks unit seen (OpensAct p a) = opening_looks unit p a
 run_looks unit seen (CompletesPart p a r) =
-    list_from (λ act. list_from (part_looks unit seen act) (role_part_at unit p a r)) (act_at unit p a)
-run_looks unit seen (CompletesAct p a) = list_from (act_looks unit seen) (act_at unit p a)
+    list_from (λ act. list_from (site_part_looks unit seen act) (role_part_at unit p a r)) (act_at unit p a)
+run_looks unit seen (CompletesAct p a) = list_from (site_act_looks unit seen) (act_at unit p a)
 run_looks unit seen (CompletesPlay p) =
     list_from (λ play. completion_looks_if unit seen (play_completing play) play.complete) (play_at unit p)
 run_looks unit seen CompletesUnit = completion_looks_if unit seen unit_completing unit.method.complete

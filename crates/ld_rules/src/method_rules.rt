@@ -8,7 +8,7 @@ ghost use Rattle.ld_refs.specs.Extents.{act_at, play_at, role_part_at};
 ghost use Rattle.ld_expr.specs.Looks.{done_looks, members_looks};
 ghost use Rattle.ld_expr.specs.Lookup.{environment_named, is_some_and, list_from};
 ghost use Rattle.ld_expr.specs.Viewing.{HasCells, seen_by};
-ghost use Rattle.ld_rules.specs.SiteLooks.{act_looks, cell_list, completion_looks_if, opening_looks, part_looks, run_looks};
+ghost use Rattle.ld_rules.specs.SiteLooks.{site_act_looks, cell_list, completion_looks_if, opening_looks, site_part_looks, run_looks};
 ghost use Rattle.ld_rules.specs.SiteTests.{act_completing, act_test, is_opened, opening_cell, opening_test, part_test, play_completing, play_test, run_test, unit_completing, unit_test};
 ghost use Rattle.ld_rules.specs.SiteView.{completing_of};
 
@@ -108,11 +108,11 @@ fn judge_part<V: View, L: Ledger>(
     steps: &mut Steps<L>,
 ) -> bool
     requires names { names.now ≡ names_of unit.now }
-    requires cells { HasCells (V.has_cell view.now) (part_looks unit.now
+    requires cells { HasCells (V.has_cell view.now) (site_part_looks unit.now
         (seen_by (V.persons_of view.now) (V.cells_of view.now)) act.now part.now) }
     ensures value { result ≡ part_test unit.now
         (seen_by (V.persons_of view.now) (V.cells_of view.now)) act.now part.now }
-    ensures cost { steps.new ≤ steps.old + length (part_looks unit.now
+    ensures cost { steps.new ≤ steps.old + length (site_part_looks unit.now
         (seen_by (V.persons_of view.now) (V.cells_of view.now)) act.now part.now) }
 {
     if !is_opened(unit, names, act, view, steps) {
@@ -133,11 +133,11 @@ fn judge_act<V: View, L: Ledger>(
     steps: &mut Steps<L>,
 ) -> bool
     requires names { names.now ≡ names_of unit.now }
-    requires cells { HasCells (V.has_cell view.now) (act_looks unit.now
+    requires cells { HasCells (V.has_cell view.now) (site_act_looks unit.now
         (seen_by (V.persons_of view.now) (V.cells_of view.now)) act.now) }
     ensures value { result ≡ act_test unit.now
         (seen_by (V.persons_of view.now) (V.cells_of view.now)) act.now }
-    ensures cost { steps.new ≤ steps.old + length (act_looks unit.now
+    ensures cost { steps.new ≤ steps.old + length (site_act_looks unit.now
         (seen_by (V.persons_of view.now) (V.cells_of view.now)) act.now) }
 {
     if !is_opened(unit, names, act, view, steps) {

@@ -13,7 +13,7 @@ ghost use Rattle.ld_expr.specs.Seen.{member_cell};
 ghost use Rattle.ld_expr.specs.Viewing.{HasCells, seen_by};
 ghost use Rattle.ld_rules.specs.Reach.{is_mine};
 ghost use Rattle.ld_rules.specs.ReachTable.{reach_of};
-ghost use Rattle.ld_rules.specs.SiteLooks.{activity_looks, all_done_looks, completion_looks_if, person_looks, reaching_roles};
+ghost use Rattle.ld_rules.specs.SiteLooks.{site_activity_looks, all_done_looks, completion_looks_if, person_looks, reaching_roles};
 ghost use Rattle.ld_rules.specs.SiteTests.{activity_completing, activity_test, completion_holds, holds_or_absent, number_needed, person_test, structure_test};
 ghost use Rattle.ld_rules.specs.SiteView.{completing_of};
 
@@ -97,13 +97,13 @@ fn judge_activity<V: View, L: Ledger>(
     requires distinct { HasDistinctIdentifiers unit.now }
     requires names { names.now ≡ names_of unit.now }
     requires reach { reach.now ≡ reach_of unit.now }
-    requires cells { HasCells (V.has_cell view.now) (list_from (activity_looks unit.now
+    requires cells { HasCells (V.has_cell view.now) (list_from (site_activity_looks unit.now
         (seen_by (V.persons_of view.now) (V.cells_of view.now)) person.0)
         (slice_get unit.now.activities number)) }
     ensures value { result ≡ is_some_and (activity_test unit.now
         (seen_by (V.persons_of view.now) (V.cells_of view.now)) person.0)
         (slice_get unit.now.activities number) }
-    ensures cost { steps.new ≤ steps.old + length (list_from (activity_looks unit.now
+    ensures cost { steps.new ≤ steps.old + length (list_from (site_activity_looks unit.now
         (seen_by (V.persons_of view.now) (V.cells_of view.now)) person.0)
         (slice_get unit.now.activities number)) }
 {

@@ -1,6 +1,7 @@
 pub mod Carrying
 pub mod Frames
 pub mod Outcomes
+pub mod PersonsTold
 pub mod ReadsNumbered
 pub mod RunLinks
 pub mod SiteNumbers

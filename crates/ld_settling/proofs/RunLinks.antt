@@ -8,7 +8,8 @@ use Rattle.ld_graph.specs.Edges.{Edges, IsLinked}
 use Rattle.ld_graph.specs.Table.{has}
 use Rattle.ld_cascade.specs.Tidy.{Bound, Changes, Covers, IsTidy, Tidy, Touched}
 use Rattle.ld_cascade.specs.System.{Lawful, System}
-use Rattle.ld_cascade.specs.Wiring.{EdgesAre, IsSameTable, Wiring}
+use Rattle.ld_cascade.specs.Wiring.{EdgesAre, Follows, IsEmpty, IsSameTable, IsTakenBack, Wiring}
+use Rattle.ld_cascade.proofs.TakingBack.{bound_back, bound_begun, covers_back, covers_begun, rest_back, rest_begun, tidy_back, tidy_begun}
 use Rattle.ld_cascade.proofs.Touching.{bound_touched, tidy_touched}
 use Rattle.ld_model.specs.declared.unit.Unit.{Unit as Course}
 use Rattle.ld_names.specs.Names.{names_of}
@@ -33,7 +34,7 @@ use Rattle.ld_firing.specs.Telling.{Tells}
 use Rattle.ld_firing.proofs.Lawful.{run_is_lawful}
 use Rattle.ld_firing.proofs.SeenInStates.{persons_counted}
 use Rattle.ld_firing.proofs.Sites.{IsOwner, a_person, the_run, same_site_at, site_found, some_of}
-use Rattle.ld_settling.specs.RunLinking.{AreDirty, AreLinksOf, IsPlaceCount}
+use Rattle.ld_settling.specs.RunLinking.{AreDirty, AreLinksOf, AreRestingLinks, IsPlaceCount}
 use Rattle.ld_settling.specs.UnitRuns.{Frame, UnitRun, unit_runs}
 
 -- ---- in the system of the runs of all units
@@ -94,15 +95,12 @@ pub changes_told : (unit : Course) (s t : RunState) (told : List ℕ) → IsSoun
 changes_told unit s t told sound sound_after tells = record {
   sound_before = sound;
   sound_after = sound_after;
-  same_course = sym (ap₂ enrol tells.seats tells.persons);
+  grows = record { seats = sym tells.seats; persons = omega (arith, ap (λ (ps : Persons). length ps) tells.persons) };
   keeps_sites = λ i there. ap is_some (same_at i) ∙ there;
   same_marks = λ i there. ap (mark_by t) (same_at i) ∙ by (site_at unit s i);
   others = tells.untold;
 }
   where
-    enrol : ℕ → Persons → Enrolment
-    enrol seats persons = record { seats = seats; persons = persons }
-
     same_at : (i : ℕ) → site_at unit t i ≡ site_at unit s i
     same_at i = same_site_at unit t s i tells.seats tells.persons
 
@@ -149,6 +147,7 @@ links_touched unit s t told old now sound sound_after links tells edges sites lo
       same_rows = λ i. ap (λ (e : Edges). get_or e.rows i []) edges;
       keeps = keeps;
       readers = readers;
+      loosens = inl (sym (ap₂ enrol tells.seats tells.persons));
       fresh = λ i out there. absurd (let same = none_new i out there in cc);
       keeps_loose = λ i is_in. ap (λ (table : List Bool). has table i) loose ∙ is_in;
       fresh_loose = λ i out there. absurd (let same = none_new i out there in cc);
@@ -156,6 +155,9 @@ links_touched unit s t told old now sound sound_after links tells edges sites lo
     })
     (omega (arith, sites)) (omega (arith, ap (λ (e : Edges). e.slots) edges))
   where
+    enrol : ℕ → Persons → Enrolment
+    enrol seats persons = record { seats = seats; persons = persons }
+
     none_new : (i : ℕ) → (run_system unit).is_site s i ≡ false → (run_system unit).is_site t i ≡ true → false ≡ true
     none_new i out there = sym out ∙ sym (ap is_some (same_site_at unit t s i tells.seats tells.persons)) ∙ there
 
@@ -194,6 +196,40 @@ links_anew unit s wiring sound covers dirty loose none = record {
         edges_are = edges_none wiring.edges i ((run_system unit).reads s i) (none i) (law.no_reads s i sound out);
       }
     ]
+
+-- So they are at rest.
+pub resting_anew : (unit : Course) (s : RunState) (wiring : Wiring) → AreLinksOf unit s wiring → IsSameTable wiring.dirty wiring.loose
+    → AreRestingLinks unit s wiring
+resting_anew unit s wiring links loose = record { links = links; rest = λ i dirty. loose i ∙ dirty }
+
+-- And where a settling is done.
+pub resting_settled : (unit : Course) (s : RunState) (wiring : Wiring) → AreLinksOf unit s wiring → IsEmpty wiring.dirty
+    → AreRestingLinks unit s wiring
+resting_settled unit s wiring links clean = record { links = links; rest = λ i dirty. absurd (let none = clean i in cc) }
+
+-- And where links only begin.
+pub resting_begun : (unit : Course) (s : RunState) (old now : Wiring) → now.edges ≡ old.edges → now.dirty ≡ old.dirty → now.loose ≡ old.loose
+    → now.sites ≡ old.sites → AreRestingLinks unit s old → AreRestingLinks unit s now
+resting_begun unit s old now edges dirty loose sites resting = record {
+  links = record {
+    tidy = tidy_begun (run_system unit) s old now edges dirty loose sites resting.links.tidy;
+    bound = bound_begun (run_system unit) s old now edges dirty loose sites resting.links.bound;
+    covers = covers_begun (run_system unit) s old now edges dirty loose sites resting.links.covers;
+  };
+  rest = rest_begun (run_system unit) s old now edges dirty loose sites resting.rest;
+}
+
+-- Where the state of a run and its links were taken back, the links are those of the run.
+pub resting_back : (unit : Course) (s : RunState) (begun now back : Wiring) → AreRestingLinks unit s begun → Follows begun now
+    → IsTakenBack now back → AreRestingLinks unit s back
+resting_back unit s begun now back resting follows taken = record {
+  links = record {
+    tidy = tidy_back (run_system unit) s begun now back resting.links.tidy resting.rest follows taken;
+    bound = bound_back (run_system unit) s begun now back resting.links.tidy resting.rest follows taken;
+    covers = covers_back (run_system unit) s begun now back resting.links.covers follows taken;
+  };
+  rest = rest_back taken;
+}
 
 -- The number of a site is one of its rule's, at the place of its owner.
 owner_within : (persons places : ℕ) (own : Bool) (owner : Owner) → IsOwner persons own owner → IsPlaceCount persons places

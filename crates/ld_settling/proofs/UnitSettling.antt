@@ -7,11 +7,11 @@ use Rattle.ld_firing.specs.RunSettling.{run_settling, settlement_after}
 use Rattle.ld_firing.specs.RunSystem.{run_system}
 use Rattle.ld_firing.specs.SettledView.{settlement_of, sums_in}
 use Rattle.ld_firing.proofs.Turns.{no_turns, turns_of_settling}
-use Rattle.ld_settling.specs.UnitRuns.{UnitRun, unit_runs, with_run}
+use Rattle.ld_settling.specs.UnitRuns.{UnitRun, unit_runs, with_fired_run}
 use Rattle.ld_settling.proofs.Carrying.{Carries, carried, fired_below_carried, firings_carried, passes_back, passes_carried, quiet_back, quiet_carried, settles_back, settles_carried, sums_carried, sweeps_carried, visited_carried}
 
 -- Each run of the unit stands for the one with this frame.
-pub carries : (s : UnitRun) → Carries (run_system s.unit) unit_runs (with_run s)
+pub carries : (s : UnitRun) → Carries (run_system s.unit) unit_runs (with_fired_run s)
 carries s = record {
   count = λ t. refl;
   fires = λ t i. refl;
@@ -22,19 +22,19 @@ carries s = record {
 
 module _ (s : UnitRun) where
   -- Visits and sweeps lead to the run to which they lead in the system of the unit.
-  pub visited_in_unit : (n : ℕ) → visited unit_runs s n ≡ with_run s (visited (run_system s.unit) s.run n)
+  pub visited_in_unit : (n : ℕ) → visited unit_runs s n ≡ with_fired_run s (visited (run_system s.unit) s.run n)
   visited_in_unit n = visited_carried (carries s) s.run n
 
-  pub sweeps_in_unit : (k : ℕ) → after_sweeps unit_runs s k ≡ with_run s (after_sweeps (run_system s.unit) s.run k)
+  pub sweeps_in_unit : (k : ℕ) → after_sweeps unit_runs s k ≡ with_fired_run s (after_sweeps (run_system s.unit) s.run k)
   sweeps_in_unit k = sweeps_carried (carries s) s.run k
 
   -- Their firings are the same but for the frame.
   pub fired_in_unit : (n : ℕ)
-      → fired_below unit_runs s n ≡ map (carried (run_system s.unit) unit_runs (with_run s)) (fired_below (run_system s.unit) s.run n)
+      → fired_below unit_runs s n ≡ map (carried (run_system s.unit) unit_runs (with_fired_run s)) (fired_below (run_system s.unit) s.run n)
   fired_in_unit n = fired_below_carried (carries s) s.run n
 
   pub firings_in_unit : (k : ℕ)
-      → all_firings unit_runs s k ≡ map (carried (run_system s.unit) unit_runs (with_run s)) (all_firings (run_system s.unit) s.run k)
+      → all_firings unit_runs s k ≡ map (carried (run_system s.unit) unit_runs (with_fired_run s)) (all_firings (run_system s.unit) s.run k)
   firings_in_unit k = firings_carried (carries s) s.run k
 
   pub sums_in_unit : (k : ℕ) → sums_of unit_runs (all_firings unit_runs s k) ≡ sums_of (run_system s.unit) (all_firings (run_system s.unit) s.run k)

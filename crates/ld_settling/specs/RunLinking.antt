@@ -1,8 +1,8 @@
 -- The links of a run's sites.
-use Rattle.std.specs.Prelude.{◌≡◌, ℕ, ◌+◌, ◌*◌, ◌<◌, ◌≤◌, Bool, true, List}
+use Rattle.std.specs.Prelude.{◌≡◌, ℕ, ◌+◌, ◌*◌, ◌<◌, ◌≤◌, ◌⊎◌, Bool, true, List}
 use Rattle.ld_graph.specs.Table.{has}
 use Rattle.ld_cascade.specs.Tidy.{Bound, Covers, Tidy}
-use Rattle.ld_cascade.specs.Wiring.{Wiring}
+use Rattle.ld_cascade.specs.Wiring.{IsAtRest, Wiring}
 use Rattle.ld_model.specs.declared.unit.Unit.{Unit as Course}
 use Rattle.ld_firing.specs.RunSystem.{run_system}
 use Rattle.ld_roles.specs.declared.limit.TheConstants.{SEATS}
@@ -14,6 +14,11 @@ pub record AreLinksOf (unit : Course) (s : RunState) (wiring : Wiring) : Type 0 
   pub tidy : Tidy (run_system unit) s wiring
   pub bound : Bound (run_system unit) s wiring
   pub covers : Covers (run_system unit) s wiring
+
+-- The links of a run between commands: every dirty site is loose, so that they can be taken back.
+pub record AreRestingLinks (unit : Course) (s : RunState) (wiring : Wiring) : Type 0 where
+  pub links : AreLinksOf unit s wiring
+  pub rest : IsAtRest wiring
 
 -- No range of the links gets smaller.
 pub record Widens (old now : Wiring) : Type 0 where
@@ -30,3 +35,17 @@ pub record IsPlaceCount (count places : ℕ) : Type 0 where
 abbrev pub AreDirty : List Bool → ℕ → ℕ → Type 0
 AreDirty dirty rules places =
     (rule place : ℕ) → rule < rules → place < places → has dirty (rule * SEATS + place) ≡ true
+
+-- Of so many rules the numbers of the sites at these places, from one on and below another, are in the table.
+abbrev pub AreAmong : List Bool → ℕ → ℕ → ℕ → Type 0
+AreAmong table rules from below =
+    (rule place : ℕ) → rule < rules → from ≤ place → place < below → has table (rule * SEATS + place) ≡ true
+
+-- All that was dirty or loose is so, and what became loose is dirty; no edge and no range is another.
+pub record Loosens (old now : Wiring) : Type 0 where
+  pub dirty : (i : ℕ) → has old.dirty i ≡ true → has now.dirty i ≡ true
+  pub loose : (i : ℕ) → has old.loose i ≡ true → has now.loose i ≡ true
+  pub only : (i : ℕ) → has now.loose i ≡ true → (has old.loose i ≡ true) ⊎ (has now.dirty i ≡ true)
+  pub edges : now.edges ≡ old.edges
+  pub relinked : now.relinked ≡ old.relinked
+  pub sites : now.sites ≡ old.sites

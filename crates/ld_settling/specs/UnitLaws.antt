@@ -1,5 +1,5 @@
 -- That the system of the runs of all units keeps the laws.
-use Rattle.std.proofs.Common.{◌≡◌, sym, ap, subst, ◌∙◌, ℕ, true}
+use Rattle.std.proofs.Common.{◌≡◌, refl, sym, ap, subst, ◌∙◌, ℕ, true}
 use Rattle.ld_cascade.specs.System.{IsSeenAlike, Lawful, MayFire}
 use Rattle.ld_model.specs.declared.unit.Unit.{Unit as Course}
 use Rattle.ld_firing.specs.RunSystem.{Enrolment, IsSoundRun, run_system}
@@ -20,11 +20,11 @@ same_unit s t same = ap (λ (setting : Setting). setting.unit) same
 -- What is seen alike is seen alike in the system of the unit.
 pub alike_in_unit : (s t : UnitRun) (i : ℕ) → IsSeenAlike unit_runs s t i → IsSeenAlike (run_system s.unit) s.run t.run i
 alike_in_unit s t i alike =
-    let same = sym (same_unit s t alike.same_course) in
+    let same = sym alike.grows.unit in
     record {
       sound = alike.sound.run;
       sound_other = subst (λ (unit : Course). IsSoundRun unit t.run) same alike.sound_other.run;
-      same_course = ap (λ (setting : Setting). setting.enrolment) alike.same_course;
+      grows = alike.grows.enrolment;
       there = alike.there;
       there_other = subst (λ (unit : Course). (run_system unit).is_site t.run i ≡ true) same alike.there_other;
       agree = λ k read. alike.agree k read ∙ ap (λ (unit : Course). (run_system unit).content t.run k) same;
@@ -32,12 +32,13 @@ alike_in_unit s t i alike =
 
 pub unit_runs_are_lawful : Lawful unit_runs
 unit_runs_are_lawful = record {
+  stays = λ c. record { unit = refl; enrolment = (run_is_lawful c.unit).stays c.enrolment };
   same_test = λ s t i alike.
       (law s).same_test s.run t.run i (alike_in_unit s t i alike)
-      ∙ ap (λ (unit : Course). (run_system unit).test t.run i) (same_unit s t alike.same_course);
+      ∙ ap (λ (unit : Course). (run_system unit).test t.run i) alike.grows.unit;
   same_reads = λ s t i alike.
       (law s).same_reads s.run t.run i (alike_in_unit s t i alike)
-      ∙ ap (λ (unit : Course). (run_system unit).reads t.run i) (same_unit s t alike.same_course);
+      ∙ ap (λ (unit : Course). (run_system unit).reads t.run i) alike.grows.unit;
   reads_by_mark = λ s t i sound sound_too course there there_too marks.
       let same = sym (same_unit s t course) in
       (law s).reads_by_mark s.run t.run i sound.run

@@ -9,7 +9,7 @@ use Rattle.ld_roles.specs.RoleBounds.{RoleBounds, role_bounds}
 use Rattle.ld_state.specs.Layout.{Layout, layout_of}
 use Rattle.ld_state.specs.RunState.{RunState}
 use Rattle.ld_state.specs.StateView.{Earlier}
-use Rattle.ld_firing.specs.RunSystem.{Enrolment, IsSoundRun, run_system}
+use Rattle.ld_firing.specs.RunSystem.{Enrolment, IsGrown, IsSoundRun, run_system}
 
 -- What the program keeps of a run that no firing touches: the names of the references by which it and a list
 -- were lent, in which order the cells stand, the bounds of the roles, the persons, and what is kept at the mark.
@@ -38,9 +38,14 @@ pub record Setting : Type 0 where
   pub enrolment : Enrolment
   pub frame : Frame
 
+-- The unit stays, and there are no fewer persons.
+pub record IsGrownSetting (before now : Setting) : Type 0 where
+  pub unit : before.unit ≡ now.unit
+  pub enrolment : IsGrown before.enrolment now.enrolment
+
 -- The run after a firing, of the same unit and with the same frame.
-abbrev pub with_run : UnitRun → RunState → UnitRun
-with_run s run = record s { run = run }
+abbrev pub with_fired_run : UnitRun → RunState → UnitRun
+with_fired_run s run = record s { run = run }
 
 -- Each part is that of the unit's own system.
 abbrev pub unit_runs : System
@@ -50,6 +55,7 @@ unit_runs = record {
   Course = Setting;
   IsSound = IsSoundUnitRun;
   course = λ s. record { unit = s.unit; enrolment = (run_system s.unit).course s.run; frame = s.frame };
+  Grows = IsGrownSetting;
   is_site = λ s i. (run_system s.unit).is_site s.run i;
   count = λ s. (run_system s.unit).count s.run;
   slots = λ s. (run_system s.unit).slots s.run;
@@ -58,7 +64,7 @@ unit_runs = record {
   mark = λ s i. (run_system s.unit).mark s.run i;
   reads = λ s i. (run_system s.unit).reads s.run i;
   size = λ s i. (run_system s.unit).size s.run i;
-  after = λ s i. with_run s ((run_system s.unit).after s.run i);
+  after = λ s i. with_fired_run s ((run_system s.unit).after s.run i);
   changed = λ s i. (run_system s.unit).changed s.run i;
   rejected = λ s i. (run_system s.unit).rejected s.run i;
   sent = λ s i. (run_system s.unit).sent s.run i;

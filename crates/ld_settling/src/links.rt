@@ -3,15 +3,15 @@ ghost use Rattle.std.specs.Prelude.{◌≡◌, ◌*◌, ◌+◌, ◌^◌, ◌<�
 ghost use Rattle.ld_graph.specs.Edges.{IsLinked};
 ghost use Rattle.ld_graph.specs.Table.{has};
 ghost use Rattle.ld_cascade.specs.Tidy.{Covers};
-ghost use Rattle.ld_cascade.specs.Wiring.{IsSameTable};
+ghost use Rattle.ld_cascade.specs.Wiring.{Follows, IsEmpty, IsSameTable, Wiring};
 ghost use Rattle.ld_names.specs.Rules.{rules_of};
 ghost use Rattle.ld_roles.specs.declared.limit.TheConstants.{SEATS};
 ghost use Rattle.ld_model.specs.declared.unit.Unit.{Unit as Course};
 ghost use Rattle.ld_state.specs.RunState.{RunState};
 ghost use Rattle.ld_state.specs.StateView.{IsStateOf, run_of};
 ghost use Rattle.ld_firing.specs.RunSystem.{IsSoundRun, run_system};
-ghost use Rattle.ld_firing.specs.Telling.{Tells};
-ghost use Rattle.ld_settling.specs.RunLinking.{AreDirty, AreLinksOf, IsPlaceCount, Widens};
+ghost use Rattle.ld_firing.specs.Telling.{Tells, TellsPersons};
+ghost use Rattle.ld_settling.specs.RunLinking.{AreAmong, AreDirty, AreLinksOf, AreRestingLinks, IsPlaceCount, Loosens, Widens};
 
 use ld_base::memory::NoMemory;
 use ld_cascade::links::Links;
@@ -59,9 +59,59 @@ impl RunLinks {
             → AreLinksOf unit t self.new }
         ensures only { (i : ℕ) → has self.new.dirty i ≡ true → (has self.old.dirty i ≡ true)
             ⊎ ((k : ℕ) × Contains changed.now k × IsLinked self.old.edges k i) }
-        ensures widens { Widens self.old self.new }
+        ensures follows { Follows self.old self.new }
     {
         self.links.touch_all(changed);
+    }
+
+    /// Sets the sites dirty that read one of the slots, and those of the persons who joined, of which there
+    /// were so many before; the reads of all these are asked again. Where the slots are told of all that
+    /// changed from one state of the run to this one, as persons joined or got or lost roles, the links are
+    /// those of this state then. After an error, which is want of memory, no range is smaller.
+    pub fn tell_persons(
+        &mut self,
+        unit: &PreparedUnit,
+        state: &State,
+        before: u32,
+        changed: &[u32],
+    ) -> Result<(), NoMemory>
+        requires own { IsStateOf unit.now state.now }
+        requires sound { IsSoundRun unit.now (run_of state.now) }
+        requires told { (s : RunState) × (length s.persons ≡ before) × IsSoundRun unit.now s
+            × AreLinksOf unit.now s self.old
+            × TellsPersons unit.now s (run_of state.now) changed.now }
+        ensures linked { OnOk result (AreLinksOf unit.now (run_of state.now) self.new) }
+        ensures follows { Follows self.old self.new }
+    {
+        let rules = rule_count(unit);
+        self.links.grow(state.slot_count(), rules * SEATS as u32)?;
+        self.links.loosen_readers(changed);
+        loosen_sites(&mut self.links, rules, before, state.persons());
+        Ok(())
+    }
+
+    /// Counts no site as linked anew, until the next settling: call it where the state is marked. The links
+    /// stay those of the run.
+    pub fn begin(&mut self)
+        ensures linked { (unit : Course) (s : RunState) → AreRestingLinks unit s self.old
+            → AreRestingLinks unit s self.new }
+        ensures relinked { IsEmpty self.new.relinked }
+        ensures widens { Widens self.old self.new }
+    {
+        self.links.begin();
+    }
+
+    /// Makes the links those of the run as it was where they began, once its state was taken back: only the
+    /// sites that were linked anew since then are dirty, and those that were loose. It takes no memory.
+    pub fn take_back(&mut self)
+        ensures linked { (unit : Course) (s : RunState) (begun : Wiring)
+            → AreRestingLinks unit s begun → Follows begun self.old
+            → AreRestingLinks unit s self.new }
+        ensures only { (i : ℕ) → has self.new.dirty i ≡ true → (has self.old.loose i ≡ true)
+            ⊎ (has self.old.relinked i ≡ true) }
+        ensures widens { Widens self.old self.new }
+    {
+        self.links.take_back();
     }
 
     /// Takes all edges away and sets all sites of the run dirty, however many it has got. After an error,
@@ -79,12 +129,12 @@ impl RunLinks {
     }
 
     /// Takes all edges away and sets all sites of the run dirty, which are in range: where its state was
-    /// taken back. It takes no memory.
+    /// taken back after its sites had been renewed. It takes no memory.
     pub fn reset(&mut self, unit: &PreparedUnit, state: &State)
         requires own { IsStateOf unit.now state.now }
         requires sound { IsSoundRun unit.now (run_of state.now) }
         requires covers { Covers (run_system unit.now) (run_of state.now) self.old }
-        ensures linked { AreLinksOf unit.now (run_of state.now) self.new }
+        ensures linked { AreRestingLinks unit.now (run_of state.now) self.new }
         ensures widens { Widens self.old self.new }
     {
         set_all_dirty(&mut self.links, rule_count(unit), places(state));
@@ -124,15 +174,35 @@ fn set_all_dirty(links: &mut Links, rules: u32, places: u32)
     }
 }
 
-/// Sets so many sites from this one on dirty.
+/// Sets the numbers of each rule's sites at these places, from one on and below another, dirty and loose.
+fn loosen_sites(links: &mut Links, rules: u32, from: u32, below: u32)
+    requires few { rules ≤ 600 }
+    requires places { from ≤ below }
+    requires seats { below ≤ SEATS }
+    requires range { rules * SEATS ≤ links.old.sites }
+    ensures dirty { AreAmong links.new.dirty rules from below }
+    ensures loose { AreAmong links.new.loose rules from below }
+    ensures rest { Loosens links.old links.new }
+{
+    for rule in 0..rules {
+        set_dirty(links, rule * SEATS as u32 + from, below - from);
+    }
+}
+
+/// Sets so many sites from this one on dirty, and loose.
 fn set_dirty(links: &mut Links, first: u32, count: u32)
     requires range { first + count ≤ links.old.sites }
     requires small { first + count < 2 ^ 32 }
     ensures dirty { (n : ℕ) → n < count → has links.new.dirty (first + n) ≡ true }
+    ensures loosened { (n : ℕ) → n < count → has links.new.loose (first + n) ≡ true }
     ensures keeps { (i : ℕ) → has links.old.dirty i ≡ true → has links.new.dirty i ≡ true }
+    ensures keeps_loose { (i : ℕ) → has links.old.loose i ≡ true → has links.new.loose i ≡ true }
+    ensures only { (i : ℕ) → has links.new.loose i ≡ true
+        → (has links.old.loose i ≡ true) ⊎ (has links.new.dirty i ≡ true) }
     ensures loose { IsSameTable links.old.dirty links.old.loose
         → IsSameTable links.new.dirty links.new.loose }
     ensures edges { links.new.edges ≡ links.old.edges }
+    ensures relinked { links.new.relinked ≡ links.old.relinked }
     ensures sites { links.new.sites ≡ links.old.sites }
 {
     for place in 0..count {

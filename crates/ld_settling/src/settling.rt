@@ -1,11 +1,11 @@
 //! The settling of a run.
 ghost use Rattle.std.specs.Prelude.{◌≡◌, IfOk, OnOk, Some, None};
-ghost use Rattle.ld_cascade.specs.Wiring.{IsEmpty};
+ghost use Rattle.ld_cascade.specs.Wiring.{Follows, IsEmpty};
 ghost use Rattle.ld_state.specs.StateView.{IsStateOf, run_of};
 ghost use Rattle.ld_firing.specs.RunSettling.{run_settling};
 ghost use Rattle.ld_firing.specs.RunSystem.{IsSoundRun};
 ghost use Rattle.ld_firing.specs.SettledView.{settlement_of};
-ghost use Rattle.ld_settling.specs.RunLinking.{AreLinksOf, Widens};
+ghost use Rattle.ld_settling.specs.RunLinking.{AreLinksOf};
 
 use crate::links::RunLinks;
 use crate::run_sites::RunSites;
@@ -22,7 +22,7 @@ use std::sync::ledger::Ledger;
 /// differ, until a sweep fires nothing. Only dirty sites are judged, and those that read what a firing
 /// changes. It answers `TurnBudget` exactly where one sweep more than the unit's turns fires. After either
 /// error the state is another one of the same persons, with the same mark: it has to be taken back, and
-/// then the links `reset`. (docs/MEANING.md, "Firing, sweeping, settling")
+/// then the links by `take_back` or `reset`. (docs/MEANING.md, "Firing, sweeping, settling")
 pub fn settle<L: Ledger>(
     alloc: Global,
     unit: &PreparedUnit,
@@ -43,7 +43,7 @@ pub fn settle<L: Ledger>(
     ensures own { IsStateOf unit.now state.new }
     ensures rows { state.new.rows ≡ state.old.rows }
     ensures kept { state.new.kept ≡ state.old.kept }
-    ensures widens { Widens links.old links.new }
+    ensures follows { Follows links.old links.new }
 {
     let mut sites = RunSites {
         alloc,
@@ -78,7 +78,7 @@ fn settle_sites<L: Ledger>(
     ensures kept { sites.new.state.now.kept ≡ sites.old.state.now.kept }
     ensures state { sites.new.state.ghost_name ≡ sites.old.state.ghost_name }
     ensures list { sites.new.list.ghost_name ≡ sites.old.list.ghost_name }
-    ensures widens { Widens links.old links.new }
+    ensures follows { Follows links.old links.new }
 {
     let turns = sites.unit.unit().turns;
     cascade(alloc, sites, links, turns, steps)

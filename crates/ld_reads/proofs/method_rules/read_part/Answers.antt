@@ -1,6 +1,6 @@
 use Rattle.std.proofs.Common.{◌++◌, length-append, arith}
 use Rattle.ld_expr.specs.Looks.{members_looks}
-use Rattle.ld_rules.specs.SiteLooks.{cell_list, target_looks}
+use Rattle.ld_rules.specs.SiteLooks.{cell_list, site_target_looks}
 use Rattle.ld_rules.specs.SiteTests.{opening_cell}
 use Rattle.ld_state.specs.RunState.{seen_in}
 use Rattle.ld_state.specs.StateView.{run_of}
@@ -15,7 +15,7 @@ returns-in_err-read_opened_act-clause-short g c =
     let part = c.args.part.now in
     so_err c.from_residual.result
     (short_first unit run (cell_list (opening_cell unit c.args.act.now))
-    (members_looks unit (seen_in unit run) part.role ++ target_looks unit (seen_in unit run) part)
+    (members_looks unit (seen_in unit run) part.role ++ site_target_looks unit (seen_in unit run) part)
     c.args.list.now c.in_err-read_opened_act.ensures.short)
 
 pub returns-in_err-read_members-clause-short : goal.returns-in_err-read_members-clause-short
@@ -24,7 +24,7 @@ returns-in_err-read_members-clause-short g c =
     let run = run_of c.args.reader.now.state.now in
     let part = c.args.part.now in
     let members = members_looks unit (seen_in unit run) part.role in
-    let target = target_looks unit (seen_in unit run) part in
+    let target = site_target_looks unit (seen_in unit run) part in
     so_err c.from_residual-in_err-read_members.result
     (short_then unit run (cell_list (opening_cell unit c.args.act.now)) (members ++ target)
     c.args.list.now c.read_opened_act.new.list c.in_ok-read_opened_act.ensures.gathers
@@ -45,7 +45,7 @@ returns-clause-short g c =
     let run = run_of c.args.reader.now.state.now in
     let part = c.args.part.now in
     let members = members_looks unit (seen_in unit run) part.role in
-    let target = target_looks unit (seen_in unit run) part in
+    let target = site_target_looks unit (seen_in unit run) part in
     on_err c.read_target.result
     (λ third. short_then unit run (cell_list (opening_cell unit c.args.act.now)) (members ++ target)
     c.args.list.now c.read_opened_act.new.list c.in_ok-read_opened_act.ensures.gathers
@@ -59,7 +59,7 @@ returns-clause-cost g c =
     let run = run_of c.args.reader.now.state.now in
     let part = c.args.part.now in
     let members = members_looks unit (seen_in unit run) part.role in
-    let target = target_looks unit (seen_in unit run) part in
+    let target = site_target_looks unit (seen_in unit run) part in
     omega (
       arith,
       c.read_target.ensures.cost,

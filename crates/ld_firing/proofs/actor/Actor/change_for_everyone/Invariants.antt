@@ -1,5 +1,5 @@
 use Rattle.std.proofs.Common.{◌≡◌, ◌+◌, ◌*◌, ◌≤◌, fold, map}
-use Rattle.ld_model.specs.Counting.{numbers_below}
+use Rattle.ld_base.specs.Numbers.{numbers_below}
 use Rattle.ld_expr.specs.Owners.{of_person}
 use Rattle.ld_firing.specs.Actions.{change_for}
 use Rattle.ld_firing.specs.Costs.{term_leaves}

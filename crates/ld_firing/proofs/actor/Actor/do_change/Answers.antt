@@ -1,6 +1,6 @@
 use Rattle.std.proofs.Common.{◌≡◌, ◌+◌, ◌*◌, ◌∙◌, ap, ap₂, sym, length, map, arith}
 use Rattle.std.proofs.lemmas.List.FromFn.{length-map-range_with_len}
-use Rattle.ld_model.specs.Counting.{numbers_below}
+use Rattle.ld_base.specs.Numbers.{numbers_below}
 use Rattle.ld_expr.specs.Owners.{of_person}
 use Rattle.ld_firing.specs.Actions.{is_of_persons, owners_of_change}
 use Rattle.ld_firing.specs.Costs.{term_leaves}

@@ -1,6 +1,6 @@
 use Rattle.std.proofs.Common.{◌≡◌, ◌+◌, ◌*◌, ◌≤◌, filter, length, map}
 use Rattle.std.specs.List.{list_any}
-use Rattle.ld_model.specs.Counting.{numbers_below}
+use Rattle.ld_base.specs.Numbers.{numbers_below}
 use Rattle.ld_expr.specs.Membership.{is_member_of}
 use Rattle.ld_state.specs.RunState.{seen_in}
 use Rattle.ld_state.specs.StateView.{run_of}

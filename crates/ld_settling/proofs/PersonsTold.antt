@@ -1,0 +1,186 @@
+-- The links of a run in which persons joined, or got or lost roles.
+use Rattle.std.proofs.Common.{◌≡◌, refl, sym, ap, subst, ◌∙◌, ℕ, ◌+◌, ◌*◌, ◌<◌, ◌≤◌, ◌⊎◌, inl, inr, List, [], length, get_or, Some, Bool, true, false, is_some, Contains, arith}
+use Rattle.std.proofs.lemmas.Bool.{cases_eq, cases_lt}
+use Rattle.std.proofs.lemmas.Option.{slice_get_within}
+use Rattle.ld_graph.specs.Edges.{Edges, IsLinked, edge_room}
+use Rattle.ld_graph.specs.Table.{has}
+use Rattle.ld_cascade.specs.Tidy.{AreLoosened, Changes, Covers, Touched}
+use Rattle.ld_cascade.specs.Wiring.{Follows, HasSameRow, IsSameTable, IsWith, Wiring}
+use Rattle.ld_cascade.proofs.Touching.{bound_touched, tidy_touched}
+use Rattle.ld_model.specs.declared.cell.Owner.{Owner}
+use Rattle.ld_model.specs.declared.cell.Owner.TheVariants.{Run, Person}
+use Rattle.ld_model.specs.declared.unit.Unit.{Unit as Course}
+use Rattle.ld_names.specs.Rules.{Site, rules_of}
+use Rattle.ld_roles.specs.declared.limit.TheConstants.{SEATS}
+use Rattle.ld_state.specs.RunState.{RunState}
+use Rattle.ld_state.proofs.Elements.{different}
+use Rattle.ld_rules.specs.LawWords.{HasOwner}
+use Rattle.ld_rules.specs.SiteTests.{site_mark}
+use Rattle.ld_firing.specs.RunSystem.{IsSoundRun, owner_number, run_system, site_at, verdict_in}
+use Rattle.ld_firing.specs.Telling.{TellsPersons}
+use Rattle.ld_firing.proofs.Growing.{site_stays, site_was}
+use Rattle.ld_firing.proofs.Lawful.{run_is_lawful}
+use Rattle.ld_firing.proofs.Sites.{IsOwner, a_person, the_run, said_of, site_found, some_of}
+use Rattle.ld_firing.proofs.SitesNumbered.{seats_of}
+use Rattle.ld_settling.specs.RunLinking.{AreAmong, AreLinksOf, Loosens}
+
+has_owner : (s : RunState) (own : Bool) (owner : Owner) → IsOwner (length s.persons) own owner → HasOwner s owner
+has_owner s own owner (a_person p below) = below
+has_owner s own owner the_run = tt
+
+-- Where a number has its site in a run whose persons are fewer.
+pub record IsNew (unit : Course) (s t : RunState) (i : ℕ) : Type 0 where
+  pub rule : ℕ
+  pub place : ℕ
+  pub number : rule * SEATS + place ≡ i
+  pub ruled : rule < length (rules_of unit)
+  pub from : length s.persons ≤ place
+  pub below : place < length t.persons
+
+module _ (unit : Course) (s t : RunState) (told : List ℕ) (sound : IsSoundRun unit s) (sound_after : IsSoundRun unit t)
+    (tells : TellsPersons unit s t told) where
+  stays : (i : ℕ) (site : Site) → site_at unit s i ≡ Some site → site_at unit t i ≡ Some site
+  stays i site at = site_stays unit s t i site (sym tells.seats) tells.persons (seats_of unit t sound_after) at
+
+  -- What is told is what they change.
+  changes_told : Changes (run_system unit) s t told
+  changes_told = record {
+    sound_before = sound;
+    sound_after = sound_after;
+    grows = record { seats = sym tells.seats; persons = tells.persons };
+    keeps_sites = λ i there. let found = some_of (site_at unit s i) there in ap is_some (stays i found.0 found.1);
+    same_marks = λ i there.
+        let found = some_of (site_at unit s i) there in
+        let site = found.0 in
+        let owned = (site_found unit s i site found.1).owned in
+        said_of unit t i site (λ one. verdict_in (t.cells (site_mark one))) (Some false) (stays i site found.1)
+        ∙ ap verdict_in (tells.marks site.rule site.owner (has_owner s _ site.owner owned))
+        ∙ sym (said_of unit s i site (λ one. verdict_in (s.cells (site_mark one))) (Some false) found.1);
+    others = tells.untold;
+  }
+
+  -- A site that there was not is one of a person who joined.
+  new_site : t.seats ≡ SEATS → (i : ℕ) → (run_system unit).is_site s i ≡ false → (run_system unit).is_site t i ≡ true
+      → IsNew unit s t i
+  new_site seats i out there =
+      let found = some_of (site_at unit t i) there in
+      let site = found.0 in
+      let has_site = site_found unit t i site found.1 in
+      let number : site.rule * SEATS + owner_number site.owner ≡ i = ap (λ n. site.rule * n + owner_number site.owner) (sym seats) ∙ has_site.number in
+      by site found.1 (slice_get_within (rules_of unit) site.rule has_site.rule has_site.ruled) number _ site.owner refl has_site.owned
+    where
+      was : (site : Site) → site_at unit t i ≡ Some site
+          → ((own : Bool) → IsOwner (length t.persons) own site.owner → IsOwner (length s.persons) own site.owner) → IsNew unit s t i
+      was site at owned =
+          different (sym (ap is_some (site_was unit s t i site (sym tells.seats) (seats_of unit s sound) at owned)) ∙ out)
+
+      fewer : (p : ℕ) → p < length s.persons → (owner : Owner) → owner ≡ Person (record { 0 = p })
+          → (own : Bool) → IsOwner (length t.persons) own owner → IsOwner (length s.persons) own owner
+      fewer p below owner is own (a_person q _) = a_person q (omega (arith, below, ap owner_number is))
+      fewer p below owner is own the_run = the_run
+
+      same_run : (owner : Owner) → owner ≡ Run → (own : Bool) → IsOwner (length t.persons) own owner → IsOwner (length s.persons) own owner
+      same_run owner is own (a_person q _) = absurd (cc)
+      same_run owner is own the_run = the_run
+
+      by : (site : Site) → site_at unit t i ≡ Some site → site.rule < length (rules_of unit)
+          → site.rule * SEATS + owner_number site.owner ≡ i → (own : Bool) (owner : Owner) → site.owner ≡ owner
+          → IsOwner (length t.persons) own owner → IsNew unit s t i
+      by site at ruled number own owner is (a_person p below) = elim (cases_lt p (length s.persons)) [
+        | inl was_there ↦ was site at (fewer p was_there site.owner is)
+        | inr new ↦ record {
+          rule = site.rule;
+          place = p;
+          number = ap (λ o. site.rule * SEATS + owner_number o) (sym is) ∙ number;
+          ruled = ruled;
+          from = new;
+          below = below;
+        }
+      ]
+      by site at ruled number own owner is the_run = was site at (same_run site.owner is)
+
+-- Links in which sites were set loose follow those before.
+pub follows_loosened : {old now : Wiring} → Loosens old now → Follows old now
+follows_loosened {old} {now} l = record {
+  sites = let e = l.sites in omega arith;
+  slots = let e : now.edges.slots ≡ old.edges.slots = ap (λ (x : Edges). x.slots) l.edges in omega arith;
+  room = let e : edge_room now.edges ≡ edge_room old.edges = ap (λ (x : Edges). edge_room x) l.edges in omega arith;
+  was_out = λ i out. subst (λ (t : List Bool). has t i ≡ false) l.relinked out;
+  rows = λ i out. ap (λ (x : Edges). get_or x.rows i []) l.edges;
+  loose = λ i is_in. inl (l.loose i is_in);
+}
+
+-- The readers of the slots are dirty, and loose, and else no more is told.
+pub record IsTold (told : List ℕ) (old now : Wiring) : Type 0 where
+  pub rest : Loosens old now
+  pub readers : (k : ℕ) → Contains told k → (i : ℕ) → IsLinked old.edges k i → has now.dirty i ≡ true
+  pub loosens : AreLoosened told old now
+
+-- The links before, once they had room, once the slots were told, and once the sites of the persons who joined were
+-- set loose.
+module _ (unit : Course) (s t : RunState) (told : List ℕ) (sound : IsSoundRun unit s) (sound_after : IsSoundRun unit t)
+    (tells : TellsPersons unit s t told) (seats : t.seats ≡ SEATS) (old roomy touched now : Wiring)
+    (rows : (i : ℕ) → HasSameRow old.edges roomy.edges i) (same_dirty : IsSameTable old.dirty roomy.dirty)
+    (same_loose : IsSameTable old.loose roomy.loose) (is_told : IsTold told roomy touched) (loosened : Loosens touched now)
+    (dirty : AreAmong now.dirty (length (rules_of unit)) (length s.persons) (length t.persons))
+    (loose : AreAmong now.loose (length (rules_of unit)) (length s.persons) (length t.persons)) where
+  linked : (k i : ℕ) → IsLinked old.edges k i → IsLinked roomy.edges k i
+  linked k i link = subst (λ (row : List ℕ). Contains row k) (sym (rows i)) link
+
+  among : (table : List Bool) → AreAmong table (length (rules_of unit)) (length s.persons) (length t.persons) → (i : ℕ)
+      → (run_system unit).is_site s i ≡ false → (run_system unit).is_site t i ≡ true → has table i ≡ true
+  among table are i out there =
+      let new = new_site unit s t told sound sound_after tells seats i out there in
+      subst (λ n. has table n ≡ true) new.number (are new.rule new.place new.ruled new.from new.below)
+
+  all_touched : Touched (run_system unit) s t told old now
+  all_touched = record {
+    same_rows = λ i. ap (λ (e : Edges). get_or e.rows i []) (loosened.edges ∙ is_told.rest.edges) ∙ rows i;
+    keeps = λ i was. loosened.dirty i (is_told.rest.dirty i (same_dirty i ∙ was));
+    readers = λ k there i link. loosened.dirty i (is_told.readers k there i (linked k i link));
+    loosens = inr (λ k there i link. loosened.loose i (is_told.loosens k there i (linked k i link)));
+    fresh = among now.dirty dirty;
+    keeps_loose = λ i was. loosened.loose i (is_told.rest.loose i (same_loose i ∙ was));
+    fresh_loose = among now.loose loose;
+    only_loose = λ i is_in. elim (loosened.only i is_in) [
+      | inl was ↦ elim (is_told.rest.only i was) [
+        | inl first ↦ inl (sym (same_loose i) ∙ first)
+        | inr became ↦ inr (loosened.dirty i became)
+      ]
+      | inr became ↦ inr became
+    ];
+  }
+
+  -- The links are those of the run as it is now.
+  pub links_of_persons : AreLinksOf unit s old → Covers (run_system unit) t now → AreLinksOf unit t now
+  links_of_persons links covers = record {
+    tidy = tidy_touched (run_system unit) (run_is_lawful unit) s t told old now links.tidy
+        (changes_told unit s t told sound sound_after tells) all_touched;
+    bound = bound_touched (run_system unit) (run_is_lawful unit) s t told old now links.bound
+        (changes_told unit s t told sound sound_after tells) all_touched;
+    covers = covers;
+  }
+
+-- ---- tables
+
+-- What was in the table is in the one with a site more.
+pub still_with : {table later : List Bool} {m : ℕ} → IsWith table later m → (i : ℕ) → has table i ≡ true → has later i ≡ true
+still_with {table} {later} {m} more i was = elim (cases_eq i m) [
+  | inl is ↦ subst (λ n. has later n ≡ true) (sym is) more.there
+  | inr other ↦ more.others i other ∙ was
+]
+
+-- Two tables that have the same have it once both have the site more.
+pub same_with : {a b c d : List Bool} {m : ℕ} → IsWith a c m → IsWith b d m → IsSameTable a b → IsSameTable c d
+same_with {a} {b} {c} {d} {m} first second same i = elim (cases_eq i m) [
+  | inl is ↦ subst (λ n. has d n ≡ has c n) (sym is) (second.there ∙ sym first.there)
+  | inr other ↦ second.others i other ∙ same i ∙ sym (first.others i other)
+]
+
+-- What is in the one with a site more was in the other, or is that site.
+pub there_or_it : {table later : List Bool} {m : ℕ} → IsWith table later m → (i : ℕ) → has later i ≡ true
+    → (has table i ≡ true) ⊎ (i ≡ m)
+there_or_it {table} {later} {m} more i there = elim (cases_eq i m) [
+  | inl is ↦ inr is
+  | inr other ↦ inl (sym (more.others i other) ∙ there)
+]

@@ -1,0 +1,68 @@
+use Rattle.std.proofs.Common.{arith, refl, sym, ap, ◌∙◌, subst}
+use Rattle.ld_graph.specs.Edges.{Edges}
+use Rattle.ld_cascade.specs.Wiring.{Follows, Wiring}
+use Rattle.ld_cascade.proofs.Edges.{follows_then}
+use Rattle.ld_state.specs.StateView.{run_of}
+use Rattle.ld_firing.proofs.SeenInStates.{persons_counted}
+use Rattle.ld_settling.specs.RunLinking.{AreLinksOf}
+use Rattle.ld_settling.proofs.PersonsTold.{follows_loosened, links_of_persons}
+use Rattle.ld_settling.proofs.RunLinks.{slots_many}
+use Rattle.ld_settling.proofs.links.RunLinks.tell_persons.Goals as goal
+
+pub loosen_readers-requires : goal.loosen_readers-requires
+loosen_readers-requires c =
+    let tells = c.requires.told.4 in
+    record {
+      slots = λ k there.
+          omega (
+            arith,
+            tells.slots k there,
+            c.in_ok-grow.ensures.slots,
+            c.slot_count.ensures,
+            slots_many c.args.unit.now c.args.state.now c.requires.own,
+          );
+    }
+
+pub returns-clause-linked : goal.returns-clause-linked
+returns-clause-linked c =
+    let unit = c.args.unit.now in
+    let t = run_of c.args.state.now in
+    let told = c.requires.told in
+    let grown = c.in_ok-grow.ensures in
+    let r = c.loosen_readers.ensures in
+    let e = c.loosen_sites.ensures in
+    let count = c.rule_count-rules.ensures.count in
+    let persons = persons_counted c.args.state.now in
+    links_of_persons unit told.0 t c.args.changed.now told.2 c.requires.sound told.4 refl
+    c.self.inside.links c.grow.new.self c.loosen_readers.new.self c.loosen_sites.new.links
+    grown.edges grown.dirty grown.loose
+    (record {
+      rest = record { dirty = r.keeps; loose = r.keeps_loose; only = r.only; edges = r.edges; relinked = r.relinked; sites = r.sites };
+      readers = r.readers;
+      loosens = r.loosens;
+    })
+    e.rest
+    (λ rule place lower from below. e.dirty rule place (omega (arith, lower, count)) (omega (arith, from, told.1))
+    (omega (arith, below, c.persons.ensures, persons)))
+    (λ rule place lower from below. e.loose rule place (omega (arith, lower, count)) (omega (arith, from, told.1))
+    (omega (arith, below, c.persons.ensures, persons)))
+    (subst (λ (w : Wiring). AreLinksOf unit told.0 w) (sym c.self.view_is) told.3)
+    (record {
+      sites = omega (arith, grown.sites, r.sites, e.rest.sites, count);
+      slots = omega (
+        arith,
+        grown.slots,
+        ap (λ (edges : Edges). edges.slots) (e.rest.edges ∙ r.edges),
+        c.slot_count.ensures,
+        slots_many unit c.args.state.now c.requires.own,
+      );
+    })
+
+pub returns-in_err-grow-clause-follows : goal.returns-in_err-grow-clause-follows
+returns-in_err-grow-clause-follows c =
+    subst (λ (w : Wiring). Follows w c.grow.new.self) c.self.view_is c.grow.ensures.follows
+
+pub returns-clause-follows : goal.returns-clause-follows
+returns-clause-follows c =
+    subst (λ (w : Wiring). Follows w c.loosen_sites.new.links) c.self.view_is
+    (follows_then c.grow.ensures.follows (follows_then c.loosen_readers.ensures.follows (follows_loosened c.loosen_sites.ensures.rest)))
