@@ -1,8 +1,8 @@
 -- The links of a run: as their ranges grow, as the run is refreshed, and once a command has changed it directly.
-use Rattle.std.proofs.Common.{◌≡◌, refl, sym, ap, subst, ◌∙◌, ℕ, ℤ, List, [], Some, None, Bool, true, false, ◌&&◌, is_some, Option, if◌then◌else◌, arith}
+use Rattle.std.proofs.Common.{◌≡◌, refl, sym, ap, subst, ◌∙◌, ℕ, ℤ, List, [], length, Some, None, Bool, true, false, ◌&&◌, is_some, Option, if◌then◌else◌, arith}
 use Rattle.std.proofs.Math.Nat.{le_trans}
 use Rattle.ld_cascade.specs.Tidy.{Covers}
-use Rattle.ld_cascade.specs.Wiring.{Wiring}
+use Rattle.ld_cascade.specs.Wiring.{Follows, Wiring}
 use Rattle.ld_value.specs.Datum.{Datum, moment_datum}
 use Rattle.ld_model.specs.declared.cell.CellName.{CellName}
 use Rattle.ld_model.specs.declared.cell.CellName.TheVariants.{Started}
@@ -16,15 +16,17 @@ use Rattle.ld_state.specs.RunCells.{begins_as}
 use Rattle.ld_state.specs.RunState.{RunState, made_at, with_cell}
 use Rattle.ld_state.proofs.Elements.{different}
 use Rattle.ld_firing.specs.RunSystem.{IsSoundRun, run_system}
-use Rattle.ld_firing.specs.Telling.{Tells}
+use Rattle.ld_firing.specs.Telling.{Tells, TellsPersons}
 use Rattle.ld_firing.proofs.LawsOpenings.{told_apart}
 use Rattle.ld_firing.proofs.Told.{IsNoMark}
 use Rattle.ld_settling.specs.RunLinking.{Widens}
-use Rattle.ld_run.specs.AdmittedView.{IsPossible}
-use Rattle.ld_run.specs.Changes.{directly_changed, with_first}
-use Rattle.ld_run.specs.Checks.{is_started}
-use Rattle.ld_run.specs.Commands.{Admitted, enrols, assigns, drops, starts, opens, completes, sets, clears, gets, shows_tree, shows_outbox, reports, ticks, has_change, renews_sites}
-use Rattle.ld_run.specs.Linked.{HadLinks, HasLinks}
+use Rattle.ld_checks.specs.AdmittedView.{IsPossible}
+use Rattle.ld_run.specs.Changes.{changes_persons, directly_changed, with_first, has_change, renews_sites}
+use Rattle.ld_checks.specs.Checks.{is_started}
+use Rattle.ld_checks.specs.Commands.{Admitted, enrols, assigns, drops, starts, opens, completes, sets, clears, gets, shows_tree, shows_outbox, reports, ticks}
+use Rattle.ld_run.specs.Linked.{HadLinks, HasLinks, MayRelink, TellsBy, relinking_of, relinks_all}
+use Rattle.ld_run.specs.declared.settling.Relinking.{Relinking}
+use Rattle.ld_run.specs.declared.settling.Relinking.TheVariants.{Told, ToldPersons, Renewed}
 
 -- ---- ranges
 
@@ -33,6 +35,9 @@ widens_still wiring = record { sites = omega arith; slots = omega arith }
 
 pub widens_then : {first middle last : Wiring} → Widens first middle → Widens middle last → Widens first last
 widens_then early late = record { sites = le_trans early.sites late.sites; slots = le_trans early.slots late.slots }
+
+pub widens_following : {old now : Wiring} → Follows old now → Widens old now
+widens_following follows = record { sites = follows.sites; slots = follows.slots }
 
 pub covers_wider : (unit : Course) (s : RunState) {old now : Wiring} → Widens old now → Covers (run_system unit) s old
     → Covers (run_system unit) s now
@@ -68,13 +73,13 @@ first_started s thing p value = by (is_some (s.cells (opened_cell thing (of_pers
     by true = refl
     by false = refl
 
--- And so does a direct change after which not all sites are renewed.
+-- And so does a direct change that does not start it.
 stays_started : (unit : Course) (store : GlobalValues) (s : RunState) (moment : ℤ) (command : Admitted)
     → IsPossible unit s command → renews_sites command ≡ false
     → is_started (directly_changed unit store s moment command) ≡ is_started s
-stays_started unit store s moment (enrols name) possible plain = different plain
-stays_started unit store s moment (assigns p role) possible plain = different plain
-stays_started unit store s moment (drops p role) possible plain = different plain
+stays_started unit store s moment (enrols name) possible plain = refl
+stays_started unit store s moment (assigns p role) possible plain = refl
+stays_started unit store s moment (drops p role) possible plain = refl
 stays_started unit store s moment starts possible plain = different plain
 stays_started unit store s moment (opens p thing) possible plain = first_started s thing p (moment_datum moment)
 stays_started unit store s moment (completes p thing) possible plain = refl
@@ -109,6 +114,64 @@ still_there unit store s moment (shows_outbox p) none = refl
 still_there unit store s moment reports none = refl
 still_there unit store s moment ticks none = refl
 
+-- ---- how the links follow a change
+
+may_relink : (unit : Course) (t : RunState) (changed : List ℕ) (wiring : Wiring) (how : Relinking)
+    → HadLinks how unit t changed wiring → MayRelink how unit t changed wiring
+may_relink unit t changed wiring Told had = had
+may_relink unit t changed wiring (ToldPersons before) had = had
+may_relink unit t changed wiring Renewed had = tt
+
+renewed : (command : Admitted) (n : ℕ) → renews_sites command ≡ true → relinking_of command n ≡ Renewed
+renewed (enrols name) n is = different (sym is)
+renewed (assigns p role) n is = different (sym is)
+renewed (drops p role) n is = different (sym is)
+renewed starts n is = refl
+renewed (opens p thing) n is = different (sym is)
+renewed (completes p thing) n is = different (sym is)
+renewed (sets cell value) n is = different (sym is)
+renewed (clears cell) n is = different (sym is)
+renewed (gets cell) n is = different (sym is)
+renewed (shows_tree p) n is = different (sym is)
+renewed (shows_outbox p) n is = different (sym is)
+renewed reports n is = different (sym is)
+renewed ticks n is = different (sym is)
+
+-- A command that renews no sites relinks not all of them.
+pub relinks_some : (command : Admitted) (n : ℕ) → renews_sites command ≡ false → relinks_all (relinking_of command n) ≡ false
+relinks_some (enrols name) n is = refl
+relinks_some (assigns p role) n is = refl
+relinks_some (drops p role) n is = refl
+relinks_some starts n is = is
+relinks_some (opens p thing) n is = refl
+relinks_some (completes p thing) n is = refl
+relinks_some (sets cell value) n is = refl
+relinks_some (clears cell) n is = refl
+relinks_some (gets cell) n is = refl
+relinks_some (shows_tree p) n is = refl
+relinks_some (shows_outbox p) n is = refl
+relinks_some reports n is = refl
+relinks_some ticks n is = refl
+
+-- What a direct change tells is what its links are to be told.
+pub tells_by : (unit : Course) (s t : RunState) (changed : List ℕ) (command : Admitted)
+    → (renews_sites command ≡ false → changes_persons command ≡ false → Tells unit s t [] changed)
+    → (changes_persons command ≡ true → TellsPersons unit s t changed)
+    → TellsBy (relinking_of command (length s.persons)) unit s t changed
+tells_by unit s t changed (enrols name) tells persons = (refl, persons refl)
+tells_by unit s t changed (assigns p role) tells persons = (refl, persons refl)
+tells_by unit s t changed (drops p role) tells persons = (refl, persons refl)
+tells_by unit s t changed starts tells persons = tt
+tells_by unit s t changed (opens p thing) tells persons = tells refl refl
+tells_by unit s t changed (completes p thing) tells persons = tells refl refl
+tells_by unit s t changed (sets cell value) tells persons = tells refl refl
+tells_by unit s t changed (clears cell) tells persons = tells refl refl
+tells_by unit s t changed (gets cell) tells persons = tells refl refl
+tells_by unit s t changed (shows_tree p) tells persons = tells refl refl
+tells_by unit s t changed (shows_outbox p) tells persons = tells refl refl
+tells_by unit s t changed reports tells persons = tells refl refl
+tells_by unit s t changed ticks tells persons = tells refl refl
+
 module _ (unit : Course) (store : GlobalValues) (s t : RunState) (moment : ℤ) (command : Admitted) (wiring : Wiring)
     (is : t ≡ directly_changed unit store s moment command) (links : HasLinks unit s wiring) where
   -- Where the run does not settle, its links are what they were.
@@ -120,16 +183,23 @@ module _ (unit : Course) (store : GlobalValues) (s t : RunState) (moment : ℤ) 
       by false changes none =
           subst (λ r. HasLinks unit r wiring) (still_there unit store s moment command changes ∙ sym is) links
 
-  -- Where it settles and not all of its sites are renewed, they are those of the run before.
-  pub links_before : IsSoundRun unit s → IsPossible unit s command → (changed : List ℕ) → Tells unit s t [] changed
-      → (has_change command && is_started t) ≡ true → renews_sites command ≡ false → HadLinks unit t changed wiring
-  links_before sound possible changed tells settles plain = by (has_change command) settles
+  -- Where it settles, they are those of the run before, or are renewed.
+  pub links_before : IsSoundRun unit s → IsPossible unit s command → (changed : List ℕ)
+      → TellsBy (relinking_of command (length s.persons)) unit s t changed → (has_change command && is_started t) ≡ true
+      → MayRelink (relinking_of command (length s.persons)) unit t changed wiring
+  links_before sound possible changed tells settles = by (renews_sites command) refl
     where
-      by : (change : Bool) → (change && is_started t) ≡ true → HadLinks unit t changed wiring
-      by false settles = different (sym settles)
-      by true settles = record {
+      started : (change : Bool) → (change && is_started t) ≡ true → is_started t ≡ true
+      started false settles = different (sym settles)
+      started true settles = settles
+
+      by : (renews : Bool) → renews_sites command ≡ renews → MayRelink (relinking_of command (length s.persons)) unit t changed wiring
+      by true renews =
+          subst (λ how. MayRelink how unit t changed wiring) (sym (renewed command (length s.persons) renews)) tt
+      by false plain = may_relink unit t changed wiring (relinking_of command (length s.persons)) (record {
         earlier = s;
         sound = sound;
-        links = links (sym (ap is_started is ∙ stays_started unit store s moment command possible plain) ∙ settles);
+        links = (links (sym (ap is_started is ∙ stays_started unit store s moment command possible plain)
+            ∙ started (has_change command) settles)).links;
         tells = tells;
-      }
+      })

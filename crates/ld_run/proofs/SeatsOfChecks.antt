@@ -11,9 +11,9 @@ use Rattle.ld_roles.specs.Roster.{short_at_start}
 use Rattle.ld_state.specs.RunState.{RunState}
 use Rattle.ld_firing.specs.Seating.{reseated}
 use Rattle.ld_firing.proofs.SeatsKept.{seen_same}
-use Rattle.ld_run.specs.Checks.{Passed, admitted, in_time, running, not_running, the_person, not_enrolled, the_role, does_not_hold, holds_it, has_room, keeps_apart, none_short, shortage_if_running, the_activity, only_by_choice, the_property, the_cell, fitting_value, may_write, is_started}
-use Rattle.ld_run.specs.Commands.{Admitted, enrols, sets, clears}
-use Rattle.ld_run.specs.Refusals.{Refusal, RunFull, NotAllowed, ◌>>=◌, ◌>>◌, refuse_if}
+use Rattle.ld_checks.specs.Checks.{Passed, admitted, in_time, running, not_running, the_person, not_enrolled, the_role, does_not_hold, holds_it, has_room, keeps_apart, none_short, shortage_if_running, the_activity, only_by_choice, the_property, the_cell, fitting_value, may_write, is_started}
+use Rattle.ld_checks.specs.Commands.{Admitted, enrols, sets, clears}
+use Rattle.ld_checks.specs.Refusals.{Refusal, RunFull, NotAllowed, ◌unless_refused◌ as ◌>>=◌, ◌>>◌, refuse_if}
 use Rattle.ld_run.specs.SameSteps.{is_enrolment}
 
 -- The check of writing looks at what is seen of the run.

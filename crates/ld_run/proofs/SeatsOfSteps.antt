@@ -10,11 +10,11 @@ use Rattle.ld_state.specs.RunState.{RunState}
 use Rattle.ld_firing.specs.Seating.{IsSameButSeats, reseated, settlement_reseated}
 use Rattle.ld_firing.specs.SiteWalk.{HasSeats}
 use Rattle.ld_firing.proofs.Seats.{same_reseated}
-use Rattle.ld_run.specs.Changes.{directly_changed}
-use Rattle.ld_run.specs.Checks.{Passed, admitted, in_time, not_enrolled, is_started}
-use Rattle.ld_run.specs.Commands.{Admitted, enrols, assigns, drops, starts, opens, completes, sets, clears, gets, shows_tree, shows_outbox, reports, ticks, has_change}
+use Rattle.ld_run.specs.Changes.{directly_changed, has_change}
+use Rattle.ld_checks.specs.Checks.{Passed, admitted, in_time, not_enrolled, is_started}
+use Rattle.ld_checks.specs.Commands.{Admitted, enrols, assigns, drops, starts, opens, completes, sets, clears, gets, shows_tree, shows_outbox, reports, ticks}
 use Rattle.ld_sharing.specs.Globals.{taking_in, giving_back}
-use Rattle.ld_run.specs.Refusals.{Refusal, RunFull, ◌>>=◌, ◌>>◌, refuse_if}
+use Rattle.ld_checks.specs.Refusals.{Refusal, RunFull, ◌unless_refused◌ as ◌>>=◌, ◌>>◌, refuse_if}
 use Rattle.ld_run.specs.RunStep.{DoneCommand, run_step, settled, open_for_it, at_moment}
 use Rattle.ld_run.specs.SameSteps.{step_reseated, is_enrolment}
 use Rattle.ld_run.proofs.SeatsOfStages.{IsKept, bound_through, changed_through, open_same, settled_keeps, settled_through, still_seated, then_through}

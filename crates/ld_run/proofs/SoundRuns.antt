@@ -5,10 +5,11 @@ use Rattle.std.proofs.lemmas.Bool.{and_from, leb-true, leb-false}
 use Rattle.std.proofs.lemmas.List.{map-append}
 use Rattle.std.specs.List.{list_any, position_from}
 use Rattle.std.specs.Str.{bytes_eq}
+use Rattle.ld_base.specs.Numbers.{numbers_below}
 use Rattle.ld_value.specs.Calendar.{IsMoment}
 use Rattle.ld_value.specs.Datum.{Datum, truth_datum, moment_datum}
 use Rattle.ld_value.specs.Values.{is_whole}
-use Rattle.ld_model.specs.Counting.{each_numbered, numbers_below}
+use Rattle.ld_model.specs.Counting.{each_numbered}
 use Rattle.ld_model.specs.Properties.{is_personal}
 use Rattle.ld_model.specs.Roles.{roles_of}
 use Rattle.ld_model.specs.declared.cell.CellName.{CellName}
@@ -37,9 +38,11 @@ use Rattle.ld_state.proofs.SameCells.{same_number}
 use Rattle.ld_rules.specs.LawWords.{is_property}
 use Rattle.ld_firing.specs.RunSystem.{HaveNamesOfTheirOwn, IsSoundRun}
 use Rattle.ld_firing.proofs.LawsOpenings.{told_apart}
-use Rattle.ld_run.specs.AdmittedView.{HasPropertyCell, HasPersonAndRole, HasPersonAndActivity, IsPossible, IsTellable, JoinsFitting}
+use Rattle.ld_checks.specs.AdmittedView.{HasPropertyCell, HasPersonAndRole, HasPersonAndActivity, IsPossible}
+use Rattle.ld_replies.specs.Printing.{IsTellable}
+use Rattle.ld_run.specs.FittingCommands.{JoinsFitting}
 use Rattle.ld_run.specs.Changes.{directly_changed, with_first}
-use Rattle.ld_run.specs.Commands.{Admitted, enrols, assigns, drops, starts, opens, completes, sets, clears, gets, shows_tree, shows_outbox, reports, ticks}
+use Rattle.ld_checks.specs.Commands.{Admitted, enrols, assigns, drops, starts, opens, completes, sets, clears, gets, shows_tree, shows_outbox, reports, ticks}
 use Rattle.ld_sharing.specs.Fitting.{BeginsFitting, TakesFitting}
 use Rattle.ld_sharing.specs.Globals.{store_says, taking_in}
 use Rattle.ld_run.specs.RunStep.{at_moment}

@@ -10,11 +10,11 @@ use Rattle.ld_state.specs.RunState.{RunState}
 use Rattle.ld_state.specs.StateView.{Earlier, IsStateOf, StateView, marked, run_before, run_of, run_with}
 use Rattle.ld_state.proofs.Elements.{some_same}
 use Rattle.ld_firing.specs.RunSettling.{Settlement}
-use Rattle.ld_run.specs.Changes.{directly_changed}
-use Rattle.ld_run.specs.Checks.{admitted, is_started}
-use Rattle.ld_run.specs.Commands.{Admitted, has_change}
+use Rattle.ld_run.specs.Changes.{directly_changed, has_change}
+use Rattle.ld_checks.specs.Checks.{admitted, is_started}
+use Rattle.ld_checks.specs.Commands.{Admitted}
 use Rattle.ld_sharing.specs.Globals.{giving_back, taking_in}
-use Rattle.ld_run.specs.Refusals.{Refusal, ◌>>=◌, ◌>>◌}
+use Rattle.ld_checks.specs.Refusals.{Refusal, ◌unless_refused◌ as ◌>>=◌, ◌>>◌}
 use Rattle.ld_run.specs.RunStep.{DoneCommand, at_moment, done_by, open_for_it, run_step, settled}
 
 module _ (unit : Course) (store : GlobalValues) (s : RunState) (moment : ℤ) (command : Admitted) where

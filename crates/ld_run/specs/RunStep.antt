@@ -11,11 +11,11 @@ use Rattle.ld_lines.specs.declared.command.RunCommand.{RunCommand}
 use Rattle.ld_firing.specs.RunSettling.{Settlement, run_settling, no_settling}
 use Rattle.ld_state.specs.RunState.{RunState, seen_in, with_cell}
 use Rattle.ld_tree.specs.Tree.{is_open}
-use Rattle.ld_run.specs.Changes.{directly_changed}
-use Rattle.ld_run.specs.Checks.{Passed, admitted, is_started}
-use Rattle.ld_run.specs.Commands.{Admitted, opens, completes, has_change}
+use Rattle.ld_run.specs.Changes.{directly_changed, has_change}
+use Rattle.ld_checks.specs.Checks.{Passed, admitted, is_started}
+use Rattle.ld_checks.specs.Commands.{Admitted, opens, completes}
 use Rattle.ld_sharing.specs.Globals.{taking_in, giving_back}
-use Rattle.ld_run.specs.Refusals.{Refusal, TurnBudget, NotOpen, ◌>>=◌, ◌>>◌, refuse_if}
+use Rattle.ld_checks.specs.Refusals.{Refusal, TurnBudget, NotOpen, ◌unless_refused◌ as ◌>>=◌, ◌>>◌, refuse_if}
 
 -- A command that was done: what it was, the turns and the sums of both settlings, and the state and the
 -- store after it.

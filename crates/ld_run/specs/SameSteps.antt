@@ -3,7 +3,7 @@ use Rattle.std.specs.Prelude.{ℕ, Result, Ok, Err, Bool, true, false}
 use Rattle.ld_lines.specs.declared.command.RunCommand.{RunCommand}
 use Rattle.ld_lines.specs.declared.command.RunCommand.TheVariants.{Enrol}
 use Rattle.ld_firing.specs.Seating.{reseated}
-use Rattle.ld_run.specs.Refusals.{Refusal}
+use Rattle.ld_checks.specs.Refusals.{Refusal}
 use Rattle.ld_run.specs.RunStep.{DoneCommand}
 
 -- A person is to join.

@@ -3,29 +3,33 @@ ghost use Rattle.std.specs.Prelude.{◌≡◌, Err, IfErr, IfOk, Ok, OnOk, false
 ghost use Rattle.ld_state.specs.StateView.{HasMarkedPersons, IsStateOf, run_of};
 ghost use Rattle.ld_firing.specs.RunSystem.{IsSoundRun};
 ghost use Rattle.ld_firing.specs.Telling.{Tells};
+ghost use Rattle.ld_cascade.specs.Wiring.{Follows};
 ghost use Rattle.ld_settling.specs.RunLinking.{Widens};
 ghost use Rattle.ld_value.specs.Calendar.{IsMoment};
 ghost use Rattle.ld_sharing.specs.Fitting.{HasFittingGlobals, TakesFitting};
 ghost use Rattle.ld_sharing.specs.Globals.{taking_in};
 ghost use Rattle.ld_sharing.specs.StoreView.{Serves, values_of};
-ghost use Rattle.ld_run.specs.AdmittedView.{HasPersonAndActivity, IsPossible, IsTellable, WritesFitting, admitted_of};
+ghost use Rattle.ld_checks.specs.AdmittedView.{HasPersonAndActivity, IsPossible, admitted_of};
+ghost use Rattle.ld_replies.specs.Printing.{AreNoticesOf, IsPrintable, IsTellable};
+ghost use Rattle.ld_run.specs.FittingCommands.{WritesFitting};
+ghost use Rattle.ld_run.specs.Changes.{renews_sites};
 ghost use Rattle.ld_run.specs.Linked.{HasLinks};
-ghost use Rattle.ld_run.specs.Printing.{AreNoticesOf, IsPrintable};
-ghost use Rattle.ld_run.specs.RefusalView.{RefusesWith, refusal_of};
-ghost use Rattle.ld_run.specs.Refusals.{NotOpen};
+ghost use Rattle.ld_checks.specs.RefusalView.{RefusesWith, refusal_of};
+ghost use Rattle.ld_checks.specs.Refusals.{NotOpen};
 ghost use Rattle.ld_run.specs.RunStep.{at_moment, done_by, is_thing_open, open_for_it};
 ghost use Rattle.ld_run.specs.StageView.{done_with};
 
-use crate::admitted::Admitted;
 use crate::changes::change_directly;
-use crate::refusal::Refusal;
-use crate::settling::{both, is_started, renews_sites, settle_if, settles_after};
+use crate::settling::{Relinking, both, how_to_relink, is_started, settle_if, settles_after};
 use ld_base::memory::NoMemory;
 use ld_base::numbers::{PersonNo, ThingNo};
 use ld_base::steps::Steps;
 use ld_cascade::settled::Settled;
+use ld_checks::admitted::Admitted;
+use ld_checks::refusal::Refusal;
 use ld_globals::globals::Globals;
 use ld_model::cell::CellName;
+use ld_model::view::View;
 use ld_names::names::Named;
 use ld_rules::prepared::PreparedUnit;
 use ld_settling::links::RunLinks;
@@ -73,6 +77,8 @@ pub(crate) fn do_admitted<L: Ledger>(
     ensures own { IsStateOf unit.now state.new }
     ensures kept { state.new.kept ≡ state.old.kept }
     ensures linked { OnOk result (HasLinks unit.now (run_of state.new) links.new) }
+    ensures follows { renews_sites (admitted_of command.now) ≡ false
+        → Follows links.old links.new }
     ensures widens { Widens links.old links.new }
 {
     let mut refreshed = Vec::new(alloc);
@@ -80,13 +86,23 @@ pub(crate) fn do_admitted<L: Ledger>(
         return Err(Refusal::NoMemory);
     }
     let started = is_started(unit, state, steps);
-    let first = match settle_if(alloc, started, false, unit, state, links, &refreshed, steps) {
+    let first = match settle_if(
+        alloc,
+        started,
+        Relinking::Told,
+        unit,
+        state,
+        links,
+        &refreshed,
+        steps,
+    ) {
         Ok(settled) => settled,
         Err(refusal) => return Err(refusal),
     };
     if !is_open_for(unit, state, command, steps) {
         return Err(Refusal::NotOpen);
     }
+    let before = state.persons();
     let mut changed = Vec::new(alloc);
     if let Err(_) = change_directly(
         alloc,
@@ -101,8 +117,8 @@ pub(crate) fn do_admitted<L: Ledger>(
         return Err(Refusal::NoMemory);
     }
     let settles = settles_after(unit, state, command, steps);
-    let renews = renews_sites(command);
-    let second = match settle_if(alloc, settles, renews, unit, state, links, &changed, steps) {
+    let how = how_to_relink(command, before);
+    let second = match settle_if(alloc, settles, how, unit, state, links, &changed, steps) {
         Ok(settled) => settled,
         Err(refusal) => return Err(refusal),
     };

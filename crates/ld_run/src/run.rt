@@ -12,12 +12,12 @@ ghost use Rattle.ld_run.specs.Reached.{IsReached};
 ghost use Rattle.ld_run.specs.RunView.{AnswersCommand};
 
 use crate::stages::step;
-use crate::telling::tell_refusal;
 use ld_base::memory::NoMemory;
 use ld_base::steps::Steps;
 use ld_base::text::Text;
 use ld_globals::globals::Globals;
 use ld_lines::command::RunCommand;
+use ld_replies::telling::tell_refusal;
 use ld_rules::prepared::PreparedUnit;
 use ld_settling::links::RunLinks;
 use ld_sharing::stored::stored_values;
@@ -61,7 +61,7 @@ impl Model for Run {
     ghost use Rattle.ld_firing.specs.RunSystem.{IsSoundRun};
     ghost use Rattle.ld_state.specs.StateView.{IsStateOf, run_of as state_of};
     ghost use Rattle.ld_run.specs.Linked.{HasLinks};
-    ghost use Rattle.ld_run.specs.Printing.{AreNoticesOf};
+    ghost use Rattle.ld_replies.specs.Printing.{AreNoticesOf};
     ghost use Rattle.ld_run.specs.Reached.{IsReached as HasCome};
     ghost use Rattle.ld_sharing.specs.Fitting.{HasFittingGlobals as AreFitting};
 

@@ -5,22 +5,22 @@ ghost use Rattle.ld_firing.specs.RunSystem.{IsSoundRun, run_system};
 ghost use Rattle.ld_firing.specs.SettledView.{settlement_of, sums_in};
 ghost use Rattle.ld_cascade.specs.Settling.{plus};
 ghost use Rattle.ld_cascade.specs.Tidy.{Covers};
-ghost use Rattle.ld_cascade.specs.Wiring.{IsEmpty};
+ghost use Rattle.ld_cascade.specs.Wiring.{Follows, IsEmpty};
 ghost use Rattle.ld_settling.specs.RunLinking.{AreLinksOf, Widens};
 ghost use Rattle.ld_sharing.specs.Fitting.{HasFittingGlobals};
-ghost use Rattle.ld_run.specs.AdmittedView.{admitted_of};
-ghost use Rattle.ld_run.specs.Checks.{is_started};
-ghost use Rattle.ld_run.specs.Commands.{has_change, renews_sites};
-ghost use Rattle.ld_run.specs.Linked.{HadLinks, HasLinks};
-ghost use Rattle.ld_run.specs.Printing.{AreNoticesOf, IsPrintable};
-ghost use Rattle.ld_run.specs.RefusalView.{RefusesWith, refusal_of};
+ghost use Rattle.ld_checks.specs.AdmittedView.{admitted_of};
+ghost use Rattle.ld_checks.specs.Checks.{is_started};
+ghost use Rattle.ld_run.specs.Changes.{has_change, renews_sites};
+ghost use Rattle.ld_run.specs.Linked.{HasLinks, HaveBegun, MayRelink, relinking_of, relinks_all};
+ghost use Rattle.ld_replies.specs.Printing.{AreNoticesOf, IsPrintable};
+ghost use Rattle.ld_checks.specs.RefusalView.{RefusesWith, refusal_of};
 ghost use Rattle.ld_run.specs.RunStep.{settled};
 
-use crate::admitted::Admitted;
-use crate::refusal::Refusal;
 use ld_base::memory::NoMemory;
 use ld_base::steps::Steps;
 use ld_cascade::settled::{Settled, Stop};
+use ld_checks::admitted::Admitted;
+use ld_checks::refusal::Refusal;
 use ld_model::cell::CellName;
 use ld_model::view::View;
 use ld_rules::prepared::PreparedUnit;
@@ -30,12 +30,21 @@ use ld_state::state::State;
 use std::alloc::Global;
 use std::sync::ledger::Ledger;
 
+/// How the links of a run follow a change of it: told the slots that changed; told them, where persons
+/// joined or got or lost roles, of whom there were so many before; or by renewing all sites.
+#[derive(Clone, Copy)]
+pub(crate) enum Relinking {
+    Told,
+    ToldPersons(u32),
+    Renewed,
+}
+
 /// Settles the run, where it is to. Its links are told what changed before, or all of its sites are
 /// renewed.
 pub(crate) fn settle_if<L: Ledger>(
     alloc: Global,
     settles: bool,
-    renews: bool,
+    how: Relinking,
     unit: &PreparedUnit,
     state: &mut State,
     links: &mut RunLinks,
@@ -46,8 +55,8 @@ pub(crate) fn settle_if<L: Ledger>(
     requires sound { IsSoundRun unit.now (run_of state.old) }
     requires fitting { HasFittingGlobals unit.now (run_of state.old) }
     requires notices { AreNoticesOf unit.now state.old.outbox }
-    requires told { settles ≡ true → renews ≡ false
-        → HadLinks unit.now (run_of state.old) changed.now links.old }
+    requires told { settles ≡ true
+        → MayRelink how unit.now (run_of state.old) changed.now links.old }
     requires linked { settles ≡ false → HasLinks unit.now (run_of state.old) links.old }
     ensures settled { IfOk result (λ totals. settled settles unit.now (run_of state.old)
         ≡ Ok (settlement_of totals (run_of state.new))) }
@@ -61,12 +70,13 @@ pub(crate) fn settle_if<L: Ledger>(
     ensures kept { state.new.kept ≡ state.old.kept }
     ensures linked { OnOk result (HasLinks unit.now (run_of state.new) links.new) }
     ensures clean { OnOk result (settles ≡ true → IsEmpty links.new.dirty) }
+    ensures follows { relinks_all how ≡ false → Follows links.old links.new }
     ensures widens { Widens links.old links.new }
 {
     if !settles {
         return Ok(NO_SETTLING);
     }
-    if let Err(_) = relink(renews, unit, state, links, changed) {
+    if let Err(_) = relink(how, unit, state, links, changed) {
         return Err(Refusal::NoMemory);
     }
     match settle(alloc, unit, state, links, steps) {
@@ -77,9 +87,10 @@ pub(crate) fn settle_if<L: Ledger>(
 }
 
 /// Makes the links those of the run as it is now: all of its sites are dirty then, or the readers
-/// of the slots that changed. After an error, which is want of memory, no range is smaller.
+/// of the slots that changed and the sites of persons who joined. After an error, which is want of
+/// memory, no range is smaller.
 fn relink(
-    renews: bool,
+    how: Relinking,
     unit: &PreparedUnit,
     state: &State,
     links: &mut RunLinks,
@@ -87,20 +98,47 @@ fn relink(
 ) -> Result<(), NoMemory>
     requires own { IsStateOf unit.now state.now }
     requires sound { IsSoundRun unit.now (run_of state.now) }
-    requires told { renews ≡ false
-        → HadLinks unit.now (run_of state.now) changed.now links.old }
+    requires told { MayRelink how unit.now (run_of state.now) changed.now links.old }
     ensures linked { OnOk result (AreLinksOf unit.now (run_of state.now) links.new) }
+    ensures follows { relinks_all how ≡ false → Follows links.old links.new }
+    ensures widens { Widens links.old links.new }
+{
+    match how {
+        Relinking::Told => {
+            links.tell(changed);
+            Ok(())
+        }
+        Relinking::ToldPersons(before) => links.tell_persons(unit, state, before, changed),
+        Relinking::Renewed => links.renew(unit, state),
+    }
+}
+
+/// Gives the run, whose state was taken back, the links that it had, as far as nothing was linked anew
+/// since they began; where all of its sites were to be renewed, it gives them anew.
+pub(crate) fn take_links_back<L: Ledger>(
+    renews: bool,
+    unit: &PreparedUnit,
+    state: &State,
+    links: &mut RunLinks,
+    steps: &mut Steps<L>,
+)
+    requires own { IsStateOf unit.now state.now }
+    requires sound { IsSoundRun unit.now (run_of state.now) }
+    requires begun { renews ≡ false → HaveBegun unit.now (run_of state.now) links.old }
+    requires covers { renews ≡ true → is_started (run_of state.now) ≡ true
+        → Covers (run_system unit.now) (run_of state.now) links.old }
+    ensures linked { HasLinks unit.now (run_of state.now) links.new }
     ensures widens { Widens links.old links.new }
 {
     if renews {
-        return links.renew(unit, state);
+        reset_links(unit, state, links, steps);
+        return;
     }
-    links.tell(changed);
-    Ok(())
+    links.take_back();
 }
 
 /// Gives the run, whose state was taken back, its links anew, if it is started.
-pub(crate) fn reset_links<L: Ledger>(
+fn reset_links<L: Ledger>(
     unit: &PreparedUnit,
     state: &State,
     links: &mut RunLinks,
@@ -157,13 +195,24 @@ fn has_change(command: &Admitted<'_>) -> bool
     }
 }
 
+/// How the links follow what the command changed in a run that had so many persons.
+pub(crate) fn how_to_relink(command: &Admitted<'_>, before: u32) -> Relinking
+    ensures { result ≡ relinking_of (admitted_of command.now) before }
+{
+    match command {
+        Admitted::Enrols(_) | Admitted::Assigns(_, _) | Admitted::Drops(_, _) =>
+            Relinking::ToldPersons(before),
+        Admitted::Starts => Relinking::Renewed,
+        _ => Relinking::Told,
+    }
+}
+
 /// Whether all sites of the run are renewed once the command has changed it.
 pub(crate) fn renews_sites(command: &Admitted<'_>) -> bool
     ensures { result ≡ renews_sites (admitted_of command.now) }
 {
     match command {
-        Admitted::Enrols(_) | Admitted::Assigns(_, _) | Admitted::Drops(_, _) | Admitted::Starts =>
-            true,
+        Admitted::Starts => true,
         _ => false,
     }
 }

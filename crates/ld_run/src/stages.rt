@@ -1,35 +1,38 @@
 //! What a command does to its run and to the store, in stages.
-ghost use Rattle.std.specs.Prelude.{◌≡◌, ◌++◌, ◌∷◌, [], IfErr, IfOk, None, Ok, OnErr, OnOk};
+ghost use Rattle.std.specs.Prelude.{◌≡◌, ◌++◌, ◌∷◌, [], false, IfErr, IfOk, None, Ok, OnErr, OnOk};
 ghost use Rattle.ld_base.specs.Roomy.{KeepsRoom};
 ghost use Rattle.ld_state.specs.GlobalValues.{GlobalValues};
 ghost use Rattle.ld_state.specs.StateView.{HasMarkedPersons, IsStateOf, run_of};
 ghost use Rattle.ld_firing.specs.RunSystem.{IsSoundRun};
+ghost use Rattle.ld_cascade.specs.Wiring.{Follows};
 ghost use Rattle.ld_settling.specs.RunLinking.{Widens};
 ghost use Rattle.ld_value.specs.Calendar.{IsMoment};
 ghost use Rattle.ld_sharing.specs.Fitting.{HasFittingGlobals};
 ghost use Rattle.ld_sharing.specs.Globals.{giving_back};
 ghost use Rattle.ld_sharing.specs.StoreView.{Serves, values_of};
 ghost use Rattle.ld_sharing.specs.Writes.{AreWritesOf};
-ghost use Rattle.ld_run.specs.AdmittedView.{IsPossible, IsTellable, WritesFitting, admitted_of};
+ghost use Rattle.ld_checks.specs.AdmittedView.{IsPossible, admitted_of};
+ghost use Rattle.ld_replies.specs.Printing.{AreNoticesOf, IsPrintable, IsTellable};
+ghost use Rattle.ld_run.specs.FittingCommands.{WritesFitting};
+ghost use Rattle.ld_run.specs.Changes.{renews_sites};
 ghost use Rattle.ld_run.specs.Linked.{HasLinks};
-ghost use Rattle.ld_run.specs.Printing.{AreNoticesOf, IsPrintable};
-ghost use Rattle.ld_run.specs.RefusalView.{RefusesWith, refusal_of};
-ghost use Rattle.ld_run.specs.Replies.{done_text};
+ghost use Rattle.ld_checks.specs.RefusalView.{RefusesWith, refusal_of};
+ghost use Rattle.ld_run.specs.RunView.{done_text};
 ghost use Rattle.ld_run.specs.RunStep.{DoneCommand, done_by, run_step};
 ghost use Rattle.ld_run.specs.StageView.{done_with};
 
-use crate::admitted::Admitted;
-use crate::checks::admit;
 use crate::doing::do_admitted;
-use crate::refusal::Refusal;
-use crate::replies::push_done;
-use crate::settling::reset_links;
+use crate::settling::{renews_sites, take_links_back};
 use ld_base::memory::NoMemory;
 use ld_base::steps::Steps;
 use ld_base::text::Text;
 use ld_cascade::settled::Settled;
+use ld_checks::admitted::Admitted;
+use ld_checks::checks::admit;
+use ld_checks::refusal::Refusal;
 use ld_globals::globals::Globals;
 use ld_lines::command::RunCommand;
+use ld_replies::replies::push_done;
 use ld_rules::prepared::PreparedUnit;
 use ld_settling::links::RunLinks;
 use ld_sharing::giving::{Write, give_back, prepare};
@@ -129,6 +132,7 @@ fn try_admitted<'a, L: Ledger>(
     ensures widens { Widens links.old links.new }
 {
     state.mark();
+    links.begin();
     match do_and_tell(
         alloc, unit, state, links, globals, moment, command, out, steps,
     ) {
@@ -139,7 +143,7 @@ fn try_admitted<'a, L: Ledger>(
         }
         Err(refusal) => {
             state.undo();
-            reset_links(unit, state, links, steps);
+            take_links_back(renews_sites(command), unit, state, links, steps);
             Err(refusal)
         }
     }
@@ -187,6 +191,8 @@ fn do_and_tell<L: Ledger>(
     ensures kept { state.new.kept ≡ state.old.kept }
     ensures room { KeepsRoom out.old out.new }
     ensures linked { OnOk result (HasLinks unit.now (run_of state.new) links.new) }
+    ensures follows { renews_sites (admitted_of command.now) ≡ false
+        → Follows links.old links.new }
     ensures widens { Widens links.old links.new }
 {
     let totals = match do_admitted(alloc, unit, state, links, globals, moment, command, steps) {

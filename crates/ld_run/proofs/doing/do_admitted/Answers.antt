@@ -1,23 +1,27 @@
 use Rattle.std.proofs.Common.{◌∙◌, [], ℕ, Ok, Result, ap, ap₂, refl, subst, sym}
 use Rattle.ld_cascade.specs.Settling.{Sums}
+use Rattle.ld_cascade.proofs.Edges.{follows_then}
 use Rattle.ld_roles.specs.Kept.{persons_of}
 use Rattle.ld_firing.specs.RunSystem.{IsSoundRun}
-use Rattle.ld_firing.specs.Telling.{Tells}
+use Rattle.ld_firing.specs.Telling.{Tells, TellsPersons}
+use Rattle.ld_firing.proofs.SeenInStates.{persons_counted}
 use Rattle.ld_firing.specs.SettledView.{settlement_of}
 use Rattle.ld_state.specs.RunState.{RunState}
 use Rattle.ld_state.specs.StateView.{run_of}
 use Rattle.ld_sharing.specs.Fitting.{HasFittingGlobals}
 use Rattle.ld_sharing.specs.Globals.{giving_back}
 use Rattle.ld_sharing.specs.StoreView.{values_of}
-use Rattle.ld_run.specs.AdmittedView.{IsTellable, admitted_of}
-use Rattle.ld_run.specs.Checks.{is_started}
-use Rattle.ld_run.specs.Printing.{AreNoticesOf}
-use Rattle.ld_run.specs.Refusals.{NotOpen, Refusal}
-use Rattle.ld_run.specs.RefusalView.{refusal_of}
+use Rattle.ld_replies.specs.Printing.{IsTellable, AreNoticesOf}
+use Rattle.ld_checks.specs.AdmittedView.{admitted_of}
+use Rattle.ld_checks.specs.Checks.{is_started}
+use Rattle.ld_checks.specs.Refusals.{NotOpen, Refusal}
+use Rattle.ld_checks.specs.RefusalView.{refusal_of}
 use Rattle.ld_run.specs.RunStep.{DoneCommand, at_moment, settled}
+use Rattle.ld_run.specs.Linked.{MayRelink, relinking_of, relinks_all}
+use Rattle.ld_run.specs.declared.settling.Relinking.{Relinking}
 use Rattle.ld_run.proofs.FittingRuns.{changed_fits, dated_fits, taken_fits}
 use Rattle.ld_run.proofs.LawsNotices.{changed_outbox}
-use Rattle.ld_run.proofs.LinkedRuns.{links_before, no_links, unsettled_links, widens_still, widens_then}
+use Rattle.ld_run.proofs.LinkedRuns.{links_before, no_links, relinks_some, tells_by, unsettled_links, widens_still, widens_then}
 use Rattle.ld_run.proofs.SoundRuns.{changed_is_sound, dated_is_sound, taken_is_sound, possible_stays, tellable_after, tellable_stays}
 use Rattle.ld_run.proofs.StepStages.{first_refused, is_done, not_open, second_refused}
 use Rattle.ld_run.proofs.doing.do_admitted.Goals as goal
@@ -45,7 +49,7 @@ settle_if-requires-clause-notices g c =
 
 -- If it is started, its links are those of the run before, and what changed is told.
 pub settle_if-requires-clause-told : goal.settle_if-requires-clause-told
-settle_if-requires-clause-told g c settles plain =
+settle_if-requires-clause-told g c settles =
     let unit = c.args.unit.now in
     let s = run_of c.args.state.now in
     let t = run_of c.refresh.new.state in
@@ -53,7 +57,7 @@ settle_if-requires-clause-told g c settles plain =
     record {
       earlier = s;
       sound = c.requires.sound;
-      links = c.requires.linked (sym started ∙ settles);
+      links = (c.requires.linked (sym started ∙ settles)).links;
       tells = subst (λ slots. Tells unit s t [] slots) (sym c.deref.ensures.value)
           (subst (λ slots. Tells unit s t slots c.refresh.new.changed.items) c.new-refreshed.ensures.items c.in_default.ensures.told);
     }
@@ -120,22 +124,26 @@ settle_if-requires-2-clause-notices g c =
     ∙ changed_outbox unit store (run_of c.settle_if.new.state) c.args.moment.0 (admitted_of c.args.command.now) in
     subst (AreNoticesOf unit) (sym same) c.in-Ok.ensures.notices
 
--- If it is started then, its links are those of the run before, and what changed is told or all sites are renewed.
+-- If it is started then, its links are those of the run before, and what changed is told, or its sites are renewed.
 pub settle_if-requires-2-clause-told : goal.settle_if-requires-2-clause-told
-settle_if-requires-2-clause-told g c settles plain =
+settle_if-requires-2-clause-told g c settles =
     let unit = c.args.unit.now in
     let s = run_of c.settle_if.new.state in
     let t = run_of c.change_directly.new.state in
     let command = admitted_of c.args.command.now in
+    let told = c.in_default-change_directly.ensures in
     let same = ap persons_of (sym (c.settle_if.ensures.rows ∙ c.refresh.ensures.rows)) in
     let possible = possible_stays unit (run_of c.args.state.now) s same command c.requires.possible in
-    let not_all = sym c.renews_sites-renews.ensures ∙ plain in
-    let tells = subst (λ slots. Tells unit s t slots c.change_directly.new.changed.items) c.new-changed.ensures.items
-    (c.in_default-change_directly.ensures.told not_all) in
-    links_before unit (values_of c.args.globals.now) s t c.args.moment.0 command c.settle_if.new.links
-    c.in_default-change_directly.ensures.run c.in-Ok.ensures.linked c.in-Ok.ensures.sound possible c.deref-2.result.now
-    (subst (λ slots. Tells unit s t [] slots) (sym c.deref-2.ensures.value) tells)
-    (sym c.settles_after-settles.ensures ∙ settles) not_all
+    let how = c.how_to_relink-how.ensures
+    ∙ ap (relinking_of command) (c.persons-before.ensures ∙ sym (persons_counted c.settle_if.new.state)) in
+    let tells = tells_by unit s t c.deref-2.result.now command
+    (λ plain others. subst (λ slots. Tells unit s t [] slots) (sym c.deref-2.ensures.value)
+    (subst (λ slots. Tells unit s t slots c.change_directly.new.changed.items) c.new-changed.ensures.items (told.told plain others)))
+    (λ persons. subst (λ slots. TellsPersons unit s t slots) (sym c.deref-2.ensures.value) (told.told_persons persons c.new-changed.ensures.items)) in
+    subst (λ (relinking : Relinking). MayRelink relinking unit t c.deref-2.result.now c.settle_if.new.links) (sym how)
+    (links_before unit (values_of c.args.globals.now) s t c.args.moment.0 command c.settle_if.new.links
+    told.run c.in-Ok.ensures.linked c.in-Ok.ensures.sound possible c.deref-2.result.now tells
+    (sym c.settles_after-settles.ensures ∙ settles))
 
 pub settle_if-requires-2-clause-linked : goal.settle_if-requires-2-clause-linked
 settle_if-requires-2-clause-linked g c closed =
@@ -197,3 +205,14 @@ returns-in-Err-settle_if-2-clause-widens g c = widens_then c.settle_if.ensures.w
 
 pub returns-in-Ok-both-clause-widens : goal.returns-in-Ok-both-clause-widens
 returns-in-Ok-both-clause-widens g c = widens_then c.settle_if.ensures.widens c.settle_if-2.ensures.widens
+
+-- Where not all sites of the run are renewed, the links follow those before.
+pub returns-in-Err-settle_if-2-clause-follows : goal.returns-in-Err-settle_if-2-clause-follows
+returns-in-Err-settle_if-2-clause-follows g c plain =
+    follows_then (c.settle_if.ensures.follows refl) (c.settle_if-2.ensures.follows
+    (ap relinks_all c.how_to_relink-how.ensures ∙ relinks_some (admitted_of c.args.command.now) c.persons-before.result plain))
+
+pub returns-in-Ok-both-clause-follows : goal.returns-in-Ok-both-clause-follows
+returns-in-Ok-both-clause-follows g c plain =
+    follows_then (c.settle_if.ensures.follows refl) (c.settle_if-2.ensures.follows
+    (ap relinks_all c.how_to_relink-how.ensures ∙ relinks_some (admitted_of c.args.command.now) c.persons-before.result plain))

@@ -2,8 +2,10 @@ use Rattle.std.proofs.Common.{ap}
 use Rattle.ld_state.specs.StateView.{run_of}
 use Rattle.ld_run.specs.RunStep.{settled}
 use Rattle.ld_firing.specs.SettledView.{settlement_of}
+use Rattle.ld_cascade.proofs.Edges.{follows_self, follows_then}
+use Rattle.ld_settling.proofs.RunLinks.{resting_settled}
 use Rattle.ld_run.proofs.FittingRuns.{settling_fits}
-use Rattle.ld_run.proofs.LinkedRuns.{widens_still, widens_then}
+use Rattle.ld_run.proofs.LinkedRuns.{widens_following, widens_still, widens_then}
 use Rattle.ld_run.proofs.NoticesTold.{settling_told}
 use Rattle.ld_run.proofs.settling.settle_if.Goals as goal
 
@@ -25,7 +27,20 @@ pub returns-then-not-settles-clause-widens : goal.returns-then-not-settles-claus
 returns-then-not-settles-clause-widens g c = widens_still c.args.links.now
 
 pub returns-in-Ok-clause-linked : goal.returns-in-Ok-clause-linked
-returns-in-Ok-clause-linked g c started = c.in-Ok.ensures.linked
+returns-in-Ok-clause-linked g c started =
+    resting_settled c.args.unit.now (run_of c.settle.new.state) c.settle.new.links c.in-Ok.ensures.linked c.in-Ok.ensures.clean
 
 pub returns-in-Ok-clause-widens : goal.returns-in-Ok-clause-widens
-returns-in-Ok-clause-widens g c = widens_then c.relink.ensures.widens c.settle.ensures.widens
+returns-in-Ok-clause-widens g c = widens_then c.relink.ensures.widens (widens_following c.settle.ensures.follows)
+
+pub returns-then-not-settles-clause-follows : goal.returns-then-not-settles-clause-follows
+returns-then-not-settles-clause-follows g c _ = follows_self
+
+pub returns-in-Ok-clause-follows : goal.returns-in-Ok-clause-follows
+returns-in-Ok-clause-follows g c plain = follows_then (c.relink.ensures.follows plain) c.settle.ensures.follows
+
+pub returns-in-Err-TurnBudget-clause-follows : goal.returns-in-Err-TurnBudget-clause-follows
+returns-in-Err-TurnBudget-clause-follows g c plain = follows_then (c.relink.ensures.follows plain) c.settle.ensures.follows
+
+pub returns-in-Err-NoMemory-clause-follows : goal.returns-in-Err-NoMemory-clause-follows
+returns-in-Err-NoMemory-clause-follows g c plain = follows_then (c.relink.ensures.follows plain) c.settle.ensures.follows

@@ -1,7 +1,7 @@
 use Rattle.std.proofs.Common.{refl}
 use Rattle.ld_state.specs.StateView.{run_of}
 use Rattle.ld_sharing.specs.StoreView.{values_of}
-use Rattle.ld_run.specs.AdmittedView.{admitted_of}
+use Rattle.ld_checks.specs.AdmittedView.{admitted_of}
 use Rattle.ld_run.specs.StageView.{done_with}
 use Rattle.ld_run.proofs.SameValues.{same_values}
 use Rattle.ld_run.proofs.stages.do_and_tell.Goals as goal

@@ -2,9 +2,9 @@ use Rattle.std.proofs.Common.{◌∙◌, IfErr, Result, sym, subst}
 use Rattle.ld_sharing.specs.StoreView.{values_of}
 use Rattle.ld_state.specs.StateView.{run_of}
 use Rattle.ld_state.proofs.Written.{on_ok}
-use Rattle.ld_run.specs.AdmittedView.{admitted_of}
-use Rattle.ld_run.specs.RefusalView.{RefusesWith, refusal_of}
-use Rattle.ld_run.specs.Refusals.{Refusal}
+use Rattle.ld_checks.specs.AdmittedView.{admitted_of}
+use Rattle.ld_checks.specs.RefusalView.{RefusesWith, refusal_of}
+use Rattle.ld_checks.specs.Refusals.{Refusal}
 use Rattle.ld_run.specs.RunStep.{DoneCommand}
 use Rattle.ld_run.proofs.Answered.{check_printable}
 use Rattle.ld_run.proofs.FittingRuns.{admitted_fits}

@@ -6,10 +6,10 @@ use Rattle.ld_sharing.specs.Globals.{giving_back}
 use Rattle.ld_sharing.specs.StoreView.{values_of}
 use Rattle.ld_state.specs.RunState.{RunState}
 use Rattle.ld_state.specs.StateView.{StateView, run_of}
-use Rattle.ld_run.specs.AdmittedView.{IsPossible, admitted_of}
-use Rattle.ld_run.specs.Checks.{is_started}
+use Rattle.ld_checks.specs.AdmittedView.{IsPossible, admitted_of}
+use Rattle.ld_checks.specs.Checks.{is_started}
 use Rattle.ld_run.specs.Linked.{HasLinks}
-use Rattle.ld_run.specs.Printing.{AreNoticesOf}
+use Rattle.ld_replies.specs.Printing.{AreNoticesOf}
 use Rattle.ld_run.specs.RunStep.{done_by}
 use Rattle.ld_run.proofs.LinkedRuns.{covers_wider, widens_then}
 use Rattle.ld_run.proofs.StepStages.{undone_is}
@@ -35,7 +35,8 @@ do_and_tell-requires-clause-possible g c =
 
 pub do_and_tell-requires-clause-linked : goal.do_and_tell-requires-clause-linked
 do_and_tell-requires-clause-linked g c =
-    subst (λ (s : StateView). HasLinks c.args.unit.now (run_of s) c.args.links.now) (sym c.mark.ensures) c.requires.linked
+    subst (λ (s : StateView). HasLinks c.args.unit.now (run_of s) c.begin.new.self) (sym c.mark.ensures)
+    (λ started. c.begin.ensures.linked c.args.unit.now (run_of c.args.state.now) (c.requires.linked started))
 
 -- A refusal: the run is as it was at the mark.
 pub returns-in-Err-clause-refused : goal.returns-in-Err-clause-refused
@@ -56,24 +57,41 @@ returns-in-Err-clause-sound g c =
     c.do_and_tell.ensures.own (c.do_and_tell.ensures.kept ∙ ap (λ (s : StateView). s.kept) c.mark.ensures) c.undo.ensures.run))
     c.requires.sound
 
-pub reset_links-requires-clause-sound : goal.reset_links-requires-clause-sound
-reset_links-requires-clause-sound g c =
+pub take_links_back-requires-clause-sound : goal.take_links_back-requires-clause-sound
+take_links_back-requires-clause-sound g c =
     subst (IsSoundRun c.args.unit.now)
     (sym (undone_is c.args.unit.now c.args.state.now c.do_and_tell.new.state c.undo.new.self c.requires.own
     c.do_and_tell.ensures.own (c.do_and_tell.ensures.kept ∙ ap (λ (s : StateView). s.kept) c.mark.ensures) c.undo.ensures.run))
     c.requires.sound
 
-pub reset_links-requires-clause-covers : goal.reset_links-requires-clause-covers
-reset_links-requires-clause-covers g c started =
+pub take_links_back-requires-clause-begun : goal.take_links_back-requires-clause-begun
+take_links_back-requires-clause-begun g c plain =
     let unit = c.args.unit.now in
+    let s = run_of c.args.state.now in
     let back = undone_is unit c.args.state.now c.do_and_tell.new.state c.undo.new.self c.requires.own
     c.do_and_tell.ensures.own (c.do_and_tell.ensures.kept ∙ ap (λ (s : StateView). s.kept) c.mark.ensures) c.undo.ensures.run in
-    subst (λ s. Covers (run_system unit) s c.do_and_tell.new.links) (sym back)
-    (covers_wider unit (run_of c.args.state.now) c.do_and_tell.ensures.widens
-    (c.requires.linked (ap is_started (sym back) ∙ started)).covers)
+    record {
+      begun = c.begin.new.self;
+      links = subst (λ t. HasLinks unit t c.begin.new.self) (sym back) (λ started. c.begin.ensures.linked unit s (c.requires.linked started));
+      follows = c.do_and_tell.ensures.follows (sym c.renews_sites.ensures ∙ plain);
+    }
+
+pub take_links_back-requires-clause-covers : goal.take_links_back-requires-clause-covers
+take_links_back-requires-clause-covers g c renews started =
+    let unit = c.args.unit.now in
+    let s = run_of c.args.state.now in
+    let back = undone_is unit c.args.state.now c.do_and_tell.new.state c.undo.new.self c.requires.own
+    c.do_and_tell.ensures.own (c.do_and_tell.ensures.kept ∙ ap (λ (s : StateView). s.kept) c.mark.ensures) c.undo.ensures.run in
+    let begun = c.begin.ensures.linked unit s (c.requires.linked (ap is_started (sym back) ∙ started)) in
+    subst (λ t. Covers (run_system unit) t c.do_and_tell.new.links) (sym back)
+    (covers_wider unit s c.do_and_tell.ensures.widens begun.links.covers)
 
 pub returns-in-Err-clause-widens : goal.returns-in-Err-clause-widens
-returns-in-Err-clause-widens g c = widens_then c.do_and_tell.ensures.widens c.reset_links.ensures.widens
+returns-in-Err-clause-widens g c =
+    widens_then (widens_then c.begin.ensures.widens c.do_and_tell.ensures.widens) c.take_links_back.ensures.widens
+
+pub returns-in-Ok-clause-widens : goal.returns-in-Ok-clause-widens
+returns-in-Ok-clause-widens g c = widens_then c.begin.ensures.widens c.do_and_tell.ensures.widens
 
 pub returns-in-Err-clause-fitting : goal.returns-in-Err-clause-fitting
 returns-in-Err-clause-fitting g c =

@@ -5,7 +5,7 @@ use Rattle.ld_sharing.specs.Fitting.{HasFittingGlobals}
 use Rattle.ld_sharing.specs.StoreView.{Serves, values_of}
 use Rattle.ld_state.specs.StateView.{IsStateOf, run_of}
 use Rattle.ld_run.specs.Linked.{HasLinks}
-use Rattle.ld_run.specs.Printing.{AreNoticesOf}
+use Rattle.ld_replies.specs.Printing.{AreNoticesOf}
 use Rattle.ld_run.specs.Reached.{IsReached, left_by}
 use Rattle.ld_run.specs.RunView.{AnswersCommand, RunView}
 use Rattle.ld_run.proofs.Answered.{answered_done, answered_refused}

@@ -6,7 +6,7 @@ use Rattle.ld_sharing.specs.Fitting.{HasFittingGlobals}
 use Rattle.ld_sharing.specs.StoreView.{Serves, values_of}
 use Rattle.ld_state.specs.RunState.{made_at}
 use Rattle.ld_state.specs.StateView.{IsStateOf, run_of}
-use Rattle.ld_run.specs.Printing.{AreNoticesOf}
+use Rattle.ld_replies.specs.Printing.{AreNoticesOf}
 use Rattle.ld_run.specs.Reached.{IsReached, made}
 use Rattle.ld_run.proofs.LinkedRuns.{made_links}
 use Rattle.ld_run.proofs.run.Run.new.Goals as goal

@@ -1,0 +1,56 @@
+-- The checks of commands, taken apart.
+use Rattle.std.proofs.Common.{◌≡◌, refl, sym, ap, ◌∙◌, ℕ, ℤ, List, Result, Ok, Err, IfOk, IfErr}
+use Rattle.ld_base.specs.declared.numbers.PersonNo.{PersonNo}
+use Rattle.ld_model.specs.declared.unit.Unit.{Unit as Course}
+use Rattle.ld_lines.specs.declared.command.RunCommand.TheVariants.{Drop}
+use Rattle.ld_state.specs.RunState.{RunState}
+use Rattle.ld_checks.specs.AdmittedView.{admitted_of}
+use Rattle.ld_checks.specs.CheckStages.{Rest, acting, dropping, in_running}
+use Rattle.ld_checks.specs.Checks.{admitted, in_time, the_person, the_role}
+use Rattle.ld_checks.specs.Commands.{drops}
+use Rattle.ld_checks.specs.RefusalView.{RefusesWith, answer_of, refusal_of}
+use Rattle.ld_checks.specs.Refusals.{Refusal, ◌unless_refused◌ as ◌>>=◌, ◌>>◌}
+use Rattle.ld_checks.specs.declared.admitted.Admitted.{Admitted as AdmittedOf}
+use Rattle.ld_checks.specs.declared.refusal.Refusal.{Refusal as RefusalOf}
+
+-- The checks of a role that is taken.
+pub admitted_drop : (unit : Course) (s : RunState) (moment : ℤ) (name role : List ℕ)
+    → admitted unit s moment (Drop name role) ≡ (in_time s moment >> (the_person s name >>= λ p. the_role unit role >>= λ r. dropping unit s r p (Ok (drops p r))))
+unfolding admitted dropping
+admitted_drop unit s moment name role = refl
+
+-- What they come to, once moment, person and role are looked at.
+pub drop_is : (unit : Course) (s : RunState) (moment : ℤ) (name role : List ℕ) (p r : ℕ) (answer : Rest)
+    → Ok tt ≡ in_time s moment → Ok p ≡ the_person s name → Ok r ≡ the_role unit role → dropping unit s r p (Ok (drops p r)) ≡ answer
+    → answer ≡ admitted unit s moment (Drop name role)
+drop_is unit s moment name role p r answer time person found is =
+    sym (admitted_drop unit s moment name role
+    ∙ ap (λ (t : Result (Unit {0}) Refusal). t >> (the_person s name >>= λ q. the_role unit role >>= λ n. dropping unit s n q (Ok (drops q n)))) (sym time)
+    ∙ ap (λ (o : Result ℕ Refusal). o >>= λ q. the_role unit role >>= λ n. dropping unit s n q (Ok (drops q n))) (sym person)
+    ∙ ap (λ (o : Result ℕ Refusal). o >>= λ n. dropping unit s n p (Ok (drops p n))) (sym found)
+    ∙ is)
+
+-- Where the moment is in time and the run is started, the person is what is left to find.
+pub person_passes : (s : RunState) (moment : ℤ) (name : List ℕ) (found : Result PersonNo RefusalOf)
+    → ((next : Rest) → in_running s moment next ≡ next) → answer_of (λ (person : PersonNo). person.0) found ≡ the_person s name
+    → IfOk found (λ person. (next : ℕ → Rest) → acting s moment name next ≡ next person.0)
+person_passes s moment name (Ok person) passes is =
+    λ next. passes (the_person s name >>= next) ∙ ap (λ (r : Result ℕ _). r >>= next) (sym is)
+person_passes s moment name (Err refusal) passes is = tt
+
+pub person_refused : (s : RunState) (moment : ℤ) (name : List ℕ) (found : Result PersonNo RefusalOf)
+    → ((next : Rest) → in_running s moment next ≡ next) → answer_of (λ (person : PersonNo). person.0) found ≡ the_person s name
+    → IfErr found (λ refusal. (next : ℕ → Rest) → acting s moment name next ≡ Err (refusal_of refusal))
+person_refused s moment name (Ok person) passes is = tt
+person_refused s moment name (Err refusal) passes is =
+    λ next. passes (the_person s name >>= next) ∙ ap (λ (r : Result ℕ _). r >>= next) (sym is)
+
+-- ---- what an answer of the program tells, by what it means
+
+pub once_admitted : (answered : Result AdmittedOf RefusalOf) (answer : Rest) → answer_of admitted_of answered ≡ answer → IfOk answered (λ done. answer ≡ Ok (admitted_of done))
+once_admitted (Ok done) answer is = sym is
+once_admitted (Err refusal) answer is = tt
+
+pub once_refused : (answered : Result AdmittedOf RefusalOf) (answer : Rest) → answer_of admitted_of answered ≡ answer → IfErr answered (RefusesWith answer)
+once_refused (Ok done) answer is = tt
+once_refused (Err refusal) answer is = λ other. sym is

@@ -1,0 +1,5 @@
+pub mod CheckParts
+pub mod FaultChecks
+pub mod LawsRefused
+pub mod NamedParts
+pub mod StateSeen

@@ -1,0 +1,131 @@
+-- The causes for which a command is refused before anything is done, in order.
+use Rattle.std.specs.Prelude.{ℕ, ℤ, List, [], ◌∷◌, length, Option, Some, None, Result, Ok, Err, Bool, not, is_some, nat_le, int_lt}
+use Rattle.std.specs.Option.{option_map, option_and_then}
+use Rattle.ld_base.specs.Maybe.{◌>>=◌, provided}
+use Rattle.ld_value.specs.Datum.{Datum}
+use Rattle.ld_value.specs.Values.{value_of}
+use Rattle.ld_model.specs.declared.activity.Activity.{Activity}
+use Rattle.ld_model.specs.declared.property.Property.{Property}
+use Rattle.ld_model.specs.declared.unit.Unit.{Unit as Course}
+use Rattle.ld_lines.specs.declared.command.RunCommand.{RunCommand}
+use Rattle.ld_lines.specs.declared.command.RunCommand.TheVariants.{Enrol, Assign, Drop, Start, Open, Complete, Set, Clear, Get, Tree, Outbox, Report, Tick}
+use Rattle.ld_names.specs.Names.{role_number, thing_number}
+use Rattle.ld_expr.specs.Lookup.{is_some_and, property_of, activity_named}
+use Rattle.ld_expr.specs.Membership.{is_member_of}
+use Rattle.ld_expr.specs.Owners.{fits_property, of_person}
+use Rattle.ld_expr.specs.Terms.{cell_of_property}
+use Rattle.ld_roles.specs.Roster.{Shortage, person_number, holds_role, has_no_room, is_excluded, short_at_start}
+use Rattle.ld_state.specs.RunState.{RunState, seen_in}
+use Rattle.ld_checks.specs.Checks.{last_moment, is_started, is_choice, role_identifier, shortage_if_running}
+use Rattle.ld_checks.specs.Refusals.{Refusal, MomentBack, NotStarted, StartedAlready, UnknownPerson, PersonExists, RunFull, UnknownRole, HoldsAlready, NotHeld, RoleFull, RoleExclusive, RoleShort, UnknownActivity, NotByChoice, UnknownProperty, BadValue, NotAllowed}
+
+-- A cause, where its truth holds.
+abbrev pub Cause : Type 0
+Cause = Option Refusal
+
+-- The first cause that there is.
+abbrev pub first_cause : List Cause → Option Refusal
+first_cause [] = None
+first_cause (Some refusal ∷ causes) = Some refusal
+first_cause (None ∷ causes) = first_cause causes
+
+abbrev pub refusal_of : {A : Type 0} → Result A Refusal → Option Refusal
+refusal_of (Ok x) = None
+refusal_of (Err refusal) = Some refusal
+
+-- Nothing was found.
+abbrev pub unless_found : {A : Type 0} → Option A → Refusal → Cause
+unless_found found refusal = provided (not (is_some found)) refusal
+
+-- The test holds of both.
+abbrev pub of_both : (ℕ → ℕ → Bool) → Option ℕ → Option ℕ → Bool
+of_both test r p = is_some_and (λ role. is_some_and (test role) p) r
+
+abbrev pub too_early : RunState → ℤ → Cause
+too_early s moment = provided (int_lt moment (last_moment s)) (MomentBack (last_moment s))
+
+abbrev pub not_started : RunState → Cause
+not_started s = provided (not (is_started s)) NotStarted
+
+abbrev pub shortage_cause : Course → Option Shortage → Cause
+shortage_cause unit short =
+    option_map (λ one. RoleShort (role_identifier unit one.role) one.count one.least) short
+
+abbrev pub shortage_for : Course → RunState → Option ℕ → Option ℕ → Option Shortage
+shortage_for unit s r p = r >>= λ role. p >>= λ person. shortage_if_running unit s role person (is_started s)
+
+-- The activity of this identifier, as a thing.
+abbrev pub activity_thing : Course → List ℕ → Option ℕ
+activity_thing unit id =
+    option_and_then (λ (one : Activity). thing_number unit one.identifier) (activity_named unit id)
+
+abbrev pub is_by_choice : Course → List ℕ → Bool
+is_by_choice unit id =
+    is_some_and (λ one. is_some_and is_choice one.complete) (activity_named unit id)
+
+abbrev pub fitting : Property → List ℕ → Option Datum
+fitting property text = option_and_then
+    (λ value. provided (fits_property property value) value)
+    (value_of property.datatype text)
+
+-- The property is one of a role that the person is no member of.
+abbrev pub bars : Course → RunState → ℕ → Property → Bool
+bars unit s p property =
+    is_some_and (λ role. not (is_member_of unit (seen_in unit s) role p)) property.role
+
+abbrev pub is_barred : Course → RunState → Option ℕ → Option Property → Bool
+is_barred unit s p property = is_some_and (λ person. is_some_and (bars unit s person) property) p
+
+abbrev pub lacks_cell : Course → List ℕ → ℕ → Bool
+lacks_cell unit property p = not (is_some (cell_of_property unit (of_person p) property))
+
+abbrev pub own_cell : Course → Option ℕ → List ℕ → Cause
+own_cell unit p property = provided (is_some_and (lacks_cell unit property) p) UnknownProperty
+
+abbrev pub causes : Course → RunState → ℤ → RunCommand → List Cause
+causes unit s moment (Enrol person) =
+    too_early s moment
+    ∷ provided (is_some (person_number s.persons person)) PersonExists
+    ∷ provided (nat_le s.seats (length s.persons)) RunFull ∷ []
+causes unit s moment (Assign person role) =
+    let p = person_number s.persons person in
+    let r = role_number unit role in
+    too_early s moment ∷ unless_found p UnknownPerson ∷ unless_found r UnknownRole
+    ∷ provided (of_both (holds_role s.persons) r p) HoldsAlready
+    ∷ provided (of_both (has_no_room unit s.persons) r p) RoleFull
+    ∷ provided (of_both (is_excluded unit s.persons) r p) RoleExclusive ∷ []
+causes unit s moment (Drop person role) =
+    let p = person_number s.persons person in
+    let r = role_number unit role in
+    too_early s moment ∷ unless_found p UnknownPerson ∷ unless_found r UnknownRole
+    ∷ provided (of_both (λ role person. not (holds_role s.persons role person)) r p) NotHeld
+    ∷ shortage_cause unit (shortage_for unit s r p) ∷ []
+causes unit s moment Start =
+    too_early s moment ∷ provided (is_started s) StartedAlready ∷ shortage_cause unit (short_at_start unit s.persons) ∷ []
+causes unit s moment (Open person activity) =
+    too_early s moment ∷ not_started s ∷ unless_found (person_number s.persons person) UnknownPerson
+    ∷ unless_found (activity_thing unit activity) UnknownActivity ∷ []
+causes unit s moment (Complete person activity) =
+    too_early s moment ∷ not_started s ∷ unless_found (person_number s.persons person) UnknownPerson
+    ∷ unless_found (activity_thing unit activity) UnknownActivity
+    ∷ provided (not (is_by_choice unit activity)) NotByChoice ∷ []
+causes unit s moment (Set person property text) =
+    let p = person_number s.persons person in
+    let found = property_of unit property in
+    too_early s moment ∷ not_started s ∷ unless_found p UnknownPerson ∷ unless_found found UnknownProperty
+    ∷ provided (is_some_and (λ one. not (is_some (fitting one text))) found) BadValue
+    ∷ provided (is_barred unit s p found) NotAllowed ∷ own_cell unit p property ∷ []
+causes unit s moment (Clear person property) =
+    let p = person_number s.persons person in
+    let found = property_of unit property in
+    too_early s moment ∷ not_started s ∷ unless_found p UnknownPerson ∷ unless_found found UnknownProperty
+    ∷ provided (is_barred unit s p found) NotAllowed ∷ own_cell unit p property ∷ []
+causes unit s moment (Get person property) =
+    let p = person_number s.persons person in
+    too_early s moment ∷ not_started s ∷ unless_found p UnknownPerson ∷ own_cell unit p property ∷ []
+causes unit s moment (Tree person) =
+    too_early s moment ∷ not_started s ∷ unless_found (person_number s.persons person) UnknownPerson ∷ []
+causes unit s moment (Outbox person) =
+    too_early s moment ∷ not_started s ∷ unless_found (person_number s.persons person) UnknownPerson ∷ []
+causes unit s moment Report = too_early s moment ∷ not_started s ∷ []
+causes unit s moment Tick = too_early s moment ∷ not_started s ∷ []

@@ -1,0 +1,7 @@
+pub mod AdmittedView
+pub mod Causes
+pub mod CheckStages
+pub mod Checks
+pub mod Commands
+pub mod RefusalView
+pub mod Refusals

@@ -1,0 +1,14 @@
+pub mod ActOpenings
+pub mod EachLine
+pub mod LawsActs
+pub mod LawsJoining
+pub mod LawsLatching
+pub mod LawsOpeners
+pub mod LawsOpenings
+pub mod LawsOrder
+pub mod LawsRest
+pub mod LawsStart
+pub mod LawsTree
+pub mod LawsUnmoved
+pub mod LawsUnstarted
+pub mod SameTrees

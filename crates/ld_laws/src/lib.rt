@@ -1,0 +1,2 @@
+//! Laws of runs: what follows from what a run means, for all units and commands.
+#![tactic(auto)]

@@ -1,0 +1,10 @@
+pub mod CellsOfStates
+pub mod Listed
+pub mod PartsShown
+pub mod Printable
+pub mod RefusalTexts
+pub mod ReportThere
+pub mod SeenInRuns
+pub mod ShortNames
+pub mod Told
+pub mod TreeThere

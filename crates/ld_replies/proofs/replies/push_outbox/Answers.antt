@@ -1,0 +1,12 @@
+use Rattle.std.proofs.Common.{List, ℕ, ◌++◌, ap, ◌∙◌}
+use Rattle.ld_state.specs.StateView.{run_of}
+use Rattle.ld_replies.specs.Reports.{outbox_lines}
+use Rattle.ld_replies.proofs.Told.{counted_told}
+use Rattle.ld_replies.proofs.replies.push_outbox.Goals as goal
+
+pub returns-clause-text : goal.returns-clause-text
+returns-clause-text c =
+    let put = rw c.outbox.ensures at c.in_ok-put_outbox.ensures in
+    let told = counted_told c.new-lines.result c.put_outbox.new.lines (outbox_lines c.args.unit.now (run_of c.args.state.now) c.args.person.0) c.new-lines.ensures put in
+    let pushed = rw (c.count.ensures, c.as_str.ensures) at c.in_ok-push_counted.ensures.text in
+    pushed ∙ ap (λ (t : List ℕ). c.args.out.now.bytes ++ t) told

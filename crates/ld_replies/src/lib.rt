@@ -1,0 +1,12 @@
+//! What the replies to commands tell: refusals, values, trees, outboxes and reports.
+#![tactic(auto)]
+
+mod method_lines;
+mod outbox;
+mod printed;
+mod refusal_text;
+pub mod replies;
+mod report;
+mod role_lines;
+pub mod telling;
+pub mod value_text;

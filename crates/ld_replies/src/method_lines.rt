@@ -1,0 +1,279 @@
+//! The lines of a report that tell what is done of the method, and what is opened.
+#![tactic(auto, unfolding(crate::specs::ReportLooks::report_act_looks, crate::specs::ReportLooks::report_play_looks))]
+
+ghost use Rattle.std.specs.Prelude.{◌≡◌, ◌∷◌, [], codes, fold, flat_map, is_some, true, OnOk, option_copied, option_map};
+ghost use Rattle.std.specs.Option.{ForSome};
+ghost use Rattle.ld_model.specs.declared.cell.CellName.TheVariants.{Started};
+ghost use Rattle.ld_model.specs.declared.cell.Owner.TheVariants.{Run};
+ghost use Rattle.ld_names.specs.Names.{names_of};
+ghost use Rattle.ld_expr.specs.Done.{is_done};
+ghost use Rattle.ld_expr.specs.Looks.{done_looks};
+ghost use Rattle.ld_expr.specs.Seen.{moment_of_value};
+ghost use Rattle.ld_expr.specs.Viewing.{HasCells, seen_by};
+ghost use Rattle.ld_rules.specs.SiteLooks.{cell_list};
+ghost use Rattle.ld_rules.specs.SiteTests.{is_opened, opening_cell, opening_of};
+ghost use Rattle.ld_value.specs.Calendar.{IsMoment};
+ghost use Rattle.ld_value.specs.Datum.{datum_of};
+ghost use Rattle.ld_replies.specs.Printed.{printed_after, worded};
+ghost use Rattle.ld_replies.specs.Printing.{HasMoments};
+ghost use Rattle.ld_replies.specs.ReportLooks.{report_act_looks, report_part_looks, report_play_looks};
+ghost use Rattle.ld_replies.specs.Reports.{done_or_open, moment_word, progress_word, report_of_act, report_of_part, report_of_play};
+
+use crate::printed::Lines;
+use ld_base::id::Id;
+use ld_base::memory::NoMemory;
+use ld_base::steps::Steps;
+use ld_expr::cells::thing_number;
+use ld_expr::done::is_done;
+use ld_model::cell::{CellName, Owner};
+use ld_model::method::{Act, Play, RolePart};
+use ld_model::unit::Unit;
+use ld_model::view::View;
+use ld_names::names::Names;
+use ld_value::value::Value;
+use std::sync::ledger::Ledger;
+
+/// What a report of the method is made from. (docs/COMMANDS.md, "Replies")
+#[derive(Drop)]
+pub(crate) struct Reporter<'a, V: View> {
+    pub(crate) unit: &'a Unit,
+    /// The names of the unit.
+    pub(crate) names: &'a Names,
+    pub(crate) view: &'a V,
+    ghost named: { names.now ≡ names_of unit.now },
+    ghost dated: { HasMoments (V.has_cell view.now) (V.cells_of view.now) },
+}
+
+impl<'a, V: View> Reporter<'a, V> {
+    /// Puts when the run was started.
+    pub(crate) fn put_start<L: Ledger>(
+        &self,
+        lines: &mut Lines,
+        steps: &mut Steps<L>,
+    ) -> Result<(), NoMemory>
+        requires { V.has_cell self.now.view.now Started ≡ true }
+        ensures { OnOk result (lines.new ≡ printed_after lines.old
+            (codes "started" ∷ moment_word (V.cells_of self.now.view.now Started))) }
+    {
+        lines.begin("started")?;
+        add_moment_of(self.look(CellName::Started, steps), lines)?;
+        Ok(())
+    }
+
+    /// Puts the plays, each with its acts and their role-parts.
+    pub(crate) fn put_plays<L: Ledger>(
+        &self,
+        plays: &[Play],
+        lines: &mut Lines,
+        steps: &mut Steps<L>,
+    ) -> Result<(), NoMemory>
+        requires { HasCells (V.has_cell self.now.view.now)
+            (flat_map (report_play_looks self.now.unit.now) plays.now) }
+        ensures { OnOk result (lines.new ≡ fold printed_after lines.old
+            (flat_map (report_of_play self.now.unit.now
+            (seen_by (V.persons_of self.now.view.now) (V.cells_of self.now.view.now))) plays.now)) }
+    {
+        for play in plays {
+            self.put_play(play, lines, steps)?;
+        }
+        Ok(())
+    }
+
+    /// Puts whether the unit is done.
+    pub(crate) fn put_unit<L: Ledger>(
+        &self,
+        lines: &mut Lines,
+        steps: &mut Steps<L>,
+    ) -> Result<(), NoMemory>
+        requires { HasCells (V.has_cell self.now.view.now)
+            (done_looks self.now.unit.now Run self.now.unit.now.identifier) }
+        ensures { OnOk result (lines.new ≡ printed_after lines.old
+            (codes "unit" ∷ self.now.unit.now.identifier ∷ done_or_open (is_done self.now.unit.now
+            (seen_by (V.persons_of self.now.view.now) (V.cells_of self.now.view.now)) Run
+            self.now.unit.now.identifier) ∷ [])) }
+    {
+        let done = self.is_done(&self.unit.identifier, steps);
+        lines.begin("unit")?;
+        lines.add(self.unit.identifier.as_str())?;
+        lines.add(done_or_open(done))?;
+        Ok(())
+    }
+
+    /// Puts the play and its acts.
+    fn put_play<L: Ledger>(
+        &self,
+        play: &Play,
+        lines: &mut Lines,
+        steps: &mut Steps<L>,
+    ) -> Result<(), NoMemory>
+        requires { HasCells (V.has_cell self.now.view.now)
+            (report_play_looks self.now.unit.now play.now) }
+        ensures { OnOk result (lines.new ≡ fold printed_after lines.old
+            (report_of_play self.now.unit.now
+            (seen_by (V.persons_of self.now.view.now) (V.cells_of self.now.view.now)) play.now)) }
+    {
+        let done = self.is_done(&play.identifier, steps);
+        lines.begin("play")?;
+        lines.add(play.identifier.as_str())?;
+        lines.add(done_or_open(done))?;
+        self.put_acts(play.acts.as_slice(), lines, steps)?;
+        Ok(())
+    }
+
+    /// Puts the acts and their role-parts.
+    fn put_acts<L: Ledger>(
+        &self,
+        acts: &[Act],
+        lines: &mut Lines,
+        steps: &mut Steps<L>,
+    ) -> Result<(), NoMemory>
+        requires { HasCells (V.has_cell self.now.view.now)
+            (flat_map (report_act_looks self.now.unit.now) acts.now) }
+        ensures { OnOk result (lines.new ≡ fold printed_after lines.old
+            (flat_map (report_of_act self.now.unit.now
+            (seen_by (V.persons_of self.now.view.now) (V.cells_of self.now.view.now))) acts.now)) }
+    {
+        for act in acts {
+            self.put_act(act, lines, steps)?;
+        }
+        Ok(())
+    }
+
+    /// Puts the act, with the moment of its opening if there was one, and its role-parts.
+    fn put_act<L: Ledger>(
+        &self,
+        act: &Act,
+        lines: &mut Lines,
+        steps: &mut Steps<L>,
+    ) -> Result<(), NoMemory>
+        requires { HasCells (V.has_cell self.now.view.now)
+            (report_act_looks self.now.unit.now act.now) }
+        ensures { OnOk result (lines.new ≡ fold printed_after lines.old
+            (report_of_act self.now.unit.now
+            (seen_by (V.persons_of self.now.view.now) (V.cells_of self.now.view.now)) act.now)) }
+    {
+        let opening = self.opening(act, steps);
+        let opened = opening.is_some();
+        let done = self.is_done(&act.identifier, steps);
+        lines.begin("act")?;
+        lines.add(act.identifier.as_str())?;
+        lines.add(progress_word(done, opened))?;
+        add_moment_of(opening, lines)?;
+        self.put_parts(act, opened, lines, steps)?;
+        Ok(())
+    }
+
+    /// Puts the role-parts of the act, of which it is said whether it is opened.
+    fn put_parts<L: Ledger>(
+        &self,
+        act: &Act,
+        opened: bool,
+        lines: &mut Lines,
+        steps: &mut Steps<L>,
+    ) -> Result<(), NoMemory>
+        requires cells { HasCells (V.has_cell self.now.view.now)
+            (flat_map (report_part_looks self.now.unit.now) act.now.role_parts) }
+        requires opened { opened ≡ is_opened self.now.unit.now
+            (seen_by (V.persons_of self.now.view.now) (V.cells_of self.now.view.now)) act.now }
+        ensures { OnOk result (lines.new ≡ fold printed_after lines.old
+            (flat_map (λ part. report_of_part self.now.unit.now
+            (seen_by (V.persons_of self.now.view.now) (V.cells_of self.now.view.now)) act.now part ∷ [])
+            act.now.role_parts)) }
+    {
+        for part in act.role_parts.as_slice() {
+            self.put_part(part, opened, lines, steps)?;
+        }
+        Ok(())
+    }
+
+    /// Puts the role-part of an act, of which it is said whether it is opened.
+    fn put_part<L: Ledger>(
+        &self,
+        part: &RolePart,
+        opened: bool,
+        lines: &mut Lines,
+        steps: &mut Steps<L>,
+    ) -> Result<(), NoMemory>
+        requires { HasCells (V.has_cell self.now.view.now)
+            (report_part_looks self.now.unit.now part.now) }
+        ensures { OnOk result (lines.new ≡ printed_after lines.old
+            (codes "part" ∷ part.now.identifier ∷ progress_word (is_done self.now.unit.now
+            (seen_by (V.persons_of self.now.view.now) (V.cells_of self.now.view.now)) Run
+            part.now.identifier) opened ∷ [])) }
+    {
+        let done = self.is_done(&part.identifier, steps);
+        lines.begin("part")?;
+        lines.add(part.identifier.as_str())?;
+        lines.add(progress_word(done, opened))?;
+        Ok(())
+    }
+
+    /// Whether what the identifier names is done for the run.
+    fn is_done<L: Ledger>(&self, id: &Id, steps: &mut Steps<L>) -> bool
+        requires { HasCells (V.has_cell self.now.view.now)
+            (done_looks self.now.unit.now Run id.now) }
+        ensures { result ≡ is_done self.now.unit.now
+            (seen_by (V.persons_of self.now.view.now) (V.cells_of self.now.view.now)) Run id.now }
+    {
+        is_done(self.unit, self.names, self.view, Owner::Run, id, steps)
+    }
+
+    /// The value that tells when the act was opened.
+    fn opening<L: Ledger>(&self, act: &Act, steps: &mut Steps<L>) -> Option<&'a Value>
+        requires { HasCells (V.has_cell self.now.view.now)
+            (cell_list (opening_cell self.now.unit.now act.now)) }
+        ensures value { option_map datum_of (option_copied result) ≡ opening_of self.now.unit.now
+            (seen_by (V.persons_of self.now.view.now) (V.cells_of self.now.view.now)) act.now }
+        ensures dated { ForSome (moment_of_value (option_map datum_of (option_copied result)))
+            IsMoment }
+    {
+        let thing = thing_number(self.unit, self.names, &act.identifier)?;
+        self.look(CellName::ActOpened(thing), steps)
+    }
+
+    /// The value of the cell.
+    fn look<L: Ledger>(&self, cell: CellName, steps: &mut Steps<L>) -> Option<&'a Value>
+        requires { V.has_cell self.now.view.now cell ≡ true }
+        ensures value { option_map datum_of (option_copied result)
+            ≡ V.cells_of self.now.view.now cell }
+        ensures dated { ForSome (moment_of_value (option_map datum_of (option_copied result)))
+            IsMoment }
+    {
+        self.view.get(cell, steps)
+    }
+}
+
+/// Adds the moment that the value is, if it is one.
+fn add_moment_of(value: Option<&Value>, lines: &mut Lines) -> Result<(), NoMemory>
+    requires { ForSome (moment_of_value (option_map datum_of (option_copied value))) IsMoment }
+    ensures { OnOk result (lines.new ≡ fold worded lines.old
+        (moment_word (option_map datum_of (option_copied value.entry)))) }
+{
+    match value {
+        Some(Value::Moment(moment)) => lines.add_moment(*moment),
+        _ => Ok(()),
+    }
+}
+
+/// What is told of something that is done, or is not.
+fn done_or_open(done: bool) -> &'static str
+    ensures { result.now ≡ done_or_open done }
+{
+    if done {
+        return "done";
+    }
+    "open"
+}
+
+/// The same of something in an act that is opened, or is not.
+fn progress_word(done: bool, opened: bool) -> &'static str
+    ensures { result.now ≡ progress_word done opened }
+{
+    if done {
+        return "done";
+    }
+    if opened {
+        return "open";
+    }
+    "waiting"
+}

@@ -1,0 +1,230 @@
+//! The replies to the commands of a run.
+ghost use Rattle.std.specs.Prelude.{◌≡◌, ◌+◌, ◌<◌, ◌≤◌, ◌++◌, codes, decimal, length, map, IsOk, OnOk};
+ghost use Rattle.ld_base.specs.Roomy.{KeepsRoom};
+ghost use Rattle.ld_state.specs.RunState.{seen_in};
+ghost use Rattle.ld_state.specs.StateView.{IsStateOf, run_of};
+ghost use Rattle.ld_firing.specs.RunSystem.{IsSoundRun};
+ghost use Rattle.ld_firing.specs.SettledView.{sums_in};
+ghost use Rattle.ld_tree.specs.Lines.{line_text, spaced};
+ghost use Rattle.ld_tree.specs.Tree.{tree_lines};
+ghost use Rattle.ld_checks.specs.AdmittedView.{HasPropertyCell, admitted_of};
+ghost use Rattle.ld_replies.specs.Printing.{AreNoticesOf, IsPrintable, IsTellable};
+ghost use Rattle.ld_checks.specs.RefusalView.{refusal_of};
+ghost use Rattle.ld_replies.specs.Replies.{counted_lines, printed_value, refusal_text, sums_text, told_line, verb_of};
+ghost use Rattle.ld_replies.specs.Reports.{outbox_lines, report_lines};
+
+use crate::outbox::put_outbox;
+use crate::printed::Lines;
+use crate::refusal_text::{push_details, push_number_and_word};
+use crate::report::put_report;
+use crate::value_text::push_value;
+use itoa::Buffer;
+use ld_base::memory::NoMemory;
+use ld_base::numbers::PersonNo;
+use ld_base::steps::Steps;
+use ld_base::text::Text;
+use ld_cascade::settled::Settled;
+use ld_checks::admitted::Admitted;
+use ld_checks::refusal::Refusal;
+use ld_model::cell::CellName;
+use ld_model::view::View;
+use ld_rules::prepared::PreparedUnit;
+use ld_state::state::State;
+use ld_tree::tree::tree_text;
+use std::alloc::Global;
+use std::sync::ledger::Ledger;
+
+/// Appends what is told of a command that was done: `ok`, the verb, the turns and the sums of its
+/// settlings, and what it asked for. (docs/COMMANDS.md, "Replies")
+///
+/// # Errors
+/// `NoMemory` leaves what stood in `out`, and behind it maybe a part of what is told.
+pub fn push_done<L: Ledger>(
+    alloc: Global,
+    unit: &PreparedUnit,
+    state: &State,
+    command: &Admitted<'_>,
+    totals: Settled,
+    out: &mut Text,
+    steps: &mut Steps<L>,
+) -> Result<(), NoMemory>
+    requires own { IsStateOf unit.now state.now }
+    requires sound { IsSoundRun unit.now (run_of state.now) }
+    requires notices { AreNoticesOf unit.now state.now.outbox }
+    requires told { IsTellable unit.now (run_of state.now) (admitted_of command.now) }
+    ensures text { OnOk result (out.new.bytes ≡ out.old.bytes
+        ++ (told_line unit.now (run_of state.now) (admitted_of command.now) totals.turns (sums_in totals))) }
+    ensures room { KeepsRoom out.old out.new }
+{
+    out.push("ok ")?;
+    out.push(verb_of(command))?;
+    push_sums(totals, out)?;
+    match command {
+        Admitted::Gets(cell) => push_cell(alloc, unit, state, *cell, out, steps),
+        Admitted::ShowsTree(person) => push_tree(alloc, unit, state, *person, out, steps),
+        Admitted::ShowsOutbox(person) => push_outbox(alloc, unit, state, *person, out),
+        Admitted::Reports => push_report(alloc, unit, state, out, steps),
+        _ => Ok(()),
+    }
+}
+
+/// Appends what is told of a command that was refused. It takes no memory where there is room for 127
+/// bytes and the identifier that is told, if there is one, has at most 64. (docs/COMMANDS.md,
+/// "Refusals")
+///
+/// # Errors
+/// As `push_done`.
+pub fn push_refusal(refusal: Refusal<'_>, out: &mut Text) -> Result<(), NoMemory>
+    requires printable { IsPrintable (refusal_of refusal) }
+    ensures text { OnOk result (out.new.bytes
+        ≡ out.old.bytes ++ refusal_text (refusal_of refusal.entry)) }
+    ensures within { 127 ≤ out.old.spare → IsOk result }
+    ensures left { OnOk result (out.old.spare ≤ out.new.spare + 127) }
+    ensures room { KeepsRoom out.old out.new }
+{
+    push_number_and_word(refusal.number(), out)?;
+    push_details(refusal, out)?;
+    Ok(())
+}
+
+/// The verb of the command.
+fn verb_of(command: &Admitted<'_>) -> &'static str
+    ensures { result.now ≡ verb_of (admitted_of command.now) }
+{
+    match command {
+        Admitted::Enrols(_) => "enrol",
+        Admitted::Assigns(_, _) => "assign",
+        Admitted::Drops(_, _) => "drop",
+        Admitted::Starts => "start",
+        Admitted::Opens(_, _) => "open",
+        Admitted::Completes(_, _) => "complete",
+        Admitted::Sets(_, _) => "set",
+        Admitted::Clears(_) => "clear",
+        Admitted::Gets(_) => "get",
+        Admitted::ShowsTree(_) => "tree",
+        Admitted::ShowsOutbox(_) => "outbox",
+        Admitted::Reports => "report",
+        Admitted::Ticks => "tick",
+    }
+}
+
+/// Appends the turns and the sums.
+fn push_sums(totals: Settled, out: &mut Text) -> Result<(), NoMemory>
+    ensures text { OnOk result (out.new.bytes
+        ≡ out.old.bytes ++ sums_text totals.turns (sums_in totals)) }
+    ensures room { KeepsRoom out.old out.new }
+{
+    push_named(" turns=", u64::from(totals.turns), out)?;
+    push_named(" fired=", totals.fired, out)?;
+    push_named(" rejected=", totals.rejected, out)?;
+    push_named(" sent=", totals.sent, out)
+}
+
+/// Appends a name and a number behind it.
+fn push_named(name: &str, number: u64, out: &mut Text) -> Result<(), NoMemory>
+    ensures text { OnOk result (out.new.bytes ≡ out.old.bytes ++ (name.now ++ decimal number)) }
+    ensures room { KeepsRoom out.old out.new }
+{
+    out.push(name)?;
+    out.push(Buffer::new().format(number))
+}
+
+/// Appends the number of the lines, and their text.
+fn push_counted(count: u32, lines: &str, out: &mut Text) -> Result<(), NoMemory>
+    ensures text { OnOk result (out.new.bytes
+        ≡ out.old.bytes ++ (codes " lines=" ++ (decimal count ++ lines.now))) }
+    ensures room { KeepsRoom out.old out.new }
+{
+    push_named(" lines=", u64::from(count), out)?;
+    out.push(lines)
+}
+
+/// Appends the value of the cell.
+fn push_cell<L: Ledger>(
+    alloc: Global,
+    unit: &PreparedUnit,
+    state: &State,
+    cell: CellName,
+    out: &mut Text,
+    steps: &mut Steps<L>,
+) -> Result<(), NoMemory>
+    requires own { IsStateOf unit.now state.now }
+    requires sound { IsSoundRun unit.now (run_of state.now) }
+    requires cell { HasPropertyCell unit.now (run_of state.now) cell }
+    ensures text { OnOk result (out.new.bytes ≡ out.old.bytes
+        ++ (codes " value=" ++ printed_value ((run_of state.now).cells cell))) }
+    ensures room { KeepsRoom out.old out.new }
+{
+    out.push(" value=")?;
+    push_value(alloc, state.get(cell, steps), out)?;
+    Ok(())
+}
+
+/// Appends the person's tree.
+fn push_tree<L: Ledger>(
+    alloc: Global,
+    unit: &PreparedUnit,
+    state: &State,
+    person: PersonNo,
+    out: &mut Text,
+    steps: &mut Steps<L>,
+) -> Result<(), NoMemory>
+    requires own { IsStateOf unit.now state.now }
+    requires sound { IsSoundRun unit.now (run_of state.now) }
+    requires person { person.0 < length (run_of state.now).persons }
+    ensures text { OnOk result (out.new.bytes ≡ out.old.bytes ++ counted_lines (map line_text
+        (tree_lines unit.now (seen_in unit.now (run_of state.now)) person.0))) }
+    ensures room { KeepsRoom out.old out.new }
+{
+    let mut lines = Text::new(alloc);
+    let count = tree_text(
+        alloc,
+        unit.unit(),
+        unit.names(),
+        state,
+        person,
+        &mut lines,
+        steps,
+    )?;
+    push_counted(count, lines.as_str(), out)?;
+    Ok(())
+}
+
+/// Appends the notices to the person.
+fn push_outbox(
+    alloc: Global,
+    unit: &PreparedUnit,
+    state: &State,
+    person: PersonNo,
+    out: &mut Text,
+) -> Result<(), NoMemory>
+    requires { AreNoticesOf unit.now state.now.outbox }
+    ensures text { OnOk result (out.new.bytes ≡ out.old.bytes
+        ++ counted_lines (map spaced (outbox_lines unit.now (run_of state.now) person.0))) }
+    ensures room { KeepsRoom out.old out.new }
+{
+    let mut lines = Lines::new(alloc);
+    put_outbox(alloc, unit, state.outbox(), person, &mut lines)?;
+    push_counted(lines.count(), lines.as_str(), out)?;
+    Ok(())
+}
+
+/// Appends the report on the run.
+fn push_report<L: Ledger>(
+    alloc: Global,
+    unit: &PreparedUnit,
+    state: &State,
+    out: &mut Text,
+    steps: &mut Steps<L>,
+) -> Result<(), NoMemory>
+    requires own { IsStateOf unit.now state.now }
+    requires sound { IsSoundRun unit.now (run_of state.now) }
+    ensures text { OnOk result (out.new.bytes ≡ out.old.bytes
+        ++ counted_lines (map spaced (report_lines unit.now (run_of state.now)))) }
+    ensures room { KeepsRoom out.old out.new }
+{
+    let mut lines = Lines::new(alloc);
+    put_report(alloc, unit, state, &mut lines, steps)?;
+    push_counted(lines.count(), lines.as_str(), out)?;
+    Ok(())
+}
