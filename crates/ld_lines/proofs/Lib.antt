@@ -1,3 +1,5 @@
+pub mod Passing
+pub mod Arrays
 pub mod Ranges
 pub mod Feeds
 pub mod Pieces

@@ -1,5 +1,6 @@
 pub mod Commands
 pub mod Words
+pub mod Texts
 pub mod Elements
 pub mod Refusals
 pub mod Lines

@@ -3,13 +3,14 @@
 
 mod buffer;
 pub mod command;
+pub mod command_reader;
 mod cut;
 pub mod fault;
 pub mod line;
 pub mod lines;
 pub mod next;
-pub mod read;
 mod reader;
 pub mod refusal;
 pub mod stop;
+mod verbs;
 mod words;

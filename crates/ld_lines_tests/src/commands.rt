@@ -1,19 +1,19 @@
 //! A line of each verb. The tables of lines that are no command stand in tests/lines.
 use ld_base::id::Id;
 use ld_lines::command::RunCommand;
+use ld_lines::command_reader::CommandReader;
 use ld_lines::fault::LineFault;
 use ld_lines::line::Line;
-use ld_lines::read::read_command;
 use std::alloc::Global;
 use std::test::Fail;
 
 /// The line's command in words: the seconds of its moment, its verb and the verb's words.
-fn told(alloc: Global, words: &str) -> Result<String, Fail> {
+fn told(alloc: Global, reader: &mut CommandReader, words: &str) -> Result<String, Fail> {
     let mut bytes = String::from_str(alloc, r#"["1970-01-01T00:01:00Z""#)?;
     bytes.push_str(words)?;
     bytes.push_str("]")?;
     let mut told = String::new(alloc);
-    match read_command(alloc, bytes.as_bytes()) {
+    match reader.read(alloc, bytes.as_bytes()) {
         Ok(line) => push_line(&mut told, &line)?,
         Err(LineFault::BadLine) => told.push_str("bad-line")?,
         Err(LineFault::NoMemory) => told.push_str("no-memory")?,
@@ -144,8 +144,9 @@ fn each_verb(rt: HostRuntime) -> Result<(), Fail> {
         (r#","fly","r""#, "bad-line"),
         (r#","tick","r","x""#, "bad-line"),
     ];
+    let mut reader = CommandReader::new(rt.alloc());
     for (words, wanted) in table {
-        let told = told(rt.alloc(), words)?;
+        let told = told(rt.alloc(), &mut reader, words)?;
         assert_eq!(rt; told.as_str(), wanted, "{words}");
     }
     Ok(())

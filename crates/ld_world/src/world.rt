@@ -23,10 +23,10 @@ use ld_checks::refusal::Refusal;
 use ld_globals::globals::Globals;
 use ld_json::fault::ReadFault;
 use ld_lines::command::RunCommand;
+use ld_lines::command_reader::CommandReader;
 use ld_lines::fault::LineFault;
 use ld_lines::line::Line;
 use ld_lines::lines::LINE_LIMIT;
-use ld_lines::read::read_command;
 use ld_refs::check::Checked;
 use ld_replies::telling::{refuse, say_no_memory};
 use ld_rules::prepared::PreparedUnit;
@@ -38,11 +38,13 @@ use std::rc::Rc;
 use std::sync::ledger::Ledger;
 
 /// Published units, the store of the values of their global properties, and the runs that were made
-/// of them by their names. (docs/MEANING.md, "Histories")
+/// of them by their names. (docs/MEANING.md, "Histories") What reads the lines is kept beside them,
+/// and is no part of what the world means.
 pub struct World {
     units: Vec<Rc<PreparedUnit>>,
     globals: Globals,
     runs: IndexMap<Id, Run>,
+    commands: CommandReader,
 }
 
 // By hand, so that a function which lets one go calls this and is not proved over each field anew.
@@ -52,6 +54,7 @@ impl Drop for World {
             units: _,
             globals: _,
             runs: _,
+            commands: _,
         } = self;
     }
 }
@@ -88,6 +91,7 @@ impl World {
             units: Vec::new(alloc),
             globals: Globals::new(alloc),
             runs: IndexMap::new(alloc),
+            commands: CommandReader::new(alloc),
         }
     }
 
@@ -160,7 +164,7 @@ impl World {
         if line.len() > LINE_LIMIT {
             return refuse(Refusal::BadLine, out);
         }
-        match read_command(alloc, line) {
+        match self.commands.read(alloc, line) {
             Ok(line) => self.do_line(alloc, line, out, steps),
             Err(LineFault::BadLine) => refuse(Refusal::BadLine, out),
             Err(LineFault::NoMemory) => Err(NoMemory),

@@ -1,8 +1,8 @@
-use Rattle.std.proofs.Common.{◌≡◌, None, Err, ap, arith}
+use Rattle.std.proofs.Common.{◌≡◌, None, Err, OnOk, sym, ap, subst, arith}
 use Rattle.std.proofs.lemmas.Grind.{common_steps}
 use Rattle.ld_lines.specs.Commands.{command_of}
 use Rattle.ld_checks.specs.Refusals.{BadLine}
-use Rattle.ld_world.specs.Answers.{line_of}
+use Rattle.ld_world.specs.Answers.{AnswersLine, line_of}
 use Rattle.ld_world.specs.WorldView.{world_of}
 use Rattle.ld_world.proofs.Answering.{bad_line, on_ok, refused_line}
 use Rattle.ld_world.proofs.world.World.try_answer.Goals as goal
@@ -16,6 +16,8 @@ returns-then-line-gt-LINE_LIMIT-clause-ok g c =
 pub returns-in-Err-BadLine-clause-ok : goal.returns-in-Err-BadLine-clause-ok
 returns-in-Err-BadLine-clause-ok g c =
     let w = world_of c.args.self.now in
+    let text = c.refuse-in-Err-BadLine.new.out.bytes in
     let bad : command_of c.args.line.now ≡ None = c.in-Err-BadLine.ensures.bad (ap Err c.in-Err-BadLine.field-0-is) in
     let none : line_of c.args.line.now ≡ None = grind (arith, common_steps, bad) in
-    rw none (on_ok c.refuse-in-Err-BadLine.result c.refuse-in-Err-BadLine.ensures.text (refused_line w None BadLine c.refuse-in-Err-BadLine.new.out.bytes (bad_line w)))
+    let told = on_ok c.refuse-in-Err-BadLine.result c.refuse-in-Err-BadLine.ensures.text (refused_line w None BadLine text (bad_line w)) in
+    rw none (subst (λ v. OnOk c.refuse-in-Err-BadLine.result (AnswersLine w None text (world_of v))) (sym c.self.view_is) told)
