@@ -12,13 +12,16 @@ ghost use Rattle.ld_base.specs.Maybe.{provided};
 
 use crate::memory::NoMemory;
 use std::alloc::Global;
+use std::cell::Cell;
 use std::hash::{Hash, Hasher};
 use std::marker::Model;
 
-/// An identifier, seen by contracts as its bytes.
+/// An identifier, seen by contracts as its bytes. It also keeps a number at which it may be found, of
+/// which no contract speaks: whoever uses it looks whether the identifier is there.
 #[derive(Drop)]
 pub struct Id {
     text: String,
+    hint: Cell<u32>,
 }
 
 impl Model for Id {
@@ -38,9 +41,7 @@ impl Id {
             return Ok(None);
         }
         match str::from_utf8(bytes) {
-            Ok(text) => Ok(Some(Id {
-                text: String::from_str(alloc, text)?,
-            })),
+            Ok(text) => Ok(Some(Id::of(String::from_str(alloc, text)?))),
             Err(_) => unreachable!(),
         }
     }
@@ -52,7 +53,27 @@ impl Id {
         if !has_form(text.as_bytes()) {
             return None;
         }
-        Some(Id { text })
+        Some(Id::of(text))
+    }
+
+    /// The identifier of this text.
+    fn of(text: String) -> Id
+        ensures { result ≡ string_bytes text }
+    {
+        Id {
+            text,
+            hint: Cell::new(0),
+        }
+    }
+
+    /// The number that `remember` was given last, or 0.
+    pub fn hint(&self) -> u32 {
+        self.hint.get()
+    }
+
+    /// Keeps a number at which the identifier may be found, for `hint`.
+    pub fn remember(&self, number: u32) {
+        self.hint.set(number);
     }
 
     /// The identifier's text.
@@ -68,7 +89,7 @@ impl Id {
         ensures { IfOk result (λ id. id ≡ self.now) }
     {
         let text = self.text.clone()?;
-        Ok(Id { text })
+        Ok(Id::of(text))
     }
 }
 

@@ -32,10 +32,14 @@ no|a{b
 no|a b
 no|aé";
 
-/// Whether the text is read as an identifier, which has that text and equals its copy.
+/// Whether the text is read as an identifier, which has that text, equals its copy, and keeps the
+/// number that it is to remember.
 fn is_identifier(alloc: Global, text: &str) -> Result<bool, NoMemory> {
     match Id::read(alloc, text.as_bytes())? {
-        Some(id) => Ok(id.as_str() == text && id.copy()? == id),
+        Some(id) => {
+            id.remember(7);
+            Ok(id.as_str() == text && id.copy()? == id && id.hint() == 7)
+        }
         None => Ok(false),
     }
 }

@@ -89,6 +89,12 @@ abbrev pub IsUnknown : List (List ℕ) → Option (List ℕ) → Type 0
 IsUnknown persons None = ⊥
 IsUnknown persons (Some text) = AllByRecursion (λ other. bytes_eq text other ≡ false) persons
 
+-- The number is that of the uri.
+pub record IsUriNumber (declared : List (Roomy × Declared)) (uri : List ℕ) (number : ℕ) : Type 0 where
+  pub entry : Roomy × Declared
+  pub there : slice_get declared number ≡ Some entry
+  pub same : bytes_eq uri entry.0.bytes ≡ true
+
 -- The numbers are those of the key.
 pub record IsNumberOf (declared : List (Roomy × Declared)) (persons : List (List ℕ)) (key : Key) (k : KeyNumber) : Type 0 where
   pub entry : Roomy × Declared

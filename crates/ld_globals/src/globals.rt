@@ -122,13 +122,14 @@ impl Globals {
         ensures cost { steps.new ≡ steps.old + 1 }
     {
         steps.tick();
-        let Some(declared) = self.declared.get(uri) else {
+        let Some((number, _, declared)) = self.declared.get_full(uri) else {
             return Err(GlobalFault::UnknownGlobal);
         };
         if !suits(declared.kind, person) {
             return Err(GlobalFault::NotAllowed);
         }
-        match find_cell(&self.declared, &self.persons, &self.cells, uri, person) {
+        let (uris, persons) = (&self.declared, &self.persons);
+        match find_cell(uris, persons, &self.cells, uri, number, person) {
             Some(cell) => Ok(cell.value.as_ref()),
             None => Ok(declared.initial.as_ref()),
         }

@@ -5,7 +5,7 @@ ghost use Rattle.std.specs.Map.{lookup};
 ghost use Rattle.std.specs.Str.{bytes_eq};
 ghost use Rattle.ld_globals.specs.declared.declared.Declared.{Declared};
 ghost use Rattle.ld_globals.specs.Answers.{key_given};
-ghost use Rattle.ld_globals.specs.Kept.{IsAmong, writes_of, IsCell, IsNumberOf, IsNumbering, IsPersonNumber, IsUnknown, write_of, written_of};
+ghost use Rattle.ld_globals.specs.Kept.{IsUriNumber, writes_of, IsCell, IsNumberOf, IsNumbering, IsPersonNumber, IsUnknown, write_of, written_of};
 ghost use Rattle.ld_globals.specs.Store.{key_at, same_key};
 
 use crate::cell::Cell;
@@ -21,23 +21,23 @@ pub(crate) struct KeyNumber {
     pub(crate) person: Option<usize>,
 }
 
-/// The cell of a key, if it was ever written.
+/// The cell of the key of this uri, which has this number, if it was ever written.
 pub(crate) fn find_cell<'a>(
     declared: &IndexMap<Text, Declared>,
     persons: &IndexSet<Id>,
     cells: &'a IndexMap<KeyNumber, Cell>,
     uri: &Text,
+    number: usize,
     person: Option<&Id>,
 ) -> Option<&'a Cell>
     requires numbers { IsNumbering declared.now.entries persons.now.keys }
     requires cells { AllByRecursion (IsCell declared.now.entries persons.now.keys)
         cells.now.entries }
-    requires declared { IsAmong declared.now.entries uri.now.bytes }
+    requires declared { IsUriNumber declared.now.entries uri.now.bytes number }
     ensures { option_map (λ c. write_of c.now) result
         ≡ lookup (same_key (key_given uri.now person.entry))
         (writes_of declared.now.entries persons.now.keys cells.now.entries) }
 {
-    let (number, _, _) = declared.get_full(uri)?;
     let person = person_number(persons, person)?;
     cells.get(&KeyNumber {
         uri: number,

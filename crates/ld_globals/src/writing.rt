@@ -41,13 +41,13 @@ pub(crate) fn has_value(
         (store_of declared.now.entries persons.now.keys cells.now.entries 0 0)
         (key_given uri.now person.entry)) (option_map datum_of value.now) }
 {
-    if let Some(cell) = find_cell(declared, persons, cells, uri, person) {
-        return same_optional(&cell.value, value);
-    }
-    let Some(declared) = declared.get(uri) else {
+    let Some((number, _, found)) = declared.get_full(uri) else {
         unreachable!();
     };
-    same_optional(&declared.initial, value)
+    if let Some(cell) = find_cell(declared, persons, cells, uri, number, person) {
+        return same_optional(&cell.value, value);
+    }
+    same_optional(&found.initial, value)
 }
 
 /// The number of the person, who is given one where there was none. It takes no memory where the

@@ -84,7 +84,7 @@ pub(crate) fn identifiers_with(
     requires things { map entry_of things.now ≡ things_in listing.now }
     ensures { IfOk result (λ identifiers. identifiers.items ≡ identifiers_of unit.now) }
 {
-    let mut identifiers = Vec::new(alloc);
+    let mut identifiers = Vec::with_capacity(alloc, listing.len())?;
     identifiers.push(unit.identifier.copy()?)?;
     push_roles(&mut identifiers, listing)?;
     push_properties(&mut identifiers, unit.properties.as_slice())?;

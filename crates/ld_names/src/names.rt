@@ -110,13 +110,21 @@ impl Names {
     }
 
     /// What the identifier names; None exactly where the unit has no such identifier. What it names
-    /// has just this identifier. It takes no memory.
+    /// has just this identifier. It takes no memory. The identifier is searched for only where it is
+    /// not the one at its hint: so of one that is kept, once.
     pub fn number(&self, id: &Id) -> Option<Named>
         ensures named { result ≡ named_by self.now id.now }
         ensures part { IfSome result (HasPart self.now) }
         ensures has_it { IfSome result (λ named. identifier_at self.now named ≡ Some id.now) }
     {
+        let hint = id.hint() as usize;
+        if let Some(found) = self.identifiers.get_index(hint) {
+            if found == id {
+                return Some(self.named_at(hint));
+            }
+        }
         let index = self.identifiers.get_index_of(id)?;
+        id.remember(index as u32);
         Some(self.named_at(index))
     }
 

@@ -29,7 +29,7 @@ pub fn list_things<'a>(
 ) -> Result<Vec<ThingEntry<'a>>, NoMemory>
     ensures { IfOk result (λ things. map entry_of things.items ≡ things_in listing.now) }
 {
-    let mut things = Vec::new(alloc);
+    let mut things = Vec::with_capacity(alloc, listing.len())?;
     for index in 0..listing.len() {
         push_thing(&mut things, listing.what(index))?;
     }

@@ -1,4 +1,6 @@
 use Rattle.std.proofs.Common.{◌≡◌, Ok, Err, option_map, option_copied, sym, ap, subst, ◌∙◌, is_some, true}
+use Rattle.std.proofs.lemmas.Map.Made.{lookup_key_passes}
+use Rattle.std.specs.Str.{bytes_eq}
 use Rattle.ld_value.specs.Datum.{datum_of}
 use Rattle.ld_globals.specs.Declarations.{declaration_of, suits}
 use Rattle.ld_globals.specs.Kept.{store_of, write_of}
@@ -20,7 +22,11 @@ returns-then-not-suits-clause-answer g c =
     subst (λ store. Err NotAllowed ≡ get_answer store (key_at c.args.uri.now.bytes (option_copied c.args.person))) c.self.view_is (get-refused s.declared.entries s.persons.keys s.cells.entries s.stamp s.spare c.args.uri.now.bytes (option_copied c.args.person) d (sym c.in-Some.ensures.value) (ap (suits d.kind) (some-copied c.args.person) ∙ sym c.suits.ensures ∙ c.if-not-suits.true))
 
 pub find_cell-requires-clause-declared : goal.find_cell-requires-clause-declared
-find_cell-requires-clause-declared g c = (c.in-Some.declared.now, sym c.in-Some.ensures.value)
+find_cell-requires-clause-declared g c = record {
+  entry = (c.in-Some.field-0-1.now, c.in-Some.declared.now);
+  there = c.in-Some.ensures.entry;
+  same = lookup_key_passes (λ k. bytes_eq c.args.uri.now.bytes k.bytes) c.self.inside.declared.entries c.in-Some.field-0-1.now (sym c.in-Some.ensures.key);
+}
 
 pub returns-in-Some-find_cell-clause-answer : goal.returns-in-Some-find_cell-clause-answer
 returns-in-Some-find_cell-clause-answer g c =
