@@ -50,7 +50,7 @@ pub record EdgesAre (edges : Edges) (i : ℕ) (slots : List ℕ) : Type 0 where
 
 -- no range and no room is smaller; each site that is not linked anew has the edges that it had, and
 -- is loose if it was
-pub record Follows (old now : Wiring) : Type 0 where
+pub record LinksFollow (old now : Wiring) : Type 0 where
   pub sites : old.sites ≤ now.sites
   pub slots : old.edges.slots ≤ now.edges.slots
   pub room : edge_room old.edges ≤ edge_room now.edges

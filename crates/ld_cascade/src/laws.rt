@@ -3,8 +3,8 @@
 ghost use Rattle.std.specs.Prelude.{◌≡◌, ℕ, ◌<◌, ◌≤◌, true, List, [], get_or};
 ghost use Rattle.ld_graph.specs.Table.{has};
 ghost use Rattle.ld_cascade.specs.System.{System};
-ghost use Rattle.ld_cascade.specs.Wiring.{Wiring, EdgesAre, Follows, IsAtRest, IsSameTable, IsTakenBack};
-ghost use Rattle.ld_cascade.specs.Tidy.{Tidy, Bound, Covers, Changes, Touched};
+ghost use Rattle.ld_cascade.specs.Wiring.{Wiring, EdgesAre, LinksFollow, IsAtRest, IsSameTable, IsTakenBack};
+ghost use Rattle.ld_cascade.specs.Tidy.{Tidy, Bound, Covers, ChangesOnly, Touched};
 ghost use Rattle.ld_cascade.specs.Rooms.{Restorable};
 
 use crate::sites::Sites;
@@ -20,7 +20,8 @@ pub fn begins_tidy<G: Sites>(_sites: &G)
 /// each new site set fresh.
 pub fn stays_tidy<G: Sites>(_sites: &G)
     ensures { (s t : G.system.Situation) (slots : List ℕ) (old now : Wiring) → Tidy G.system s old
-        → Changes G.system s t slots → Touched G.system s t slots old now → Tidy G.system t now }
+        → ChangesOnly G.system s t slots → Touched G.system s t slots old now
+        → Tidy G.system t now }
 {}
 
 /// Where no site has an edge, every site is dirty, and the loose sites are the dirty ones, the
@@ -32,25 +33,26 @@ pub fn begins_bound<G: Sites>(_sites: &G)
         → ((i : ℕ) → get_or wiring.edges.rows i [] ≡ []) → Bound G.system s wiring }
 {}
 
-/// Writes that are no firing leave the links bound, where each new site is set fresh, and the course
-/// stays or the readers of each slot that they change are set loose.
+/// Writes that are no firing leave the links bound, where each new site is set fresh, and the
+/// course stays or the readers of each slot that they change are set loose.
 pub fn stays_bound<G: Sites>(_sites: &G)
     ensures { (s t : G.system.Situation) (slots : List ℕ) (old now : Wiring)
         → Bound G.system s old
-        → Changes G.system s t slots → Touched G.system s t slots old now → Bound G.system t now }
+        → ChangesOnly G.system s t slots → Touched G.system s t slots old now
+        → Bound G.system t now }
 {}
 
 /// Where the state was taken back to one whose links were tidy and at rest, and the links followed
 /// those until they were taken back, they are tidy.
 pub fn back_is_tidy<G: Sites>(_sites: &G)
     ensures { (s : G.system.Situation) (begun now back : Wiring) → Tidy G.system s begun
-        → IsAtRest begun → Follows begun now → IsTakenBack now back → Tidy G.system s back }
+        → IsAtRest begun → LinksFollow begun now → IsTakenBack now back → Tidy G.system s back }
 {}
 
 /// And they are bound.
 pub fn back_is_bound<G: Sites>(_sites: &G)
     ensures { (s : G.system.Situation) (begun now back : Wiring) → Tidy G.system s begun
-        → IsAtRest begun → Follows begun now → IsTakenBack now back → Bound G.system s back }
+        → IsAtRest begun → LinksFollow begun now → IsTakenBack now back → Bound G.system s back }
 {}
 
 /// Where all edges are the reads, the links can be restored from then on.
@@ -63,6 +65,6 @@ pub fn begins_restorable<G: Sites>(_sites: &G)
 /// Links that can be restored stay so through each call that follows them.
 pub fn stays_restorable<G: Sites>(_sites: &G)
     ensures { (s : G.system.Situation) (old now : Wiring) → Restorable G.system s old
-        → Follows old now
+        → LinksFollow old now
         → Restorable G.system s now }
 {}

@@ -5,7 +5,7 @@ ghost use Rattle.ld_graph.specs.Edges.{edge_room};
 ghost use Rattle.ld_cascade.specs.System.{System, Lawful, MayFire, due, fires};
 ghost use Rattle.ld_cascade.specs.Settling.{Firing, Sums, sums_of, plus, no_sums, step, fired, fired_below, swept, sweep_firings, Moves, after_sweeps, all_firings, firings_to, PassesBudget, Settles, rejections, notices};
 ghost use Rattle.ld_cascade.specs.Outcome.{IsSettled};
-ghost use Rattle.ld_cascade.specs.Wiring.{Wiring, IsEmpty, IsWith, IsWithout, HasSameRow, EdgesAre, Follows};
+ghost use Rattle.ld_cascade.specs.Wiring.{Wiring, IsEmpty, IsWith, IsWithout, HasSameRow, EdgesAre, LinksFollow};
 ghost use Rattle.ld_cascade.specs.Tidy.{IsTidy, Tidy, Bound, Covers};
 ghost use Rattle.ld_cascade.specs.Work.{weight, weight_of, work, Stirs, Costs, Spends, SpendsInPart};
 ghost use Rattle.ld_cascade.specs.Rooms.{read_count, HasRoom, HasRoomOutside};
@@ -42,7 +42,7 @@ fn link<G: Sites, L: Ledger>(
     ensures own { IfOk result (λ _.
         EdgesAre links.new.edges site (G.system.reads (G.now sites.old) site)) }
     ensures others { (i : ℕ) → (i ≡ site → ⊥) → HasSameRow links.old.edges links.new.edges i }
-    ensures follows { Follows links.old links.new }
+    ensures follows { LinksFollow links.old links.new }
     ensures relinked { (i : ℕ) → has links.new.relinked i ≡ true → (has links.old.relinked i ≡ true)
         ⊎ (i ≡ site) }
     ensures loose { IfOk result (λ _. IsWithout links.old.loose links.new.loose site) }
@@ -209,7 +209,7 @@ pub fn settle<G: Sites, L: Ledger>(
         → HasRoom G.system (G.now sites.new) (G.room sites.new)) }
     ensures course { G.system.course (G.now sites.new) ≡ G.system.course (G.now sites.old) }
     ensures room { G.room sites.old ≤ G.room sites.new }
-    ensures follows { Follows links.old links.new }
+    ensures follows { LinksFollow links.old links.new }
     ensures sites { links.new.sites ≡ links.old.sites }
     ensures spends { IfOk result (λ r.
         Spends G.system (G.now sites.old) (all_firings G.system (G.now sites.old) r.turns)

@@ -1,7 +1,8 @@
-ghost use Rattle.std.specs.Prelude.{◌≡◌, ℕ, ◌<◌, ◌≤◌, length, IfOk};
+ghost use Rattle.std.specs.Prelude.{◌≡◌, ◌<◌, ◌≤◌, length, IfOk};
 ghost use Rattle.ld_cascade.specs.Tidy.{Tidy, Bound, Covers};
-ghost use Rattle.ld_cascade.specs.Wiring.{Follows};
+ghost use Rattle.ld_cascade.specs.Wiring.{LinksFollow, Wiring};
 ghost use Rattle.ld_cascade_tests.specs.Lamps.{lamps, lamps_of};
+ghost use Rattle.ld_cascade_tests.specs.Settled.{AreSettled};
 
 use crate::lamps::Lamps;
 use ld_base::steps::Steps;
@@ -138,7 +139,9 @@ fn link_lamps(alloc: Global, row: &Lamps) -> Result<Links, Fail>
     let mut links = Links::new(alloc);
     let count = row.lit.len() as u32;
     links.grow(count, count)?;
-    links.renew(count);
+    for site in 0..count {
+        links.fresh(site);
+    }
     begins_tidy(row);
     begins_bound(row);
     Ok(links)
@@ -180,25 +183,34 @@ fn settle_lamps_plainly<L: Ledger>(
     settle_plainly(alloc, lamps, count, turns, &mut steps)
 }
 
+/// How the links are made right again, once the lamps were taken back.
+#[derive(Clone, Copy)]
+enum Repair {
+    TakeBack,
+    Restore,
+}
+
 /// Five lamps are settled, and the last is switched off. Two turns are too few to hand that on to
-/// the first. The lamps and their links are taken back, and then five turns do it. Of the sites ten
-/// are judged until the lamps are settled, three until the refusal, and six by the last settling:
-/// none is judged because of what was taken back.
+/// the first. The lamps and their links are taken back, or the links are restored at once, and then
+/// five turns do it. Of the sites ten are judged until the lamps are settled, three until the
+/// refusal, and six by the last settling: none is judged because of what was taken back.
 #[test]
 fn refused_settling_is_taken_back(rt: HostRuntime) -> Result<(), Fail> {
     let alloc = rt.alloc();
-    let mut row = Lamps::new(alloc, 5)?;
-    let wanted = Settled {
-        turns: 5,
-        fired: 5,
-        rejected: 0,
-        sent: 0,
-    };
-    let second = settle_again::<Brand>(alloc, &mut row, Blank::new(1))?;
-    assert_eq!(rt; second, Some(Ok(wanted)));
-    assert_eq!(rt; row.lit.as_slice(), [false; 5].as_slice());
-    assert_eq!(rt; row.marks.as_slice(), [false; 5].as_slice());
-    assert_eq!(rt; row.judged(), 19);
+    for repair in [Repair::TakeBack, Repair::Restore] {
+        let mut row = Lamps::new(alloc, 5)?;
+        let wanted = Settled {
+            turns: 5,
+            fired: 5,
+            rejected: 0,
+            sent: 0,
+        };
+        let second = settle_again::<Brand>(alloc, &mut row, repair, Blank::new(1))?;
+        assert_eq!(rt; second, Some(Ok(wanted)));
+        assert_eq!(rt; row.lit.as_slice(), [false; 5].as_slice());
+        assert_eq!(rt; row.marks.as_slice(), [false; 5].as_slice());
+        assert_eq!(rt; row.judged(), 19);
+    }
     Ok(())
 }
 
@@ -207,6 +219,7 @@ fn refused_settling_is_taken_back(rt: HostRuntime) -> Result<(), Fail> {
 fn settle_again<L: Ledger>(
     alloc: Global,
     row: &mut Lamps,
+    repair: Repair,
     blank: Blank,
 ) -> Result<Option<Result<Settled, Stop>>, Fail>
     requires name { blank.name ≡ L.name }
@@ -221,61 +234,32 @@ fn settle_again<L: Ledger>(
     links.begin();
     let lit = row.lit.clone()?;
     let marks = row.marks.clone()?;
-    back_is_tidy(row);
-    back_is_bound(row);
     let Err(_) = switch_last_off(alloc, row, &mut links, 2, &mut steps) else {
         return Ok(None);
     };
     row.take_back(lit, marks);
-    links.take_back();
+    make_right(row, &mut links, repair, &mut steps);
     Ok(Some(switch_last_off(alloc, row, &mut links, 256, &mut steps)))
 }
 
-/// The same where the links are restored at once: each site that was linked anew until the refusal
-/// is asked for its reads, and none is judged.
-#[test]
-fn refused_settling_is_restored(rt: HostRuntime) -> Result<(), Fail> {
-    let alloc = rt.alloc();
-    let mut row = Lamps::new(alloc, 5)?;
-    let wanted = Settled {
-        turns: 5,
-        fired: 5,
-        rejected: 0,
-        sent: 0,
-    };
-    let second = settle_restored::<Brand>(alloc, &mut row, Blank::new(1))?;
-    assert_eq!(rt; second, Some(Ok(wanted)));
-    assert_eq!(rt; row.lit.as_slice(), [false; 5].as_slice());
-    assert_eq!(rt; row.judged(), 19);
-    Ok(())
-}
-
-/// As `settle_again`, but the links are restored.
-fn settle_restored<L: Ledger>(
-    alloc: Global,
-    row: &mut Lamps,
-    blank: Blank,
-) -> Result<Option<Result<Settled, Stop>>, Fail>
-    requires name { blank.name ≡ L.name }
-    requires parts { blank.parts ≡ L.parts }
-    requires enough { 0 < L.parts }
-    requires some { 0 < length row.old.lit.items }
-    requires few { length row.old.lit.items ≤ 4000000 }
+/// Makes the links those of the lamps, which were taken back to where the links began.
+fn make_right<L: Ledger>(row: &mut Lamps, links: &mut Links, repair: Repair, steps: &mut Steps<L>)
+    requires begun { (begun : Wiring) × AreSettled (lamps_of row.old) begun
+        × LinksFollow begun links.old }
+    ensures tidy { Tidy lamps (lamps_of row.new) links.new }
+    ensures bound { Bound lamps (lamps_of row.new) links.new }
+    ensures covers { Covers lamps (lamps_of row.new) links.new }
+    ensures count { length row.new.lit.items ≡ length row.old.lit.items }
 {
-    let mut steps = Steps::<L>::new(blank);
-    let mut links = link_lamps(alloc, row)?;
-    let _settled = settle(alloc, row, &mut links, 256, &mut steps)?;
-    links.begin();
-    let lit = row.lit.clone()?;
-    let marks = row.marks.clone()?;
+    if let Repair::TakeBack = repair {
+        back_is_tidy(row);
+        back_is_bound(row);
+        links.take_back();
+        return;
+    }
     begins_restorable(row);
     stays_restorable(row);
-    let Err(_) = switch_last_off(alloc, row, &mut links, 2, &mut steps) else {
-        return Ok(None);
-    };
-    row.take_back(lit, marks);
-    restore(row, &mut links, &mut steps);
-    Ok(Some(switch_last_off(alloc, row, &mut links, 256, &mut steps)))
+    restore(row, links, steps);
 }
 
 /// Switches the last lamp off, and settles.
@@ -293,7 +277,7 @@ fn switch_last_off<L: Ledger>(
     requires few { length row.old.lit.items ≤ 4000000 }
     requires turns { turns ≤ 256 }
     ensures count { length row.new.lit.items ≡ length row.old.lit.items }
-    ensures follows { Follows links.old links.new }
+    ensures follows { LinksFollow links.old links.new }
 {
     let last = row.lit.len() as u32 - 1;
     stays_tidy(row);

@@ -1,5 +1,5 @@
 -- What an admitted command of the program means, and where it can be done.
-use Rattle.std.specs.Prelude.{◌≡◌, ◌<◌, ℕ, length, Some, None, true, Contains}
+use Rattle.std.specs.Prelude.{◌≡◌, ◌<◌, ℕ, length, Some, None, true, false, Contains}
 use Rattle.ld_value.specs.Datum.{datum_of}
 use Rattle.ld_model.specs.Roles.{roles_of}
 use Rattle.ld_model.specs.declared.cell.CellName.{CellName}
@@ -11,6 +11,7 @@ use Rattle.ld_roles.specs.declared.limit.TheConstants.{SEATS}
 use Rattle.ld_rules.specs.LawWords.{is_property}
 use Rattle.ld_state.specs.RunCells.{all_cells, suits_cell, is_activity}
 use Rattle.ld_state.specs.RunState.{RunState}
+use Rattle.ld_checks.specs.Checks.{is_started}
 use Rattle.ld_checks.specs.Commands.{Admitted, enrols, assigns, drops, starts, opens, completes, sets, clears, gets, shows_tree, shows_outbox, reports, ticks}
 use Rattle.ld_checks.specs.declared.admitted.Admitted.{Admitted as AdmittedOf}
 use Rattle.ld_checks.specs.declared.admitted.Admitted.TheVariants as given
@@ -45,13 +46,14 @@ pub record HasPersonAndActivity (unit : Course) (s : RunState) (p thing : ℕ) :
   pub has_person : p < length s.persons
   pub has_activity : is_activity unit thing ≡ true
 
--- All that the command names is there, and nothing stands against what it changes of the persons.
+-- All that the command names is there, nothing stands against what it changes of the persons, and a run that is to
+-- start is not started.
 abbrev pub IsPossible : Course → RunState → Admitted → Type 0
 IsPossible unit s (enrols name) = enrol_fault SEATS s.persons name ≡ None
 IsPossible unit s (assigns p role) =
     HasPersonAndRole unit s p role × (assign_fault (role_bounds unit) s.persons role p ≡ None)
 IsPossible unit s (drops p role) = HasPersonAndRole unit s p role × (holds_role s.persons role p ≡ true)
-IsPossible unit s starts = Unit {0}
+IsPossible unit s starts = is_started s ≡ false
 IsPossible unit s (opens p thing) = HasPersonAndActivity unit s p thing
 IsPossible unit s (completes p thing) = HasPersonAndActivity unit s p thing
 IsPossible unit s (sets cell value) = HasPropertyCell unit s cell × (suits_cell unit cell (Some value) ≡ true)

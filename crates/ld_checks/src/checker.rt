@@ -1,7 +1,7 @@
 //! The checks of moments and persons.
 #![tactic(auto, using(crate::proofs::FaultChecks::exists_already, crate::proofs::FaultChecks::may_join, crate::proofs::FaultChecks::no_fault, crate::proofs::FaultChecks::seats_taken))]
 
-ghost use Rattle.std.specs.Prelude.{◌≡◌, ◌<◌, ℕ, length, None, Err, IfOk, IfErr, OnOk};
+ghost use Rattle.std.specs.Prelude.{◌≡◌, ◌<◌, ℕ, length, None, Err, IfOk, IfErr, OnOk, false};
 ghost use Rattle.ld_roles.specs.Refusals.{enrol_fault};
 ghost use Rattle.ld_firing.specs.RunSystem.{IsSoundRun};
 ghost use Rattle.ld_checks.specs.CheckStages.{Rest, acting, enrolling, in_running};
@@ -76,7 +76,8 @@ impl<'a, 's> Checker<'a, 's> {
 
     /// Passes where the run has not been started.
     pub(crate) fn not_running<L: Ledger>(&self, steps: &mut Steps<L>) -> Result<(), Refusal<'a>>
-        ensures { answer_of (λ _. tt) result ≡ not_running (run_of self.now.state.now) }
+        ensures passed { answer_of (λ _. tt) result ≡ not_running (run_of self.now.state.now) }
+        ensures closed { IfOk result (λ _. is_started (run_of self.now.state.now) ≡ false) }
     {
         if self.is_started(steps) {
             return Err(Refusal::StartedAlready);

@@ -152,13 +152,13 @@ sending doing notice = record doing {
 }
 
 -- What each write, rejection and notice leaves true.
-pub record IsKept (unit : Course) (P : Doing → Type 0) : Type 0 where
+pub record StaysTrue (unit : Course) (P : Doing → Type 0) : Type 0 where
   pub writes : (doing : Doing) (cell : CellName) (value : Option Datum) → IsFair unit doing.state cell value
       → P doing → P (with_write doing cell value)
   pub rejects : (doing : Doing) → P doing → P (rejecting doing)
   pub sends : (doing : Doing) (notice : NoticeState) → P doing → P (sending doing notice)
 
-module _ (unit : Course) (P : Doing → Type 0) (kept : IsKept unit P) where
+module _ (unit : Course) (P : Doing → Type 0) (kept : StaysTrue unit P) where
   through_change : (doing : Doing) (cell : Option CellName) (value : Option Datum)
       → ((c : CellName) (v : Datum) → cell ≡ Some c → value ≡ Some v → IsFair unit doing.state c (Some v))
       → P doing → P (with_change doing cell value)

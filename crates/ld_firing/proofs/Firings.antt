@@ -16,7 +16,7 @@ use Rattle.ld_state.specs.RunState.{RunState, seen_in, with_cell}
 use Rattle.ld_rules.specs.SiteTests.{site_test, site_mark, rule_of}
 use Rattle.ld_state.proofs.Elements.{IsIn, in_left, in_right}
 use Rattle.ld_state.proofs.SameCells.{one_cell, one_value, same_cell_itself}
-use Rattle.ld_firing.proofs.Effects.{is_written, IsKept, through_firing, through_any_firing}
+use Rattle.ld_firing.proofs.Effects.{is_written, StaysTrue, through_firing, through_any_firing}
 
 -- ---- the enrolment
 
@@ -25,7 +25,7 @@ pub record IsEnrolled (s t : RunState) : Type 0 where
   pub seats : t.seats ≡ s.seats
   pub persons : t.persons ≡ s.persons
 
-keeps_enrolment : (unit : Course) (s : RunState) → IsKept unit (λ doing. IsEnrolled s doing.state)
+keeps_enrolment : (unit : Course) (s : RunState) → StaysTrue unit (λ doing. IsEnrolled s doing.state)
 keeps_enrolment unit s = record {
   writes = λ doing cell value fair holds. record { seats = holds.seats; persons = holds.persons };
   rejects = λ doing holds. holds;
@@ -56,7 +56,7 @@ other_cell cells cell c value other = ap (λ b. cond b value (cells c)) other
 own_cell : (cells : CellMap) (cell : CellName) (value : Option Datum) → put_cell cells cell value cell ≡ value
 own_cell cells cell value = ap (λ b. cond b value (cells cell)) (same_cell_itself cell)
 
-keeps_marks : (unit : Course) (cells : CellMap) → IsKept unit (HasMarks cells)
+keeps_marks : (unit : Course) (cells : CellMap) → StaysTrue unit (HasMarks cells)
 unfolding HasMarks
 keeps_marks unit cells = record {
   writes = λ doing cell value fair holds r owner.
@@ -121,7 +121,7 @@ unfolding IsTold
 tells_write s doing cell value told c =
     told_by s doing cell c value (same_cell c cell) (differs (doing.state.cells cell) value) refl refl (told c)
 
-keeps_told : (unit : Course) (s : RunState) → IsKept unit (IsTold s)
+keeps_told : (unit : Course) (s : RunState) → StaysTrue unit (IsTold s)
 unfolding IsTold
 keeps_told unit s = record {
   writes = λ doing cell value fair told. tells_write s doing cell value told;
@@ -157,7 +157,7 @@ suits_write unit cells cell c value suits old = by (same_cell c cell) refl
     by false is = old
 
 keeps_suits : (unit : Course) (s : RunState) → suits_cell unit Now (s.cells Now) ≡ true
-    → IsKept unit (λ doing. Suits unit s doing.state)
+    → StaysTrue unit (λ doing. Suits unit s doing.state)
 keeps_suits unit s moment = record {
   writes = λ doing cell value fair holds. record {
     now = other_cell doing.state.cells cell Now value (not_now cell fair.written) ∙ holds.now;

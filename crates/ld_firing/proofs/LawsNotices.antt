@@ -32,7 +32,7 @@ use Rattle.ld_state.specs.RunState.{RunState, NoticeState, seen_in, cell_of}
 use Rattle.ld_firing.specs.RunSystem.{run_system, firing_at}
 use Rattle.ld_rules.specs.SiteTests.{site_test, site_mark, rule_of}
 use Rattle.ld_rules.proofs.Alike.{same_any, same_kept}
-use Rattle.ld_firing.proofs.Effects.{is_written, IsKept, through_action}
+use Rattle.ld_firing.proofs.Effects.{is_written, StaysTrue, through_action}
 use Rattle.ld_firing.proofs.Firings.{other_cell}
 use Rattle.ld_firing.proofs.LawsKept.{unruled_firing}
 use Rattle.ld_firing.proofs.LawsOpenings.{told_apart}
@@ -69,7 +69,7 @@ same_notice unit s t notice steady = λ i. record {
         ∙ same_kept (λ p. list_any (λ role. is_member_of unit (seen_in unit t) role p) notice.roles) (λ p. list_any (λ role. is_member_of unit (seen_in unit s) role p) notice.roles) (numbers_below (length s.persons))
         (λ p inside. same_any (λ role. is_member_of unit (seen_in unit t) role p) (λ role. is_member_of unit (seen_in unit s) role p) notice.roles (λ role there. same_member unit s t steady.persons role p))
 
-keeps_steady : (unit : Course) (s : RunState) → IsKept unit (λ doing. IsSteady s doing.state)
+keeps_steady : (unit : Course) (s : RunState) → StaysTrue unit (λ doing. IsSteady s doing.state)
 keeps_steady unit s = record {
   writes = λ doing cell value fair steady. record {
     now = other_cell doing.state.cells cell Now value (told_apart is_written Now cell refl fair.written) ∙ steady.now;

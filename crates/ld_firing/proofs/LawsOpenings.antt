@@ -14,7 +14,7 @@ use Rattle.ld_rules.specs.LawWords.{is_mark}
 use Rattle.ld_firing.specs.RunSettling.{Settlement, run_settling}
 use Rattle.ld_state.specs.RunState.{RunState, seen_in}
 use Rattle.ld_rules.specs.SiteTests.{site_test, site_mark}
-use Rattle.ld_firing.proofs.Effects.{is_written, IsKept, through_any_firing}
+use Rattle.ld_firing.proofs.Effects.{is_written, StaysTrue, through_any_firing}
 use Rattle.ld_state.proofs.Elements.{different}
 use Rattle.ld_firing.proofs.Firings.{other_cell}
 use Rattle.ld_firing.proofs.LawsKept.{settling_keeps}
@@ -29,7 +29,7 @@ told_apart test a b not_so so = by (same_cell a b) refl
     by true same = different (sym so ∙ sym (ap test (one_cell a b same)) ∙ not_so)
 
 keeps_cell : (unit : Course) (cell : CellName) (value : Option Datum) → is_written cell ≡ false
-    → IsKept unit (λ doing. doing.state.cells cell ≡ value)
+    → StaysTrue unit (λ doing. doing.state.cells cell ≡ value)
 keeps_cell unit cell value never = record {
   writes = λ doing name new fair holds.
       other_cell doing.state.cells name cell new (told_apart is_written cell name never fair.written) ∙ holds;

@@ -36,13 +36,6 @@ tells_nothing unit s told = record {
   marks = λ rule owner. refl;
 }
 
--- The state is the same, and so is what was told.
-pub tells_same : {unit : Course} {s t : RunState} {before told : List ℕ} → t ≡ s → told ≡ before
-    → Tells unit s t before told
-tells_same {unit} {s} {t} {before} {told} same none =
-    subst (λ r. Tells unit s r before told) (sym same)
-    (subst (λ slots. Tells unit s s before slots) (sym none) (tells_nothing unit s before))
-
 pub tells_then : {unit : Course} {s t u : RunState} {before told more : List ℕ} → Tells unit s t before told
     → Tells unit t u told more → Tells unit s u before more
 tells_then {unit} {s} {t} {u} {before} {told} {more} first second = record {

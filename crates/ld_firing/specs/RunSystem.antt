@@ -89,7 +89,7 @@ run_system unit = record {
   Course = Enrolment;
   IsSound = IsSoundRun unit;
   course = λ s. record { seats = s.seats; persons = s.persons };
-  Grows = IsGrown;
+  GrowsTo = IsGrown;
   is_site = λ s i. is_some (site_at unit s i);
   count = λ s. length (rules_of unit) * s.seats;
   slots = λ s. length (all_cells unit (length s.persons));

@@ -75,13 +75,6 @@ falls_short {unit} {s} {whole} {rest} {start} {now} first more before is short =
     let all = ap (λ cells. length (with_cells unit s now.items cells)) is in
     omega (arith, later, all, ap length before.items, before.room)
 
-pub all_gathered : {unit : Course} {s : RunState} {whole rest : List CellName} {start now : Slots}
-    → Remaining unit s whole rest start now → rest ≡ [] → Gathers unit s whole start now
-all_gathered {unit} {s} {whole} {rest} {start} {now} before is = record {
-  items = ap (with_cells unit s now.items) (sym is) ∙ before.items;
-  room = before.room;
-}
-
 -- ---- members
 
 -- What is gathered of those among the persons who are members.

@@ -36,6 +36,20 @@ put_is slots new slot kept added = by (has slots slot) refl
     by true is = kept (finds slots slot is)
     by false is = added (missing slots slot is)
 
+-- A list without the slot has no equal of it.
+not_found : (slots : List ℕ) (slot : ℕ) → (Contains slots slot → ⊥) → has slots slot ≡ false
+not_found slots slot none = by (has slots slot) refl
+  where
+    by : (b : Bool) → has slots slot ≡ b → b ≡ false
+    by true is = absurd (none (finds slots slot is))
+    by false is = refl
+
+-- So it gets longer by the slot.
+pub added_length : (slots : List ℕ) (slot : ℕ) → (Contains slots slot → ⊥) → length (with_slot slots slot) ≡ length slots + 1
+added_length slots slot none =
+    ap (λ b. length (if b then slots else slots ++ slot ∷ [])) (not_found slots slot none)
+    ∙ length-append slots (slot ∷ [])
+
 -- A slot of a list without repeats is not among those before it.
 pub not_before : (slots : List ℕ) (i : ℕ) → AreDistinct slots → i < length slots
     → Contains (take i slots) (get_or slots i 0) → ⊥

@@ -117,7 +117,7 @@ fn make_room(alloc: Global, slot: u32, list: &mut SlotList) -> Result<(), NoMemo
     if list.len() < list.room() as usize {
         return Ok(());
     }
-    if list.as_slice().contains(&slot) {
+    if list.contains(slot) {
         return Ok(());
     }
     grow(alloc, list)

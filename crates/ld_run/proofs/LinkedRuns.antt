@@ -1,8 +1,7 @@
 -- The links of a run: as their ranges grow, as the run is refreshed, and once a command has changed it directly.
 use Rattle.std.proofs.Common.{◌≡◌, refl, sym, ap, subst, ◌∙◌, ℕ, ℤ, List, [], length, Some, None, Bool, true, false, ◌&&◌, is_some, Option, if◌then◌else◌, arith}
 use Rattle.std.proofs.Math.Nat.{le_trans}
-use Rattle.ld_cascade.specs.Tidy.{Covers}
-use Rattle.ld_cascade.specs.Wiring.{Follows, Wiring}
+use Rattle.ld_cascade.specs.Wiring.{LinksFollow, Wiring}
 use Rattle.ld_value.specs.Datum.{Datum, moment_datum}
 use Rattle.ld_model.specs.declared.cell.CellName.{CellName}
 use Rattle.ld_model.specs.declared.cell.CellName.TheVariants.{Started}
@@ -15,11 +14,11 @@ use Rattle.ld_roles.specs.declared.limit.TheConstants.{SEATS}
 use Rattle.ld_state.specs.RunCells.{begins_as}
 use Rattle.ld_state.specs.RunState.{RunState, made_at, with_cell}
 use Rattle.ld_state.proofs.Elements.{different}
-use Rattle.ld_firing.specs.RunSystem.{IsSoundRun, run_system}
+use Rattle.ld_firing.specs.RunSystem.{IsSoundRun}
 use Rattle.ld_firing.specs.Telling.{Tells, TellsPersons}
 use Rattle.ld_firing.proofs.LawsOpenings.{told_apart}
 use Rattle.ld_firing.proofs.Told.{IsNoMark}
-use Rattle.ld_settling.specs.RunLinking.{Widens}
+use Rattle.ld_settling.specs.RunLinking.{AreRestingLinks, Widens}
 use Rattle.ld_checks.specs.AdmittedView.{IsPossible}
 use Rattle.ld_run.specs.Changes.{changes_persons, directly_changed, with_first, has_change, renews_sites}
 use Rattle.ld_checks.specs.Checks.{is_started}
@@ -36,15 +35,8 @@ widens_still wiring = record { sites = omega arith; slots = omega arith }
 pub widens_then : {first middle last : Wiring} → Widens first middle → Widens middle last → Widens first last
 widens_then early late = record { sites = le_trans early.sites late.sites; slots = le_trans early.slots late.slots }
 
-pub widens_following : {old now : Wiring} → Follows old now → Widens old now
+pub widens_following : {old now : Wiring} → LinksFollow old now → Widens old now
 widens_following follows = record { sites = follows.sites; slots = follows.slots }
-
-pub covers_wider : (unit : Course) (s : RunState) {old now : Wiring} → Widens old now → Covers (run_system unit) s old
-    → Covers (run_system unit) s now
-covers_wider unit s widens covers = record {
-  sites = le_trans covers.sites widens.sites;
-  slots = le_trans covers.slots widens.slots;
-}
 
 -- ---- whether the run is started
 
@@ -90,6 +82,33 @@ stays_started unit store s moment (shows_tree p) possible plain = refl
 stays_started unit store s moment (shows_outbox p) possible plain = refl
 stays_started unit store s moment reports possible plain = refl
 stays_started unit store s moment ticks possible plain = refl
+
+-- A command that renews the sites is of a run that is not started.
+pub unstarted : (unit : Course) (s : RunState) (command : Admitted) → IsPossible unit s command
+    → renews_sites command ≡ true → is_started s ≡ false
+unstarted unit s starts possible is = possible
+unstarted unit s (enrols name) possible is = different (sym is)
+unstarted unit s (assigns p role) possible is = different (sym is)
+unstarted unit s (drops p role) possible is = different (sym is)
+unstarted unit s (opens p thing) possible is = different (sym is)
+unstarted unit s (completes p thing) possible is = different (sym is)
+unstarted unit s (sets cell value) possible is = different (sym is)
+unstarted unit s (clears cell) possible is = different (sym is)
+unstarted unit s (gets cell) possible is = different (sym is)
+unstarted unit s (shows_tree p) possible is = different (sym is)
+unstarted unit s (shows_outbox p) possible is = different (sym is)
+unstarted unit s reports possible is = different (sym is)
+unstarted unit s ticks possible is = different (sym is)
+
+-- Where a possible command is refused, and the state of the run and its links were taken back, the links are those of
+-- the run: they follow those before, or it is not started.
+pub links_back : (unit : Course) (s : RunState) (command : Admitted) (back : Wiring) → IsPossible unit s command
+    → (renews_sites command ≡ false → is_started s ≡ true → AreRestingLinks unit s back) → HasLinks unit s back
+links_back unit s command back possible follows started = by (renews_sites command) refl
+  where
+    by : (renews : Bool) → renews_sites command ≡ renews → AreRestingLinks unit s back
+    by true renews = different (sym started ∙ unstarted unit s command possible renews)
+    by false plain = follows plain started
 
 -- ---- a direct change
 

@@ -3,7 +3,7 @@ ghost use Rattle.std.specs.Prelude.{◌≡◌, Err, IfErr, IfOk, Ok, OnOk, false
 ghost use Rattle.ld_state.specs.StateView.{HasMarkedPersons, IsStateOf, run_of};
 ghost use Rattle.ld_firing.specs.RunSystem.{IsSoundRun};
 ghost use Rattle.ld_firing.specs.Telling.{Tells};
-ghost use Rattle.ld_cascade.specs.Wiring.{Follows};
+ghost use Rattle.ld_cascade.specs.Wiring.{LinksFollow};
 ghost use Rattle.ld_settling.specs.RunLinking.{Widens};
 ghost use Rattle.ld_value.specs.Calendar.{IsMoment};
 ghost use Rattle.ld_sharing.specs.Fitting.{HasFittingGlobals, TakesFitting};
@@ -78,7 +78,7 @@ pub(crate) fn do_admitted<L: Ledger>(
     ensures kept { state.new.kept ≡ state.old.kept }
     ensures linked { OnOk result (HasLinks unit.now (run_of state.new) links.new) }
     ensures follows { renews_sites (admitted_of command.now) ≡ false
-        → Follows links.old links.new }
+        → LinksFollow links.old links.new }
     ensures widens { Widens links.old links.new }
 {
     let mut refreshed = Vec::new(alloc);

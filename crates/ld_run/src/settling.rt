@@ -1,17 +1,16 @@
 //! The settlings of a command.
 ghost use Rattle.std.specs.Prelude.{◌≡◌, ◌+◌, ◌&&◌, IfErr, IfOk, Ok, OnOk, false, true};
 ghost use Rattle.ld_state.specs.StateView.{IsStateOf, run_of};
-ghost use Rattle.ld_firing.specs.RunSystem.{IsSoundRun, run_system};
+ghost use Rattle.ld_firing.specs.RunSystem.{IsSoundRun};
 ghost use Rattle.ld_firing.specs.SettledView.{settlement_of, sums_in};
 ghost use Rattle.ld_cascade.specs.Settling.{plus};
-ghost use Rattle.ld_cascade.specs.Tidy.{Covers};
-ghost use Rattle.ld_cascade.specs.Wiring.{Follows, IsEmpty};
+ghost use Rattle.ld_cascade.specs.Wiring.{LinksFollow, IsEmpty};
 ghost use Rattle.ld_settling.specs.RunLinking.{AreLinksOf, Widens};
 ghost use Rattle.ld_sharing.specs.Fitting.{HasFittingGlobals};
 ghost use Rattle.ld_checks.specs.AdmittedView.{admitted_of};
 ghost use Rattle.ld_checks.specs.Checks.{is_started};
-ghost use Rattle.ld_run.specs.Changes.{has_change, renews_sites};
-ghost use Rattle.ld_run.specs.Linked.{HasLinks, HaveBegun, MayRelink, relinking_of, relinks_all};
+ghost use Rattle.ld_run.specs.Changes.{has_change};
+ghost use Rattle.ld_run.specs.Linked.{HasLinks, MayRelink, relinking_of, relinks_all};
 ghost use Rattle.ld_replies.specs.Printing.{AreNoticesOf, IsPrintable};
 ghost use Rattle.ld_checks.specs.RefusalView.{RefusesWith, refusal_of};
 ghost use Rattle.ld_run.specs.RunStep.{settled};
@@ -70,7 +69,7 @@ pub(crate) fn settle_if<L: Ledger>(
     ensures kept { state.new.kept ≡ state.old.kept }
     ensures linked { OnOk result (HasLinks unit.now (run_of state.new) links.new) }
     ensures clean { OnOk result (settles ≡ true → IsEmpty links.new.dirty) }
-    ensures follows { relinks_all how ≡ false → Follows links.old links.new }
+    ensures follows { relinks_all how ≡ false → LinksFollow links.old links.new }
     ensures widens { Widens links.old links.new }
 {
     if !settles {
@@ -100,7 +99,7 @@ fn relink(
     requires sound { IsSoundRun unit.now (run_of state.now) }
     requires told { MayRelink how unit.now (run_of state.now) changed.now links.old }
     ensures linked { OnOk result (AreLinksOf unit.now (run_of state.now) links.new) }
-    ensures follows { relinks_all how ≡ false → Follows links.old links.new }
+    ensures follows { relinks_all how ≡ false → LinksFollow links.old links.new }
     ensures widens { Widens links.old links.new }
 {
     match how {
@@ -111,50 +110,6 @@ fn relink(
         Relinking::ToldPersons(before) => links.tell_persons(unit, state, before, changed),
         Relinking::Renewed => links.renew(unit, state),
     }
-}
-
-/// Gives the run, whose state was taken back, the links that it had, as far as nothing was linked anew
-/// since they began; where all of its sites were to be renewed, it gives them anew.
-pub(crate) fn take_links_back<L: Ledger>(
-    renews: bool,
-    unit: &PreparedUnit,
-    state: &State,
-    links: &mut RunLinks,
-    steps: &mut Steps<L>,
-)
-    requires own { IsStateOf unit.now state.now }
-    requires sound { IsSoundRun unit.now (run_of state.now) }
-    requires begun { renews ≡ false → HaveBegun unit.now (run_of state.now) links.old }
-    requires covers { renews ≡ true → is_started (run_of state.now) ≡ true
-        → Covers (run_system unit.now) (run_of state.now) links.old }
-    ensures linked { HasLinks unit.now (run_of state.now) links.new }
-    ensures widens { Widens links.old links.new }
-{
-    if renews {
-        reset_links(unit, state, links, steps);
-        return;
-    }
-    links.take_back();
-}
-
-/// Gives the run, whose state was taken back, its links anew, if it is started.
-fn reset_links<L: Ledger>(
-    unit: &PreparedUnit,
-    state: &State,
-    links: &mut RunLinks,
-    steps: &mut Steps<L>,
-)
-    requires own { IsStateOf unit.now state.now }
-    requires sound { IsSoundRun unit.now (run_of state.now) }
-    requires covers { is_started (run_of state.now) ≡ true
-        → Covers (run_system unit.now) (run_of state.now) links.old }
-    ensures linked { HasLinks unit.now (run_of state.now) links.new }
-    ensures widens { Widens links.old links.new }
-{
-    if !is_started(unit, state, steps) {
-        return;
-    }
-    links.reset(unit, state);
 }
 
 /// The numbers of a settling of which there was none.
@@ -204,16 +159,6 @@ pub(crate) fn how_to_relink(command: &Admitted<'_>, before: u32) -> Relinking
             Relinking::ToldPersons(before),
         Admitted::Starts => Relinking::Renewed,
         _ => Relinking::Told,
-    }
-}
-
-/// Whether all sites of the run are renewed once the command has changed it.
-pub(crate) fn renews_sites(command: &Admitted<'_>) -> bool
-    ensures { result ≡ renews_sites (admitted_of command.now) }
-{
-    match command {
-        Admitted::Starts => true,
-        _ => false,
     }
 }
 

@@ -4,7 +4,7 @@ ghost use Rattle.ld_base.specs.Roomy.{KeepsRoom};
 ghost use Rattle.ld_state.specs.GlobalValues.{GlobalValues};
 ghost use Rattle.ld_state.specs.StateView.{HasMarkedPersons, IsStateOf, run_of};
 ghost use Rattle.ld_firing.specs.RunSystem.{IsSoundRun};
-ghost use Rattle.ld_cascade.specs.Wiring.{Follows};
+ghost use Rattle.ld_cascade.specs.Wiring.{LinksFollow};
 ghost use Rattle.ld_settling.specs.RunLinking.{Widens};
 ghost use Rattle.ld_value.specs.Calendar.{IsMoment};
 ghost use Rattle.ld_sharing.specs.Fitting.{HasFittingGlobals};
@@ -22,7 +22,6 @@ ghost use Rattle.ld_run.specs.RunStep.{DoneCommand, done_by, run_step};
 ghost use Rattle.ld_run.specs.StageView.{done_with};
 
 use crate::doing::do_admitted;
-use crate::settling::{renews_sites, take_links_back};
 use ld_base::memory::NoMemory;
 use ld_base::steps::Steps;
 use ld_base::text::Text;
@@ -143,7 +142,7 @@ fn try_admitted<'a, L: Ledger>(
         }
         Err(refusal) => {
             state.undo();
-            take_links_back(renews_sites(command), unit, state, links, steps);
+            links.take_back();
             Err(refusal)
         }
     }
@@ -192,7 +191,7 @@ fn do_and_tell<L: Ledger>(
     ensures room { KeepsRoom out.old out.new }
     ensures linked { OnOk result (HasLinks unit.now (run_of state.new) links.new) }
     ensures follows { renews_sites (admitted_of command.now) ≡ false
-        → Follows links.old links.new }
+        → LinksFollow links.old links.new }
     ensures widens { Widens links.old links.new }
 {
     let totals = match do_admitted(alloc, unit, state, links, globals, moment, command, steps) {

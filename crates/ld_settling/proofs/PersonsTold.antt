@@ -1,11 +1,11 @@
 -- The links of a run in which persons joined, or got or lost roles.
-use Rattle.std.proofs.Common.{◌≡◌, refl, sym, ap, subst, ◌∙◌, ℕ, ◌+◌, ◌*◌, ◌<◌, ◌≤◌, ◌⊎◌, inl, inr, List, [], length, get_or, Some, Bool, true, false, is_some, Contains, arith}
+use Rattle.std.proofs.Common.{◌≡◌, refl, sym, ap, subst, ◌∙◌, ℕ, ◌+◌, ◌*◌, ◌<◌, ◌⊎◌, inl, inr, List, [], length, get_or, Some, Bool, true, false, is_some, Contains, arith}
 use Rattle.std.proofs.lemmas.Bool.{cases_eq, cases_lt}
 use Rattle.std.proofs.lemmas.Option.{slice_get_within}
 use Rattle.ld_graph.specs.Edges.{Edges, IsLinked, edge_room}
 use Rattle.ld_graph.specs.Table.{has}
-use Rattle.ld_cascade.specs.Tidy.{AreLoosened, Changes, Covers, Touched}
-use Rattle.ld_cascade.specs.Wiring.{Follows, HasSameRow, IsSameTable, IsWith, Wiring}
+use Rattle.ld_cascade.specs.Tidy.{AreLoosened, ChangesOnly, Covers, Touched}
+use Rattle.ld_cascade.specs.Wiring.{LinksFollow, HasSameRow, IsSameTable, IsWith, Wiring}
 use Rattle.ld_cascade.proofs.Touching.{bound_touched, tidy_touched}
 use Rattle.ld_model.specs.declared.cell.Owner.{Owner}
 use Rattle.ld_model.specs.declared.cell.Owner.TheVariants.{Run, Person}
@@ -22,20 +22,15 @@ use Rattle.ld_firing.proofs.Growing.{site_stays, site_was}
 use Rattle.ld_firing.proofs.Lawful.{run_is_lawful}
 use Rattle.ld_firing.proofs.Sites.{IsOwner, a_person, the_run, said_of, site_found, some_of}
 use Rattle.ld_firing.proofs.SitesNumbered.{seats_of}
-use Rattle.ld_settling.specs.RunLinking.{AreAmong, AreLinksOf, Loosens}
+use Rattle.ld_settling.specs.RunLinking.{AreAmong, AreLinksOf, IsAmong, Loosens}
 
 has_owner : (s : RunState) (own : Bool) (owner : Owner) → IsOwner (length s.persons) own owner → HasOwner s owner
 has_owner s own owner (a_person p below) = below
 has_owner s own owner the_run = tt
 
--- Where a number has its site in a run whose persons are fewer.
-pub record IsNew (unit : Course) (s t : RunState) (i : ℕ) : Type 0 where
-  pub rule : ℕ
-  pub place : ℕ
-  pub number : rule * SEATS + place ≡ i
-  pub ruled : rule < length (rules_of unit)
-  pub from : length s.persons ≤ place
-  pub below : place < length t.persons
+-- The number is that of a site of a person who is in the one run and not in the other.
+abbrev IsNew : Course → RunState → RunState → ℕ → Type 0
+IsNew unit s t i = IsAmong (length (rules_of unit)) (length s.persons) (length t.persons) i
 
 module _ (unit : Course) (s t : RunState) (told : List ℕ) (sound : IsSoundRun unit s) (sound_after : IsSoundRun unit t)
     (tells : TellsPersons unit s t told) where
@@ -43,7 +38,7 @@ module _ (unit : Course) (s t : RunState) (told : List ℕ) (sound : IsSoundRun 
   stays i site at = site_stays unit s t i site (sym tells.seats) tells.persons (seats_of unit t sound_after) at
 
   -- What is told is what they change.
-  changes_told : Changes (run_system unit) s t told
+  changes_told : ChangesOnly (run_system unit) s t told
   changes_told = record {
     sound_before = sound;
     sound_after = sound_after;
@@ -92,15 +87,15 @@ module _ (unit : Course) (s t : RunState) (told : List ℕ) (sound : IsSoundRun 
           rule = site.rule;
           place = p;
           number = ap (λ o. site.rule * SEATS + owner_number o) (sym is) ∙ number;
-          ruled = ruled;
-          from = new;
-          below = below;
+          has_rule = ruled;
+          is_from = new;
+          is_below = below;
         }
       ]
       by site at ruled number own owner is the_run = was site at (same_run site.owner is)
 
 -- Links in which sites were set loose follow those before.
-pub follows_loosened : {old now : Wiring} → Loosens old now → Follows old now
+pub follows_loosened : {old now : Wiring} → Loosens old now → LinksFollow old now
 follows_loosened {old} {now} l = record {
   sites = let e = l.sites in omega arith;
   slots = let e : now.edges.slots ≡ old.edges.slots = ap (λ (x : Edges). x.slots) l.edges in omega arith;
@@ -131,7 +126,7 @@ module _ (unit : Course) (s t : RunState) (told : List ℕ) (sound : IsSoundRun 
       → (run_system unit).is_site s i ≡ false → (run_system unit).is_site t i ≡ true → has table i ≡ true
   among table are i out there =
       let new = new_site unit s t told sound sound_after tells seats i out there in
-      subst (λ n. has table n ≡ true) new.number (are new.rule new.place new.ruled new.from new.below)
+      subst (λ n. has table n ≡ true) new.number (are new.rule new.place new.has_rule new.is_from new.is_below)
 
   all_touched : Touched (run_system unit) s t told old now
   all_touched = record {

@@ -6,9 +6,9 @@ use Rattle.std.proofs.lemmas.Option.{slice_get_within}
 use Rattle.std.specs.Option.{option_map_or}
 use Rattle.ld_graph.specs.Edges.{Edges, IsLinked}
 use Rattle.ld_graph.specs.Table.{has}
-use Rattle.ld_cascade.specs.Tidy.{Bound, Changes, Covers, IsTidy, Tidy, Touched}
+use Rattle.ld_cascade.specs.Tidy.{Bound, ChangesOnly, Covers, IsTidy, Tidy, Touched}
 use Rattle.ld_cascade.specs.System.{Lawful, System}
-use Rattle.ld_cascade.specs.Wiring.{EdgesAre, Follows, IsEmpty, IsSameTable, IsTakenBack, Wiring}
+use Rattle.ld_cascade.specs.Wiring.{EdgesAre, LinksFollow, IsEmpty, IsSameTable, IsTakenBack, Wiring}
 use Rattle.ld_cascade.proofs.TakingBack.{bound_back, bound_begun, covers_back, covers_begun, rest_back, rest_begun, tidy_back, tidy_begun}
 use Rattle.ld_cascade.proofs.Touching.{bound_touched, tidy_touched}
 use Rattle.ld_model.specs.declared.unit.Unit.{Unit as Course}
@@ -35,7 +35,7 @@ use Rattle.ld_firing.proofs.Lawful.{run_is_lawful}
 use Rattle.ld_firing.proofs.SeenInStates.{persons_counted}
 use Rattle.ld_firing.proofs.Sites.{IsOwner, a_person, the_run, same_site_at, site_found, some_of}
 use Rattle.ld_settling.specs.RunLinking.{AreDirty, AreLinksOf, AreRestingLinks, IsPlaceCount}
-use Rattle.ld_settling.specs.UnitRuns.{Frame, UnitRun, unit_runs}
+use Rattle.ld_settling.specs.UnitRuns.{UnitRun, unit_runs}
 
 -- ---- in the system of the runs of all units
 
@@ -55,14 +55,7 @@ bound_in_units s wiring links = record {
   dirty = links.bound.dirty;
 }
 
--- The links of a run are tidy and cover it, as a run with a frame.
-pub links_in_units : (unit : Course) (run : RunState) (frame : Frame) (wiring : Wiring) → AreLinksOf unit run wiring
-    → Tidy unit_runs (record { unit = unit; run = run; frame = frame }) wiring × Covers unit_runs (record { unit = unit; run = run; frame = frame }) wiring
-links_in_units unit run frame wiring links =
-    let s : UnitRun = record { unit = unit; run = run; frame = frame } in
-    (tidy_in_units s wiring links, covers_in_units s wiring links)
-
--- And what is so with a frame are the links of the run.
+-- What is so with a frame are the links of the run.
 pub links_of_run : (s : UnitRun) (wiring : Wiring) → Tidy unit_runs s wiring → Bound unit_runs s wiring → Covers unit_runs s wiring
     → AreLinksOf s.unit s.run wiring
 links_of_run s wiring tidy bound covers = record {
@@ -91,7 +84,7 @@ mark_by s found = option_map_or (λ site. verdict_in (s.cells (site_mark site)))
 
 -- What is told of writes that are no firing is what they change.
 pub changes_told : (unit : Course) (s t : RunState) (told : List ℕ) → IsSoundRun unit s → IsSoundRun unit t
-    → Tells unit s t [] told → Changes (run_system unit) s t told
+    → Tells unit s t [] told → ChangesOnly (run_system unit) s t told
 changes_told unit s t told sound sound_after tells = record {
   sound_before = sound;
   sound_after = sound_after;
@@ -197,12 +190,7 @@ links_anew unit s wiring sound covers dirty loose none = record {
       }
     ]
 
--- So they are at rest.
-pub resting_anew : (unit : Course) (s : RunState) (wiring : Wiring) → AreLinksOf unit s wiring → IsSameTable wiring.dirty wiring.loose
-    → AreRestingLinks unit s wiring
-resting_anew unit s wiring links loose = record { links = links; rest = λ i dirty. loose i ∙ dirty }
-
--- And where a settling is done.
+-- Links are at rest where a settling is done.
 pub resting_settled : (unit : Course) (s : RunState) (wiring : Wiring) → AreLinksOf unit s wiring → IsEmpty wiring.dirty
     → AreRestingLinks unit s wiring
 resting_settled unit s wiring links clean = record { links = links; rest = λ i dirty. absurd (let none = clean i in cc) }
@@ -220,7 +208,7 @@ resting_begun unit s old now edges dirty loose sites resting = record {
 }
 
 -- Where the state of a run and its links were taken back, the links are those of the run.
-pub resting_back : (unit : Course) (s : RunState) (begun now back : Wiring) → AreRestingLinks unit s begun → Follows begun now
+pub resting_back : (unit : Course) (s : RunState) (begun now back : Wiring) → AreRestingLinks unit s begun → LinksFollow begun now
     → IsTakenBack now back → AreRestingLinks unit s back
 resting_back unit s begun now back resting follows taken = record {
   links = record {

@@ -41,7 +41,17 @@ abbrev pub AreAmong : List Bool → ℕ → ℕ → ℕ → Type 0
 AreAmong table rules from below =
     (rule place : ℕ) → rule < rules → from ≤ place → place < below → has table (rule * SEATS + place) ≡ true
 
--- All that was dirty or loose is so, and what became loose is dirty; no edge and no range is another.
+-- The number is that of a site of one of so many rules, at a place from one on and below another.
+pub record IsAmong (rules from below i : ℕ) : Type 0 where
+  pub rule : ℕ
+  pub place : ℕ
+  pub number : rule * SEATS + place ≡ i
+  pub has_rule : rule < rules
+  pub is_from : from ≤ place
+  pub is_below : place < below
+
+-- All that was dirty or loose is so, and what became loose is dirty; the edges, the table of the sites that were
+-- relinked, and the range are the same.
 pub record Loosens (old now : Wiring) : Type 0 where
   pub dirty : (i : ℕ) → has old.dirty i ≡ true → has now.dirty i ≡ true
   pub loose : (i : ℕ) → has old.loose i ≡ true → has now.loose i ≡ true

@@ -55,7 +55,7 @@ unit_runs = record {
   Course = Setting;
   IsSound = IsSoundUnitRun;
   course = λ s. record { unit = s.unit; enrolment = (run_system s.unit).course s.run; frame = s.frame };
-  Grows = IsGrownSetting;
+  GrowsTo = IsGrownSetting;
   is_site = λ s i. (run_system s.unit).is_site s.run i;
   count = λ s. (run_system s.unit).count s.run;
   slots = λ s. (run_system s.unit).slots s.run;

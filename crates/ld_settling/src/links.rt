@@ -2,16 +2,15 @@
 ghost use Rattle.std.specs.Prelude.{◌≡◌, ◌*◌, ◌+◌, ◌^◌, ◌<◌, ◌≤◌, ◌⊎◌, ℕ, true, [], get_or, length, Contains, OnOk};
 ghost use Rattle.ld_graph.specs.Edges.{IsLinked};
 ghost use Rattle.ld_graph.specs.Table.{has};
-ghost use Rattle.ld_cascade.specs.Tidy.{Covers};
-ghost use Rattle.ld_cascade.specs.Wiring.{Follows, IsEmpty, IsSameTable, Wiring};
+ghost use Rattle.ld_cascade.specs.Wiring.{LinksFollow, IsEmpty, IsSameTable, Wiring};
 ghost use Rattle.ld_names.specs.Rules.{rules_of};
 ghost use Rattle.ld_roles.specs.declared.limit.TheConstants.{SEATS};
 ghost use Rattle.ld_model.specs.declared.unit.Unit.{Unit as Course};
 ghost use Rattle.ld_state.specs.RunState.{RunState};
 ghost use Rattle.ld_state.specs.StateView.{IsStateOf, run_of};
-ghost use Rattle.ld_firing.specs.RunSystem.{IsSoundRun, run_system};
+ghost use Rattle.ld_firing.specs.RunSystem.{IsSoundRun};
 ghost use Rattle.ld_firing.specs.Telling.{Tells, TellsPersons};
-ghost use Rattle.ld_settling.specs.RunLinking.{AreAmong, AreDirty, AreLinksOf, AreRestingLinks, IsPlaceCount, Loosens, Widens};
+ghost use Rattle.ld_settling.specs.RunLinking.{AreAmong, AreDirty, AreLinksOf, AreRestingLinks, IsAmong, IsPlaceCount, Loosens, Widens};
 
 use ld_base::memory::NoMemory;
 use ld_cascade::links::Links;
@@ -23,8 +22,9 @@ use ld_state::state::State;
 use std::alloc::Global;
 use std::marker::Model;
 
-/// Which of a run's sites read which slots, and which sites are dirty: to be judged at the next settling.
-/// A run that is not started has no use for it. (docs/MEANING.md, "Firing, sweeping, settling")
+/// Which of a run's sites read which slots, and which sites are dirty: to be judged at the next
+/// settling. A run that is not started has no use for it. (docs/MEANING.md, "Firing, sweeping,
+/// settling")
 #[derive(Drop)]
 pub struct RunLinks {
     pub(crate) links: Links,
@@ -49,8 +49,9 @@ impl RunLinks {
         })
     }
 
-    /// Sets the sites dirty that read one of the slots. Where these are told of all that changed from one
-    /// state of the run to another, the links are those of the other state then. It takes no memory.
+    /// Sets the sites dirty that read one of the slots. Where these are told of all that changed
+    /// from one state of the run to another, the links are those of the other state then. It takes
+    /// no memory.
     pub fn tell(&mut self, changed: &[u32])
         requires told { (unit : Course) × (s : RunState) × (t : RunState)
             × AreLinksOf unit s self.old × Tells unit s t [] changed.now }
@@ -59,15 +60,16 @@ impl RunLinks {
             → AreLinksOf unit t self.new }
         ensures only { (i : ℕ) → has self.new.dirty i ≡ true → (has self.old.dirty i ≡ true)
             ⊎ ((k : ℕ) × Contains changed.now k × IsLinked self.old.edges k i) }
-        ensures follows { Follows self.old self.new }
+        ensures follows { LinksFollow self.old self.new }
     {
         self.links.touch_all(changed);
     }
 
-    /// Sets the sites dirty that read one of the slots, and those of the persons who joined, of which there
-    /// were so many before; the reads of all these are asked again. Where the slots are told of all that
-    /// changed from one state of the run to this one, as persons joined or got or lost roles, the links are
-    /// those of this state then. After an error, which is want of memory, no range is smaller.
+    /// Sets the sites dirty that read one of the slots, and those of the persons who joined, of
+    /// which there were so many before, and no others; the reads of all these are asked again.
+    /// Where the slots are told of all that changed from one state of the run to this one, as
+    /// persons joined or got or lost roles, the links are those of this state then. After an error,
+    /// which is want of memory, no range is smaller.
     pub fn tell_persons(
         &mut self,
         unit: &PreparedUnit,
@@ -81,7 +83,10 @@ impl RunLinks {
             × AreLinksOf unit.now s self.old
             × TellsPersons unit.now s (run_of state.now) changed.now }
         ensures linked { OnOk result (AreLinksOf unit.now (run_of state.now) self.new) }
-        ensures follows { Follows self.old self.new }
+        ensures only { (i : ℕ) → has self.new.dirty i ≡ true → (has self.old.dirty i ≡ true)
+            ⊎ (((k : ℕ) × Contains changed.now k × IsLinked self.old.edges k i)
+            ⊎ IsAmong (length (rules_of unit.now)) before (length (run_of state.now).persons) i) }
+        ensures follows { LinksFollow self.old self.new }
     {
         let rules = rule_count(unit);
         self.links.grow(state.slot_count(), rules * SEATS as u32)?;
@@ -90,8 +95,8 @@ impl RunLinks {
         Ok(())
     }
 
-    /// Counts no site as linked anew, until the next settling: call it where the state is marked. The links
-    /// stay those of the run.
+    /// Counts no site as linked anew, until the next settling: call it where the state is marked.
+    /// The links stay those of the run.
     pub fn begin(&mut self)
         ensures linked { (unit : Course) (s : RunState) → AreRestingLinks unit s self.old
             → AreRestingLinks unit s self.new }
@@ -101,11 +106,12 @@ impl RunLinks {
         self.links.begin();
     }
 
-    /// Makes the links those of the run as it was where they began, once its state was taken back: only the
-    /// sites that were linked anew since then are dirty, and those that were loose. It takes no memory.
+    /// Makes the links those of the run as it was where they began, once its state was taken back:
+    /// only the sites that were linked anew since then are dirty, and those that were loose. It
+    /// takes no memory.
     pub fn take_back(&mut self)
         ensures linked { (unit : Course) (s : RunState) (begun : Wiring)
-            → AreRestingLinks unit s begun → Follows begun self.old
+            → AreRestingLinks unit s begun → LinksFollow begun self.old
             → AreRestingLinks unit s self.new }
         ensures only { (i : ℕ) → has self.new.dirty i ≡ true → (has self.old.loose i ≡ true)
             ⊎ (has self.old.relinked i ≡ true) }
@@ -114,8 +120,8 @@ impl RunLinks {
         self.links.take_back();
     }
 
-    /// Takes all edges away and sets all sites of the run dirty, however many it has got. After an error,
-    /// which is want of memory, no range is smaller.
+    /// Takes all edges away and sets all sites of the run dirty, however many it has got. After an
+    /// error, which is want of memory, no range is smaller.
     pub fn renew(&mut self, unit: &PreparedUnit, state: &State) -> Result<(), NoMemory>
         requires own { IsStateOf unit.now state.now }
         requires sound { IsSoundRun unit.now (run_of state.now) }
@@ -123,21 +129,11 @@ impl RunLinks {
         ensures widens { Widens self.old self.new }
     {
         let rules = rule_count(unit);
+        // First, since a run that starts has no site in range yet.
+        self.links.clear();
         self.links.grow(state.slot_count(), rules * SEATS as u32)?;
         set_all_dirty(&mut self.links, rules, places(state));
         Ok(())
-    }
-
-    /// Takes all edges away and sets all sites of the run dirty, which are in range: where its state was
-    /// taken back after its sites had been renewed. It takes no memory.
-    pub fn reset(&mut self, unit: &PreparedUnit, state: &State)
-        requires own { IsStateOf unit.now state.now }
-        requires sound { IsSoundRun unit.now (run_of state.now) }
-        requires covers { Covers (run_system unit.now) (run_of state.now) self.old }
-        ensures linked { AreRestingLinks unit.now (run_of state.now) self.new }
-        ensures widens { Widens self.old self.new }
-    {
-        set_all_dirty(&mut self.links, rule_count(unit), places(state));
     }
 }
 
@@ -157,8 +153,10 @@ fn places(state: &State) -> u32
     if persons == 0 { 1 } else { persons }
 }
 
-/// Takes all edges away, and sets the first so many numbers of each rule's sites dirty.
+/// Sets the first so many numbers of each rule's sites dirty and loose, where no site has an edge.
 fn set_all_dirty(links: &mut Links, rules: u32, places: u32)
+    requires bare { (i : ℕ) → get_or links.old.edges.rows i [] ≡ [] }
+    requires same { IsSameTable links.old.dirty links.old.loose }
     requires few { rules ≤ 600 }
     requires seats { places ≤ SEATS }
     requires range { rules * SEATS ≤ links.old.sites }
@@ -168,13 +166,13 @@ fn set_all_dirty(links: &mut Links, rules: u32, places: u32)
     ensures sites { links.new.sites ≡ links.old.sites }
     ensures slots { links.new.edges.slots ≡ links.old.edges.slots }
 {
-    links.clear();
     for rule in 0..rules {
         set_dirty(links, rule * SEATS as u32, places);
     }
 }
 
-/// Sets the numbers of each rule's sites at these places, from one on and below another, dirty and loose.
+/// Sets the numbers of each rule's sites at these places, from one on and below another, dirty and
+/// loose.
 fn loosen_sites(links: &mut Links, rules: u32, from: u32, below: u32)
     requires few { rules ≤ 600 }
     requires places { from ≤ below }
@@ -182,6 +180,8 @@ fn loosen_sites(links: &mut Links, rules: u32, from: u32, below: u32)
     requires range { rules * SEATS ≤ links.old.sites }
     ensures dirty { AreAmong links.new.dirty rules from below }
     ensures loose { AreAmong links.new.loose rules from below }
+    ensures only { (i : ℕ) → has links.new.dirty i ≡ true
+        → (has links.old.dirty i ≡ true) ⊎ IsAmong rules from below i }
     ensures rest { Loosens links.old links.new }
 {
     for rule in 0..rules {
@@ -197,7 +197,9 @@ fn set_dirty(links: &mut Links, first: u32, count: u32)
     ensures loosened { (n : ℕ) → n < count → has links.new.loose (first + n) ≡ true }
     ensures keeps { (i : ℕ) → has links.old.dirty i ≡ true → has links.new.dirty i ≡ true }
     ensures keeps_loose { (i : ℕ) → has links.old.loose i ≡ true → has links.new.loose i ≡ true }
-    ensures only { (i : ℕ) → has links.new.loose i ≡ true
+    ensures only { (i : ℕ) → has links.new.dirty i ≡ true
+        → (has links.old.dirty i ≡ true) ⊎ ((first ≤ i) × (i < first + count)) }
+    ensures only_loose { (i : ℕ) → has links.new.loose i ≡ true
         → (has links.old.loose i ≡ true) ⊎ (has links.new.dirty i ≡ true) }
     ensures loose { IsSameTable links.old.dirty links.old.loose
         → IsSameTable links.new.dirty links.new.loose }

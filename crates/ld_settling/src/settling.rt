@@ -1,6 +1,6 @@
 //! The settling of a run.
 ghost use Rattle.std.specs.Prelude.{◌≡◌, IfOk, OnOk, Some, None};
-ghost use Rattle.ld_cascade.specs.Wiring.{Follows, IsEmpty};
+ghost use Rattle.ld_cascade.specs.Wiring.{LinksFollow, IsEmpty};
 ghost use Rattle.ld_state.specs.StateView.{IsStateOf, run_of};
 ghost use Rattle.ld_firing.specs.RunSettling.{run_settling};
 ghost use Rattle.ld_firing.specs.RunSystem.{IsSoundRun};
@@ -18,11 +18,12 @@ use ld_state::state::State;
 use std::alloc::Global;
 use std::sync::ledger::Ledger;
 
-/// Settles the run: sweeps over its sites in their order, of which each fires those whose test and mark
-/// differ, until a sweep fires nothing. Only dirty sites are judged, and those that read what a firing
-/// changes. It answers `TurnBudget` exactly where one sweep more than the unit's turns fires. After either
-/// error the state is another one of the same persons, with the same mark: it has to be taken back, and
-/// then the links by `take_back` or `reset`. (docs/MEANING.md, "Firing, sweeping, settling")
+/// Settles the run: sweeps over its sites in their order, of which each fires those whose test and
+/// mark differ, until a sweep fires nothing. Only dirty sites are judged, and those that read what
+/// a firing changes. It answers `TurnBudget` exactly where one sweep more than the unit's turns
+/// fires. After either error the state is another one of the same persons, with the same mark: it
+/// has to be taken back, and then the links by `take_back`. (docs/MEANING.md, "Firing, sweeping,
+/// settling")
 pub fn settle<L: Ledger>(
     alloc: Global,
     unit: &PreparedUnit,
@@ -43,7 +44,7 @@ pub fn settle<L: Ledger>(
     ensures own { IsStateOf unit.now state.new }
     ensures rows { state.new.rows ≡ state.old.rows }
     ensures kept { state.new.kept ≡ state.old.kept }
-    ensures follows { Follows links.old links.new }
+    ensures follows { LinksFollow links.old links.new }
 {
     let mut sites = RunSites {
         alloc,
@@ -78,7 +79,7 @@ fn settle_sites<L: Ledger>(
     ensures kept { sites.new.state.now.kept ≡ sites.old.state.now.kept }
     ensures state { sites.new.state.ghost_name ≡ sites.old.state.ghost_name }
     ensures list { sites.new.list.ghost_name ≡ sites.old.list.ghost_name }
-    ensures follows { Follows links.old links.new }
+    ensures follows { LinksFollow links.old links.new }
 {
     let turns = sites.unit.unit().turns;
     cascade(alloc, sites, links, turns, steps)

@@ -21,9 +21,9 @@ use Rattle.ld_run.specs.Linked.{MayRelink, relinking_of, relinks_all}
 use Rattle.ld_run.specs.declared.settling.Relinking.{Relinking}
 use Rattle.ld_run.proofs.FittingRuns.{changed_fits, dated_fits, taken_fits}
 use Rattle.ld_run.proofs.LawsNotices.{changed_outbox}
-use Rattle.ld_run.proofs.LinkedRuns.{links_before, no_links, relinks_some, tells_by, unsettled_links, widens_still, widens_then}
+use Rattle.ld_run.proofs.LinkedRuns.{links_before, no_links, relinks_some, tells_by, unsettled_links, widens_then}
 use Rattle.ld_run.proofs.SoundRuns.{changed_is_sound, dated_is_sound, taken_is_sound, possible_stays, tellable_after, tellable_stays}
-use Rattle.ld_run.proofs.StepStages.{first_refused, is_done, not_open, second_refused}
+use Rattle.ld_run.proofs.StepStages.{first_refused, is_done, not_open, second_refused, stays_closed}
 use Rattle.ld_run.proofs.doing.do_admitted.Goals as goal
 
 -- A run that is refreshed is sound, its values fit, and it has sent no notice.
@@ -77,8 +77,13 @@ returns-in-Err-settle_if-clause-refused g c other =
 
 pub is_open_for-requires-clause-possible : goal.is_open_for-requires-clause-possible
 is_open_for-requires-clause-possible g c =
+    let unit = c.args.unit.now in
+    let started = c.is_started-started.ensures ∙ ap is_started c.in_default.ensures.run in
+    let closed = stays_closed unit (values_of c.args.globals.now) (run_of c.args.state.now) c.args.moment.0
+    (admitted_of c.args.command.now) (settlement_of c.in-Ok.settled (run_of c.settle_if.new.state))
+    (ap₂ (λ b s. settled b unit s) (sym started) (sym c.in_default.ensures.run) ∙ c.in-Ok.ensures.settled) in
     let same = ap persons_of (sym (c.settle_if.ensures.rows ∙ c.refresh.ensures.rows)) in
-    possible_stays c.args.unit.now (run_of c.args.state.now) (run_of c.settle_if.new.state) same
+    possible_stays unit (run_of c.args.state.now) (run_of c.settle_if.new.state) same closed
     (admitted_of c.args.command.now) c.requires.possible
 
 pub returns-then-not-is_open_for-clause-refused : goal.returns-then-not-is_open_for-clause-refused
@@ -93,8 +98,13 @@ returns-then-not-is_open_for-clause-refused g c other =
 
 pub change_directly-requires-clause-possible : goal.change_directly-requires-clause-possible
 change_directly-requires-clause-possible g c =
+    let unit = c.args.unit.now in
+    let started = c.is_started-started.ensures ∙ ap is_started c.in_default.ensures.run in
+    let closed = stays_closed unit (values_of c.args.globals.now) (run_of c.args.state.now) c.args.moment.0
+    (admitted_of c.args.command.now) (settlement_of c.in-Ok.settled (run_of c.settle_if.new.state))
+    (ap₂ (λ b s. settled b unit s) (sym started) (sym c.in_default.ensures.run) ∙ c.in-Ok.ensures.settled) in
     let same = ap persons_of (sym (c.settle_if.ensures.rows ∙ c.refresh.ensures.rows)) in
-    possible_stays c.args.unit.now (run_of c.args.state.now) (run_of c.settle_if.new.state) same
+    possible_stays unit (run_of c.args.state.now) (run_of c.settle_if.new.state) same closed
     (admitted_of c.args.command.now) c.requires.possible
 
 -- The direct change leaves a sound run whose values fit, and sends no notice.
@@ -104,7 +114,11 @@ settle_if-requires-2-clause-sound g c =
     let store = values_of c.args.globals.now in
     let command = admitted_of c.args.command.now in
     let same = ap persons_of (sym (c.settle_if.ensures.rows ∙ c.refresh.ensures.rows)) in
-    let possible = possible_stays unit (run_of c.args.state.now) (run_of c.settle_if.new.state) same command c.requires.possible in
+    let started = c.is_started-started.ensures ∙ ap is_started c.in_default.ensures.run in
+    let closed = stays_closed unit (values_of c.args.globals.now) (run_of c.args.state.now) c.args.moment.0 command
+    (settlement_of c.in-Ok.settled (run_of c.settle_if.new.state))
+    (ap₂ (λ b s. settled b unit s) (sym started) (sym c.in_default.ensures.run) ∙ c.in-Ok.ensures.settled) in
+    let possible = possible_stays unit (run_of c.args.state.now) (run_of c.settle_if.new.state) same closed command c.requires.possible in
     subst (IsSoundRun unit) (sym c.in_default-change_directly.ensures.run)
     (changed_is_sound unit store (run_of c.settle_if.new.state) c.args.moment.0 command c.in-Ok.ensures.sound refl
     c.requires.moment c.in_default-change_directly.ensures.joins possible)
@@ -133,7 +147,11 @@ settle_if-requires-2-clause-told g c settles =
     let command = admitted_of c.args.command.now in
     let told = c.in_default-change_directly.ensures in
     let same = ap persons_of (sym (c.settle_if.ensures.rows ∙ c.refresh.ensures.rows)) in
-    let possible = possible_stays unit (run_of c.args.state.now) s same command c.requires.possible in
+    let started = c.is_started-started.ensures ∙ ap is_started c.in_default.ensures.run in
+    let closed = stays_closed unit (values_of c.args.globals.now) (run_of c.args.state.now) c.args.moment.0 command
+    (settlement_of c.in-Ok.settled (run_of c.settle_if.new.state))
+    (ap₂ (λ b s. settled b unit s) (sym started) (sym c.in_default.ensures.run) ∙ c.in-Ok.ensures.settled) in
+    let possible = possible_stays unit (run_of c.args.state.now) s same closed command c.requires.possible in
     let how = c.how_to_relink-how.ensures
     ∙ ap (relinking_of command) (c.persons-before.ensures ∙ sym (persons_counted c.settle_if.new.state)) in
     let tells = tells_by unit s t c.deref-2.result.now command
@@ -193,7 +211,11 @@ returns-in-Ok-both-clause-tellable g c =
     let store = values_of c.args.globals.now in
     let command = admitted_of c.args.command.now in
     let same = ap persons_of (sym (c.settle_if.ensures.rows ∙ c.refresh.ensures.rows)) in
-    let possible = possible_stays unit (run_of c.args.state.now) (run_of c.settle_if.new.state) same command c.requires.possible in
+    let started = c.is_started-started.ensures ∙ ap is_started c.in_default.ensures.run in
+    let closed = stays_closed unit (values_of c.args.globals.now) (run_of c.args.state.now) c.args.moment.0 command
+    (settlement_of c.in-Ok.settled (run_of c.settle_if.new.state))
+    (ap₂ (λ b s. settled b unit s) (sym started) (sym c.in_default.ensures.run) ∙ c.in-Ok.ensures.settled) in
+    let possible = possible_stays unit (run_of c.args.state.now) (run_of c.settle_if.new.state) same closed command c.requires.possible in
     tellable_stays unit (run_of c.change_directly.new.state) (run_of c.settle_if-2.new.state)
     (ap persons_of (sym c.settle_if-2.ensures.rows)) command
     (subst (λ (s : RunState). IsTellable unit s command) (sym c.in_default-change_directly.ensures.run)

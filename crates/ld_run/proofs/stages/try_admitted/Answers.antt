@@ -1,17 +1,15 @@
 use Rattle.std.proofs.Common.{◌∙◌, ap, subst, sym}
-use Rattle.ld_cascade.specs.Tidy.{Covers}
-use Rattle.ld_firing.specs.RunSystem.{IsSoundRun, run_system}
+use Rattle.ld_firing.specs.RunSystem.{IsSoundRun}
 use Rattle.ld_sharing.specs.Fitting.{HasFittingGlobals}
 use Rattle.ld_sharing.specs.Globals.{giving_back}
 use Rattle.ld_sharing.specs.StoreView.{values_of}
 use Rattle.ld_state.specs.RunState.{RunState}
 use Rattle.ld_state.specs.StateView.{StateView, run_of}
 use Rattle.ld_checks.specs.AdmittedView.{IsPossible, admitted_of}
-use Rattle.ld_checks.specs.Checks.{is_started}
 use Rattle.ld_run.specs.Linked.{HasLinks}
 use Rattle.ld_replies.specs.Printing.{AreNoticesOf}
 use Rattle.ld_run.specs.RunStep.{done_by}
-use Rattle.ld_run.proofs.LinkedRuns.{covers_wider, widens_then}
+use Rattle.ld_run.proofs.LinkedRuns.{links_back, widens_then}
 use Rattle.ld_run.proofs.StepStages.{undone_is}
 use Rattle.ld_run.proofs.stages.try_admitted.Goals as goal
 
@@ -57,38 +55,20 @@ returns-in-Err-clause-sound g c =
     c.do_and_tell.ensures.own (c.do_and_tell.ensures.kept ∙ ap (λ (s : StateView). s.kept) c.mark.ensures) c.undo.ensures.run))
     c.requires.sound
 
-pub take_links_back-requires-clause-sound : goal.take_links_back-requires-clause-sound
-take_links_back-requires-clause-sound g c =
-    subst (IsSoundRun c.args.unit.now)
-    (sym (undone_is c.args.unit.now c.args.state.now c.do_and_tell.new.state c.undo.new.self c.requires.own
-    c.do_and_tell.ensures.own (c.do_and_tell.ensures.kept ∙ ap (λ (s : StateView). s.kept) c.mark.ensures) c.undo.ensures.run))
-    c.requires.sound
-
-pub take_links_back-requires-clause-begun : goal.take_links_back-requires-clause-begun
-take_links_back-requires-clause-begun g c plain =
+pub returns-in-Err-clause-linked : goal.returns-in-Err-clause-linked
+returns-in-Err-clause-linked g c =
     let unit = c.args.unit.now in
     let s = run_of c.args.state.now in
     let back = undone_is unit c.args.state.now c.do_and_tell.new.state c.undo.new.self c.requires.own
     c.do_and_tell.ensures.own (c.do_and_tell.ensures.kept ∙ ap (λ (s : StateView). s.kept) c.mark.ensures) c.undo.ensures.run in
-    record {
-      begun = c.begin.new.self;
-      links = subst (λ t. HasLinks unit t c.begin.new.self) (sym back) (λ started. c.begin.ensures.linked unit s (c.requires.linked started));
-      follows = c.do_and_tell.ensures.follows (sym c.renews_sites.ensures ∙ plain);
-    }
-
-pub take_links_back-requires-clause-covers : goal.take_links_back-requires-clause-covers
-take_links_back-requires-clause-covers g c renews started =
-    let unit = c.args.unit.now in
-    let s = run_of c.args.state.now in
-    let back = undone_is unit c.args.state.now c.do_and_tell.new.state c.undo.new.self c.requires.own
-    c.do_and_tell.ensures.own (c.do_and_tell.ensures.kept ∙ ap (λ (s : StateView). s.kept) c.mark.ensures) c.undo.ensures.run in
-    let begun = c.begin.ensures.linked unit s (c.requires.linked (ap is_started (sym back) ∙ started)) in
-    subst (λ t. Covers (run_system unit) t c.do_and_tell.new.links) (sym back)
-    (covers_wider unit s c.do_and_tell.ensures.widens begun.links.covers)
+    subst (λ t. HasLinks unit t c.take_back.new.self) (sym back)
+    (links_back unit s (admitted_of c.args.command.now) c.take_back.new.self c.requires.possible
+    (λ plain started. c.take_back.ensures.linked unit s c.begin.new.self
+    (c.begin.ensures.linked unit s (c.requires.linked started)) (c.do_and_tell.ensures.follows plain)))
 
 pub returns-in-Err-clause-widens : goal.returns-in-Err-clause-widens
 returns-in-Err-clause-widens g c =
-    widens_then (widens_then c.begin.ensures.widens c.do_and_tell.ensures.widens) c.take_links_back.ensures.widens
+    widens_then (widens_then c.begin.ensures.widens c.do_and_tell.ensures.widens) c.take_back.ensures.widens
 
 pub returns-in-Ok-clause-widens : goal.returns-in-Ok-clause-widens
 returns-in-Ok-clause-widens g c = widens_then c.begin.ensures.widens c.do_and_tell.ensures.widens

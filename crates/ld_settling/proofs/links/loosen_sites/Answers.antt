@@ -27,7 +27,7 @@ loop-rule-preserved c =
       record {
         dirty = λ i was. e.keeps i (v.2.dirty i was);
         loose = λ i was. e.keeps_loose i (v.2.loose i was);
-        only = λ i is_in. elim (e.only i is_in) [
+        only = λ i is_in. elim (e.only_loose i is_in) [
           | inl was ↦ elim (v.2.only i was) [
             | inl first ↦ inl first
             | inr became ↦ inr (e.keeps i became)
@@ -39,4 +39,15 @@ loop-rule-preserved c =
         sites = e.sites ∙ v.2.sites;
       },
       omega (arith, c.loop-rule-test.true),
+      λ i is_in. elim (e.only i is_in) [
+        | inl was ↦ v.4 i was
+        | inr among ↦ inr (record {
+          rule = n;
+          place = i - n * SEATS;
+          number = omega (arith, among.0);
+          has_rule = omega (arith, c.loop-rule-test.true);
+          is_from = omega (arith, among.0);
+          is_below = omega (arith, among.0, among.1, c.requires.places);
+        })
+      ],
     )

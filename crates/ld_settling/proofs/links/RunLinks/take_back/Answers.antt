@@ -1,13 +1,13 @@
 use Rattle.std.proofs.Common.{◌≡◌, ◌⊎◌, ◌∙◌, true, sym, subst}
 use Rattle.ld_graph.specs.Table.{has}
-use Rattle.ld_cascade.specs.Wiring.{Follows, Wiring}
+use Rattle.ld_cascade.specs.Wiring.{LinksFollow, Wiring}
 use Rattle.ld_settling.proofs.RunLinks.{resting_back}
 use Rattle.ld_settling.proofs.links.RunLinks.take_back.Goals as goal
 
 pub returns-clause-linked : goal.returns-clause-linked
 returns-clause-linked c unit s begun resting follows =
     resting_back unit s begun c.self.inside.links c.take_back.new.self resting
-    (subst (λ (w : Wiring). Follows begun w) (sym c.self.view_is) follows) c.take_back.ensures.back
+    (subst (λ (w : Wiring). LinksFollow begun w) (sym c.self.view_is) follows) c.take_back.ensures.back
 
 pub returns-clause-only : goal.returns-clause-only
 returns-clause-only c i is_in =

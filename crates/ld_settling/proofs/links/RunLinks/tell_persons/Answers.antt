@@ -1,6 +1,7 @@
-use Rattle.std.proofs.Common.{arith, refl, sym, ap, ◌∙◌, subst}
-use Rattle.ld_graph.specs.Edges.{Edges}
-use Rattle.ld_cascade.specs.Wiring.{Follows, Wiring}
+use Rattle.std.proofs.Common.{◌≡◌, ℕ, arith, refl, sym, ap, ◌∙◌, subst, inl, inr, List, true, Contains}
+use Rattle.ld_graph.specs.Edges.{Edges, IsLinked}
+use Rattle.ld_graph.specs.Table.{has}
+use Rattle.ld_cascade.specs.Wiring.{LinksFollow, Wiring}
 use Rattle.ld_cascade.proofs.Edges.{follows_then}
 use Rattle.ld_state.specs.StateView.{run_of}
 use Rattle.ld_firing.proofs.SeenInStates.{persons_counted}
@@ -37,7 +38,7 @@ returns-clause-linked c =
     c.self.inside.links c.grow.new.self c.loosen_readers.new.self c.loosen_sites.new.links
     grown.edges grown.dirty grown.loose
     (record {
-      rest = record { dirty = r.keeps; loose = r.keeps_loose; only = r.only; edges = r.edges; relinked = r.relinked; sites = r.sites };
+      rest = record { dirty = r.keeps; loose = r.keeps_loose; only = r.only_loose; edges = r.edges; relinked = r.relinked; sites = r.sites };
       readers = r.readers;
       loosens = r.loosens;
     })
@@ -58,11 +59,38 @@ returns-clause-linked c =
       );
     })
 
+pub returns-in_err-grow-clause-only : goal.returns-in_err-grow-clause-only
+returns-in_err-grow-clause-only c i is_in =
+    inl (subst (λ (w : Wiring). has w.dirty i ≡ true) c.self.view_is (sym (c.grow.ensures.dirty i) ∙ is_in))
+
+pub returns-clause-only : goal.returns-clause-only
+returns-clause-only c i is_in =
+    let persons = persons_counted c.args.state.now in
+    elim (c.loosen_sites.ensures.only i is_in) [
+      | inl was ↦ elim (c.loosen_readers.ensures.only i was) [
+        | inl first ↦ inl (subst (λ (w : Wiring). has w.dirty i ≡ true) c.self.view_is (sym (c.grow.ensures.dirty i) ∙ first))
+        | inr read ↦ inr (inl (
+          read.0,
+          read.1,
+          subst (λ (w : Wiring). IsLinked w.edges read.0 i) c.self.view_is
+              (subst (λ (row : List ℕ). Contains row read.0) (c.grow.ensures.edges i) read.2),
+        ))
+      ]
+      | inr new ↦ inr (inr (record {
+        rule = new.rule;
+        place = new.place;
+        number = new.number;
+        has_rule = omega (arith, new.has_rule, c.rule_count-rules.ensures.count);
+        is_from = omega (arith, new.is_from);
+        is_below = omega (arith, new.is_below, c.persons.ensures, persons);
+      }))
+    ]
+
 pub returns-in_err-grow-clause-follows : goal.returns-in_err-grow-clause-follows
 returns-in_err-grow-clause-follows c =
-    subst (λ (w : Wiring). Follows w c.grow.new.self) c.self.view_is c.grow.ensures.follows
+    subst (λ (w : Wiring). LinksFollow w c.grow.new.self) c.self.view_is c.grow.ensures.follows
 
 pub returns-clause-follows : goal.returns-clause-follows
 returns-clause-follows c =
-    subst (λ (w : Wiring). Follows w c.loosen_sites.new.links) c.self.view_is
+    subst (λ (w : Wiring). LinksFollow w c.loosen_sites.new.links) c.self.view_is
     (follows_then c.grow.ensures.follows (follows_then c.loosen_readers.ensures.follows (follows_loosened c.loosen_sites.ensures.rest)))
