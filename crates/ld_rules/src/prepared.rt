@@ -169,7 +169,7 @@ fn make(alloc: Global, unit: &Unit, names: Names, rules: Vec<Rule>) -> Result<Ma
     ensures { IfOk result (IsMadeOf unit.now) }
 {
     let reach = Reach::of(alloc, unit, &names)?;
-    let (slots, shown) = lay_out(alloc, unit)?;
+    let (slots, shown) = lay_out(alloc, unit, &rules)?;
     let uris = uris_of(alloc, unit.properties.as_slice())?;
     Ok(Made {
         names,
@@ -181,8 +181,13 @@ fn make(alloc: Global, unit: &Unit, names: Names, rules: Vec<Rule>) -> Result<Ma
     })
 }
 
-/// The slots of the unit, and of each thing whether it is visible at first.
-fn lay_out(alloc: Global, unit: &Unit) -> Result<(Slots, Vec<Option<bool>>), NoMemory>
+/// The slots of the unit, whose rules these are, and of each thing whether it is visible at first.
+fn lay_out(
+    alloc: Global,
+    unit: &Unit,
+    rules: &[Rule],
+) -> Result<(Slots, Vec<Option<bool>>), NoMemory>
+    requires { rules.now ≡ rules_of unit.now }
     ensures slots { IfOk result (λ both. both.0 ≡ layout_of unit.now) }
     ensures shown { IfOk result (λ both. both.1.items
         ≡ map (λ thing. thing.visible) (things_of unit.now)) }
@@ -190,7 +195,7 @@ fn lay_out(alloc: Global, unit: &Unit) -> Result<(Slots, Vec<Option<bool>>), NoM
     let listing = Listing::of(alloc, unit)?;
     let things = list_things(alloc, &listing)?;
     let shown = shown_at_first(alloc, &things)?;
-    Ok((Slots::of(alloc, unit, &listing)?, shown))
+    Ok((Slots::of(alloc, unit, &listing, &things, rules)?, shown))
 }
 
 /// Of each thing whether it is visible at first.

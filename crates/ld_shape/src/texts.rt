@@ -100,7 +100,12 @@ fn read_address(alloc: Global, node: &Node<'_>, most: usize) -> Result<PlainText
 fn are_visible_ascii(bytes: &[u8]) -> bool
     ensures { result ≡ list_all is_visible_ascii bytes.now }
 {
-    bytes.iter().all(|byte| byte.is_ascii_graphic())
+    // Each byte is looked at, whatever was found before it, so that many are looked at at once.
+    let mut visible = true;
+    for byte in bytes {
+        visible &= byte.is_ascii_graphic();
+    }
+    visible
 }
 
 /// An address: 1 to 1,024 visible characters of ASCII.

@@ -1,10 +1,13 @@
 //! The slots of the cells of a unit's runs.
 #![tactic(auto, using(crate::proofs::Owned::count_listed, crate::proofs::Owned::own_are_of, crate::proofs::Owned::roles_are, crate::proofs::Owned::run_are_of))]
 
-ghost use Rattle.std.specs.Prelude.{◌≡◌, ◌<◌, ◌≤◌, ◌+◌, ◌*◌, ◌^◌, length, option_map, IfOk};
+ghost use Rattle.std.specs.Prelude.{◌≡◌, ◌<◌, ◌≤◌, ◌+◌, ◌*◌, ◌^◌, length, map, option_map, IfOk};
 ghost use Rattle.ld_parts.specs.Listing.{parts_of};
 ghost use Rattle.ld_walk.specs.PartView.{what_of};
 ghost use Rattle.ld_names.specs.Identifiers.{role_identifiers_in, role_identified_by};
+ghost use Rattle.ld_names.specs.Rules.{rules_of};
+ghost use Rattle.ld_names.specs.ThingView.{entry_of};
+ghost use Rattle.ld_names.specs.Things.{things_of};
 ghost use Rattle.ld_state.specs.Codes.{code_of, coded_number};
 ghost use Rattle.ld_model.specs.declared.unit.Unit.{Unit as Course};
 ghost use Rattle.ld_state.specs.RunCells.{slot_of};
@@ -17,8 +20,8 @@ use ld_base::memory::NoMemory;
 use ld_base::numbers::{PersonNo, number};
 use ld_model::cell::{CellName, Owner};
 use ld_model::unit::Unit;
-use ld_names::rule::list_rules;
-use ld_names::thing::list_things;
+use ld_names::rule::Rule;
+use ld_names::thing::ThingEntry;
 use ld_parts::listing::Listing;
 use ld_walk::kind::Kind;
 use ld_walk::part::What;
@@ -52,17 +55,23 @@ impl Model for Slots {
 }
 
 impl Slots {
-    /// The slots of the unit, whose listing it is. It takes time and memory as the size of the
-    /// listing.
-    pub fn of(alloc: Global, unit: &Unit, listing: &Listing<'_>) -> Result<Slots, NoMemory>
-        requires { listing.now ≡ parts_of unit.now }
+    /// The slots of the unit, whose listing, things and rules these are. It takes time and memory as
+    /// the size of the listing.
+    pub fn of(
+        alloc: Global,
+        unit: &Unit,
+        listing: &Listing<'_>,
+        things: &[ThingEntry<'_>],
+        rules: &[Rule],
+    ) -> Result<Slots, NoMemory>
+        requires listing { listing.now ≡ parts_of unit.now }
+        requires things { map entry_of things.now ≡ things_of unit.now }
+        requires rules { rules.now ≡ rules_of unit.now }
         ensures { IfOk result (λ slots. slots ≡ layout_of unit.now) }
     {
-        let things = list_things(alloc, listing)?;
-        let rules = list_rules(alloc, listing)?;
         let roles = count_roles(listing)?;
-        let run = run_cells(alloc, unit, &things, &rules)?;
-        let own = own_cells(alloc, unit, &things, roles, &rules)?;
+        let run = run_cells(alloc, unit, things, rules)?;
+        let own = own_cells(alloc, unit, things, roles, rules)?;
         Ok(Slots {
             run: Index::of(alloc, run)?,
             own: Index::of(alloc, own)?,

@@ -13,7 +13,7 @@ use crate::reader::stop::FolderStop;
 use ld_base::shelf::Shelf;
 use ld_json::fault::{Fault, ReadFault};
 use ld_world::world::World;
-use std::alloc::Global;
+use std::alloc::{AllocError, Global};
 
 /// Why the units of folders were not published.
 #[derive(Drop)]
@@ -47,6 +47,7 @@ pub fn publish_folders<H: Shelf>(
     ensures counts { H.faults shelf.old ≤ H.faults shelf.new }
     ensures same { H.files shelf.new ≡ H.files shelf.old }
 {
+    accustom_allocator(alloc);
     let mut world = World::new(alloc);
     for (index, folder) in folders.iter().enumerate() {
         match publish_folder(alloc, shelf, folder.as_str(), &mut world) {
@@ -88,4 +89,16 @@ fn publish_folder<H: Shelf>(
         Err(ReadFault::Refused(fault)) => Err(FolderStop::Refused(fault)),
         Err(ReadFault::NoMemory) => Err(FolderStop::NoMemory),
     }
+}
+
+/// The room that is taken once before folders are read, in bytes: more than their files mostly take.
+const FIRST_ROOM: usize = 32_000_000;
+
+/// Takes this room and gives it back at once, where there is so much. The C library's allocator hands
+/// a large block back to the system as soon as it is free, until it has seen that blocks of its size
+/// come and go: behind this it keeps what files give back, and uses it again for what is made of
+/// them. Fewer pages are asked for so, and no answer depends on it.
+fn accustom_allocator(alloc: Global) {
+    let room: Result<Vec<u8>, AllocError> = Vec::with_capacity(alloc, FIRST_ROOM);
+    drop(room);
 }

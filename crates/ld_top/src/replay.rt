@@ -19,6 +19,7 @@ use ld_lines::next::Next;
 use ld_lines::stop::LineStop;
 use ld_world::world::World;
 use std::alloc::Global;
+use std::mem;
 use std::sync::ledger::Ledger;
 
 /// Asks for the next line and answers it into `out`. True where there was one, false at the end.
@@ -136,7 +137,10 @@ pub fn replay<S: Source, K: Sink, L: Ledger>(
     let Ok(mut out) = Text::with_room(alloc, REPLY_ROOM) else {
         return Ending::NoMemory;
     };
-    answer_lines(alloc, &mut lines, source, sink, &mut world, &mut out, steps)
+    let ending = answer_lines(alloc, &mut lines, source, sink, &mut world, &mut out, steps);
+    // The process ends behind this, and gives back all that the world has at once.
+    mem::forget(world);
+    ending
 }
 
 /// The room that is taken for replies before the first line is asked for, in bytes. Every refusal

@@ -111,7 +111,7 @@ fn check_graph(
 fn environment_graph(alloc: Global, unit: &Unit, names: &Names) -> Result<Vec<Vec<usize>>, NoMemory>
     ensures { IfOk result (λ graph. edges_of graph.items ≡ environment_graph unit.now names.now) }
 {
-    let mut graph = Vec::new(alloc);
+    let mut graph = Vec::with_capacity(alloc, unit.environments.len())?;
     for environment in unit.environments.as_slice() {
         let next = numbers_among(
             alloc,
@@ -128,7 +128,7 @@ fn environment_graph(alloc: Global, unit: &Unit, names: &Names) -> Result<Vec<Ve
 fn structure_graph(alloc: Global, unit: &Unit, names: &Names) -> Result<Vec<Vec<usize>>, NoMemory>
     ensures { IfOk result (λ graph. edges_of graph.items ≡ structure_graph unit.now names.now) }
 {
-    let mut graph = Vec::new(alloc);
+    let mut graph = Vec::with_capacity(alloc, unit.structures.len())?;
     for structure in unit.structures.as_slice() {
         let next = numbers_among(
             alloc,
@@ -150,7 +150,7 @@ fn numbers_among(
 ) -> Result<Vec<usize>, NoMemory>
     ensures { IfOk result (λ numbers. numbers.items ≡ numbers_among nodes names.now ids.now) }
 {
-    let mut numbers = Vec::new(alloc);
+    let mut numbers = Vec::with_capacity(alloc, ids.len())?;
     for id in ids {
         if let Some(number) = nodes.number(kind_of(names, id)) {
             numbers.push(number)?;

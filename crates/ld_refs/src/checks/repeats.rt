@@ -25,6 +25,16 @@ pub(crate) enum Texts {
     Uris,
 }
 
+impl Texts {
+    /// The room that is taken for such texts at once: for each part's identifier, and for no uri.
+    fn most(self, listing: &Listing<'_>) -> usize {
+        match self {
+            Texts::Identifiers => listing.len(),
+            Texts::Uris => 0,
+        }
+    }
+}
+
 /// That such texts differ. It takes time as their size.
 pub(crate) fn check_repeats(
     alloc: Global,
@@ -34,7 +44,7 @@ pub(crate) fn check_repeats(
     ensures faultless { OnOk result (repeated_faults texts listing.now ≡ []) }
     ensures first { IfErr result (SaysFirst (repeated_faults texts listing.now)) }
 {
-    let mut seen = HashSet::new(alloc);
+    let mut seen = HashSet::with_capacity(alloc, texts.most(listing))?;
     for index in 0..listing.len() {
         let at = listing.spot(index);
         note_part(alloc, &mut seen, texts, &at, listing.what(index))?;

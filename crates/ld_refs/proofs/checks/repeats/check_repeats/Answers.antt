@@ -9,7 +9,7 @@ use Rattle.ld_refs.proofs.checks.repeats.check_repeats.Goals as goal
 
 pub returns-in_err-note_part-clause-first : goal.returns-in_err-note_part-clause-first
 returns-in_err-note_part-clause-first c =
-    let p = err_from_is_err_and c.from_residual.result c.from_residual.ensures.1 in
+    let p = err_from_is_err_and c.from_residual-in_err-note_part.result c.from_residual-in_err-note_part.ensures.1 in
     let texts = c.args.texts in
     let parts = c.args.listing.now in
     let i = c.loop-index.index in
