@@ -1,4 +1,4 @@
-pub mod Acts
+pub mod CurrentAct
 pub mod Fuel
 pub mod Indents
 pub mod Plain

@@ -1,10 +1,10 @@
 //! Looking for an activity among the lines of a tree.
 ghost use Rattle.std.specs.Prelude.{◌≡◌, false};
-ghost use Rattle.ld_tree.specs.LineView.{line_view};
+ghost use Rattle.ld_tree.specs.LineView.{is_of_activity, line_view};
 ghost use Rattle.ld_tree.specs.Telling.{Asked, asked_after};
 ghost use Rattle.ld_tree.specs.Tree.{tells_open};
 
-use crate::line::{LineSink, TreeLine};
+use crate::line::{LineSink, Shown, TreeLine};
 use ld_base::id::Id;
 use ld_base::memory::NoMemory;
 
@@ -39,7 +39,15 @@ fn tells_open(activity: &Id, line: &TreeLine<'_>) -> bool
     let Some(note) = line.note else {
         return false;
     };
-    (line.word == "activity" || line.word == "support")
-        && *line.identifier == *activity
-        && note == "open"
+    is_of_activity(line.shown) && *line.identifier == *activity && note == "open"
+}
+
+/// Whether the line shows an activity.
+fn is_of_activity(shown: Shown) -> bool
+    ensures { result ≡ is_of_activity shown }
+{
+    match shown {
+        Shown::Activity | Shown::Support => true,
+        _ => false,
+    }
 }

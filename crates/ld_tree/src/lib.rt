@@ -5,10 +5,16 @@
 #![tactic(auto)]
 
 mod activities;
+mod acts;
 mod environments;
 mod finder;
+mod items;
 mod line;
 mod method;
+mod objects;
+mod parts;
+mod plays;
 mod printer;
+mod targets;
 pub mod tree;
 mod viewer;

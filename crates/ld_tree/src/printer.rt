@@ -1,13 +1,13 @@
 //! Printing the lines of a tree.
 #![tactic(auto, using(crate::proofs::Plain::plain_title, crate::proofs::Words::words_text))]
 
-ghost use Rattle.std.specs.Prelude.{◌≡◌, ◌++◌, ◌∷◌, [], true, OnOk, IfSome, IsErr, option_copied, string_bytes};
-ghost use Rattle.ld_tree.specs.LineView.{line_view, note_text};
-ghost use Rattle.ld_tree.specs.Lines.{indent, line_text, spaced, title_text};
+ghost use Rattle.std.specs.Prelude.{◌≡◌, ◌++◌, ◌∷◌, [], true, OnOk, option_copied, string_bytes};
+ghost use Rattle.ld_tree.specs.LineView.{line_view, note_text, shown_word};
+ghost use Rattle.ld_tree.specs.Lines.{indent, line_text, title_text};
 ghost use Rattle.ld_tree.specs.Plain.{is_plain, is_plain_byte, plain_text};
 ghost use Rattle.ld_tree.specs.Telling.{Printed, line_printed_after};
 
-use crate::line::{LineSink, TreeLine};
+use crate::line::{LineSink, Shown, TreeLine};
 use ld_base::memory::NoMemory;
 use ld_base::plain_text::PlainText;
 use ld_base::text::Text;
@@ -74,38 +74,45 @@ fn push_line(alloc: Global, line: &TreeLine<'_>, out: &mut String) -> Result<(),
     ensures { OnOk result (string_bytes out.new
         ≡ string_bytes out.old ++ 10 ∷ line_text (line_view line.now)) }
 {
-    push_start(line.depth, out)?;
-    push_words(line, out)?;
+    out.push('\n')?;
+    push_head(line.depth, line.shown, out)?;
+    out.push_str(line.identifier.as_str())?;
+    push_note(line.note, out)?;
     push_title(alloc, line.title, out)
 }
 
-/// Appends the end of the line before, and two spaces for each step of depth.
-fn push_start(depth: u128, out: &mut String) -> Result<(), NoMemory>
-    ensures { OnOk result (string_bytes out.new ≡ string_bytes out.old ++ 10 ∷ indent depth) }
+/// Appends two spaces for each step of depth, the word of what is shown, and a space.
+fn push_head(depth: u128, shown: Shown, out: &mut String) -> Result<(), NoMemory>
+    ensures { OnOk result (string_bytes out.new
+        ≡ string_bytes out.old ++ (indent depth ++ (shown_word shown ++ 32 ∷ []))) }
 {
-    let Some(start) = start_of(depth) else {
-        out.push('\n')?;
-        return push_indent(depth, out);
-    };
-    out.push_str(start)?;
+    let indented = indented_word(shown);
+    if 8 < depth {
+        push_indent(depth - 8, out)?;
+        out.push_str(indented)?;
+        return Ok(());
+    }
+    let unneeded = 16 - 2 * depth as usize;
+    out.push_str(&indented[unneeded..])?;
     Ok(())
 }
 
-/// The text of `push_start`, for the depths at which most lines stand.
-fn start_of(depth: u128) -> Option<&'static str>
-    ensures { IfSome result (λ start. start.now ≡ 10 ∷ indent depth) }
+/// The word of what is shown behind the spaces of eight steps of depth, and a space.
+fn indented_word(shown: Shown) -> &'static str
+    ensures { result.now ≡ indent 8 ++ (shown_word shown ++ 32 ∷ []) }
 {
-    match depth {
-        0 => Some("\n"),
-        1 => Some("\n  "),
-        2 => Some("\n    "),
-        3 => Some("\n      "),
-        4 => Some("\n        "),
-        5 => Some("\n          "),
-        6 => Some("\n            "),
-        7 => Some("\n              "),
-        8 => Some("\n                "),
-        _ => None,
+    match shown {
+        Shown::Unit => "                unit ",
+        Shown::Play => "                play ",
+        Shown::Act => "                act ",
+        Shown::Part => "                part ",
+        Shown::Activity => "                activity ",
+        Shown::Support => "                support ",
+        Shown::Structure => "                structure ",
+        Shown::Item => "                item ",
+        Shown::Environment => "                environment ",
+        Shown::Object => "                object ",
+        Shown::Service => "                service ",
     }
 }
 
@@ -117,17 +124,6 @@ fn push_indent(depth: u128, out: &mut String) -> Result<(), NoMemory>
         out.push_str("  ")?;
     }
     Ok(())
-}
-
-/// Appends the words of the line.
-fn push_words(line: &TreeLine<'_>, out: &mut String) -> Result<(), NoMemory>
-    ensures { OnOk result (string_bytes out.new
-        ≡ string_bytes out.old ++ spaced (line_view line.now).words) }
-{
-    out.push_str(line.word)?;
-    out.push(' ')?;
-    out.push_str(line.identifier.as_str())?;
-    push_note(line.note, out)
 }
 
 /// Appends what is noted behind the identifier, if there is something, behind a space.
@@ -173,11 +169,16 @@ fn push_plain(text: &str, out: &mut String) -> Result<(), NoMemory>
     Ok(())
 }
 
-/// Whether the bytes need no escapes in a JSON text.
+/// Whether the bytes need no escapes in a JSON text. It looks at all of them, which is quicker than
+/// to stop at the first that needs one.
 fn is_plain(bytes: &[u8]) -> bool
     ensures { result ≡ is_plain bytes.now }
 {
-    bytes.iter().all(|byte| is_plain_byte(*byte))
+    let mut plain = true;
+    for byte in bytes {
+        plain &= is_plain_byte(*byte);
+    }
+    plain
 }
 
 /// Whether the byte needs no escape in a JSON text: it is no quote, no backslash, and no control
@@ -185,5 +186,5 @@ fn is_plain(bytes: &[u8]) -> bool
 fn is_plain_byte(byte: u8) -> bool
     ensures { result ≡ is_plain_byte byte }
 {
-    byte != b'"' && byte != b'\\' && byte >= 0x20
+    (byte != b'"') & (byte != b'\\') & (byte >= 0x20)
 }

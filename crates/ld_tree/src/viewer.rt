@@ -1,18 +1,17 @@
 //! What a person sees of a run.
-ghost use Rattle.std.specs.Prelude.{◌≡◌, ◌+◌, ◌≤◌, length, option_copied, option_map, true, false, Some, IfSome, IfNone};
+ghost use Rattle.std.specs.Prelude.{◌≡◌, ◌+◌, ◌≤◌, length, option_copied, true, false, Some, IfSome, IfNone};
 ghost use Rattle.ld_expr.specs.Done.{is_done};
 ghost use Rattle.ld_expr.specs.Lookup.{activity_at, environment_at, place_named, structure_at};
 ghost use Rattle.ld_expr.specs.Looks.{member_looks};
 ghost use Rattle.ld_expr.specs.Membership.{is_member_of};
 ghost use Rattle.ld_expr.specs.Owners.{of_person};
 ghost use Rattle.ld_expr.specs.Viewing.{HasCells, seen_by};
-ghost use Rattle.ld_names.specs.Names.{names_of, thing_number};
-ghost use Rattle.ld_tree.specs.Things.{IsThing};
+ghost use Rattle.ld_names.specs.Names.{names_of};
 ghost use Rattle.ld_tree.specs.Tree.{is_visible};
 ghost use Rattle.ld_tree.specs.TreeLooks.{visible_looks, own_done_looks};
 
 use ld_base::id::Id;
-use ld_base::numbers::{PersonNo, ThingNo};
+use ld_base::numbers::PersonNo;
 use ld_base::steps::Steps;
 use ld_expr::cells::{says_yes, thing_number};
 use ld_expr::done::is_done;
@@ -48,45 +47,10 @@ impl<'a, V: View> Viewer<'a, V> {
         ensures cost { steps.new
             ≤ steps.old + length (visible_looks self.now.unit.now self.now.person.0 id.now) }
     {
-        self.is_visible_near(None, id, steps)
-    }
-
-    /// Whether the thing of this identifier is visible for the person, as `is_visible` says. Its number
-    /// is looked for at the guess first.
-    pub(crate) fn is_visible_near<L: Ledger>(
-        &self,
-        guess: Option<ThingNo>,
-        id: &Id,
-        steps: &mut Steps<L>,
-    ) -> bool
-        requires guess { IfSome guess (IsThing self.now.unit.now) }
-        requires cells { HasCells (V.has_cell self.now.view.now)
-            (visible_looks self.now.unit.now self.now.person.0 id.now) }
-        ensures value { result ≡ is_visible self.now.unit.now
-            (seen_by (V.persons_of self.now.view.now) (V.cells_of self.now.view.now))
-            self.now.person.0 id.now }
-        ensures cost { steps.new
-            ≤ steps.old + length (visible_looks self.now.unit.now self.now.person.0 id.now) }
-    {
-        match self.number_near(guess, id) {
+        match thing_number(self.unit, self.names, id) {
             Some(thing) => says_yes(self.view, CellName::Vis(thing, self.person), steps),
             None => false,
         }
-    }
-
-    /// The number of the thing of this identifier; None exactly where there is none. Where the guess is
-    /// right it is not looked up.
-    fn number_near(&self, guess: Option<ThingNo>, id: &Id) -> Option<ThingNo>
-        requires { IfSome guess (IsThing self.now.unit.now) }
-        ensures { option_map (λ thing. thing.0) result ≡ thing_number self.now.unit.now id.now }
-    {
-        let Some(thing) = guess else {
-            return thing_number(self.unit, self.names, id);
-        };
-        if *self.names.id(Named::Thing(thing)) == *id {
-            return Some(thing);
-        }
-        thing_number(self.unit, self.names, id)
     }
 
     /// Whether the thing of this identifier is done for the person.

@@ -1,6 +1,6 @@
 use Rattle.std.proofs.Common.{sym, ◌∙◌}
 use Rattle.ld_expr.specs.Viewing.{seen_by}
-use Rattle.ld_tree.proofs.Acts.{current_acts}
+use Rattle.ld_tree.proofs.CurrentAct.{current_acts}
 use Rattle.ld_tree.proofs.viewer.Viewer.put_current_act.Goals as goal
 
 pub returns-clause-ok : goal.returns-clause-ok
