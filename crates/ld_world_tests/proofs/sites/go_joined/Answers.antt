@@ -1,0 +1,21 @@
+use Rattle.std.proofs.Common.{◌∙◌, arith, refl, sym}
+use Rattle.ld_state.specs.StateView.{run_of}
+use Rattle.ld_replies.proofs.SeenInRuns.{persons_counted}
+use Rattle.ld_world_tests.proofs.sites.go_joined.Goals as goal
+
+pub tell_persons-requires-clause-told : goal.tell_persons-requires-clause-told
+tell_persons-requires-clause-told g c =
+    let unit = c.args.unit.now in
+    let s = run_of c.args.state.now in (
+      s,
+      persons_counted unit c.args.state.now c.requires.own ∙ sym c.persons.ensures,
+      c.requires.sound,
+      c.requires.linked,
+      record {
+        seats = refl;
+        persons = omega arith;
+        slots = λ k there. absurd (omega (arith, there));
+        untold = λ k other. refl;
+        marks = λ rule owner has. refl;
+      },
+    )

@@ -1,0 +1,143 @@
+//! A run and the store take each other's values.
+ghost use Rattle.std.specs.Prelude.{◌≡◌, OnOk};
+ghost use Rattle.ld_firing.specs.RunSystem.{IsSoundRun};
+ghost use Rattle.ld_model.specs.declared.unit.Unit.{Unit as Course};
+ghost use Rattle.ld_sharing.specs.Fitting.{HasFittingGlobals};
+ghost use Rattle.ld_sharing.specs.StoreView.{Serves};
+ghost use Rattle.ld_state.specs.StateView.{IsStateOf, run_of};
+
+use crate::begun::{Subject, begin, test};
+use crate::units::check;
+use ld_base::numbers::PropNo;
+use ld_base::steps::Steps;
+use ld_base::text::Text;
+use ld_globals::globals::Globals;
+use ld_model::cell::{CellName, Owner};
+use ld_model::view::View;
+use ld_rules::prepared::PreparedUnit;
+use ld_sharing::giving::{give_back, prepare};
+use ld_sharing::taking::take_in;
+use ld_state::state::State;
+use ld_value::value::Value;
+use std::alloc::Global;
+use std::sync::ledger::Ledger;
+use std::test::Fail;
+
+#[test]
+fn values_are_shared(rt: HostRuntime) -> Result<(), Fail> {
+    test(rt.alloc(), Subject::Sharing)
+}
+
+/// Shares the value of the unit's property.
+pub(crate) fn share<L: Ledger>(
+    alloc: Global,
+    unit: &PreparedUnit,
+    globals: &mut Globals,
+    steps: &mut Steps<L>,
+) -> Result<(), Fail>
+    requires serves { Serves globals.old unit.now }
+{
+    let gate = Text::of(alloc, "urn:gate")?;
+    share_in(alloc, unit, &gate, globals, steps)
+}
+
+/// Makes a run where the store has the value true, and lets the store and it take each other's.
+fn share_in<L: Ledger>(
+    alloc: Global,
+    unit: &PreparedUnit,
+    gate: &Text,
+    globals: &mut Globals,
+    steps: &mut Steps<L>,
+) -> Result<(), Fail>
+    requires serves { Serves globals.old unit.now }
+{
+    set(globals, gate, "true")?;
+    let mut state = begin(alloc, unit, globals, steps)?;
+    share_with(alloc, unit, gate, &mut state, globals, steps)
+}
+
+/// Refuses the test where the store or the run takes another value than is told here.
+fn share_with<L: Ledger>(
+    alloc: Global,
+    unit: &PreparedUnit,
+    gate: &Text,
+    state: &mut State,
+    globals: &mut Globals,
+    steps: &mut Steps<L>,
+) -> Result<(), Fail>
+    requires own { IsStateOf unit.now state.old }
+    requires sound { IsSoundRun unit.now (run_of state.old) }
+    requires fitting { HasFittingGlobals unit.now (run_of state.old) }
+    requires serves { Serves globals.old unit.now }
+{
+    check(
+        is_gate(state, true, steps),
+        "a run begins as the store says",
+    )?;
+    set(globals, gate, "false")?;
+    give(alloc, unit, gate, state, globals, steps)?;
+    take(alloc, unit, gate, state, globals, steps)
+}
+
+/// The run takes the value false from the store.
+fn take<L: Ledger>(
+    alloc: Global,
+    unit: &PreparedUnit,
+    gate: &Text,
+    state: &mut State,
+    globals: &mut Globals,
+    steps: &mut Steps<L>,
+) -> Result<(), Fail>
+    requires own { IsStateOf unit.now state.old }
+    requires sound { IsSoundRun unit.now (run_of state.old) }
+    requires serves { Serves globals.old unit.now }
+{
+    set(globals, gate, "false")?;
+    let mut changed = Vec::new(alloc);
+    take_in(alloc, unit, state, globals, &mut changed, steps)?;
+    check(changed.len() == 1, "one cell changes")?;
+    check(is_gate(state, false, steps), "the run takes the value")
+}
+
+/// Gives the value in the store that of this text.
+fn set(globals: &mut Globals, gate: &Text, text: &str) -> Result<(), Fail>
+    ensures serves { (unit : Course) → Serves globals.old unit
+        → OnOk result (Serves globals.new unit) }
+{
+    Ok(globals.set(gate, None, text)?)
+}
+
+/// Whether the run has this value.
+fn is_gate<L: Ledger>(state: &State, truth: bool, steps: &mut Steps<L>) -> bool {
+    let cell = CellName::Prop(PropNo(0), Owner::Run);
+    let Some(_slot) = state.slot(cell) else {
+        return false;
+    };
+    matches!(state.get(cell, steps), Some(Value::Bool(value)) if *value == truth)
+}
+
+/// The store, which has another value than the run, takes the run's.
+fn give<L: Ledger>(
+    alloc: Global,
+    unit: &PreparedUnit,
+    gate: &Text,
+    state: &State,
+    globals: &mut Globals,
+    steps: &mut Steps<L>,
+) -> Result<(), Fail>
+    requires own { IsStateOf unit.now state.now }
+    requires sound { IsSoundRun unit.now (run_of state.now) }
+    requires fitting { HasFittingGlobals unit.now (run_of state.now) }
+    requires serves { Serves globals.old unit.now }
+    ensures serves { OnOk result (Serves globals.new unit.now) }
+{
+    let writes = prepare(alloc, unit, state, globals, steps)?;
+    let one = writes.len() == 1;
+    give_back(globals, writes);
+    check(one, "one write")?;
+    let value = globals.get(gate, None, steps);
+    check(
+        matches!(value, Ok(Some(Value::Bool(true)))),
+        "the store takes the value",
+    )
+}

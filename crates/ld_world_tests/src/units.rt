@@ -1,0 +1,116 @@
+//! The units of the tests.
+use ld_base::id::Id;
+use ld_json::doc::{Doc, document};
+use ld_json::docs::Docs;
+use ld_method::parts::read_parts;
+use ld_method::whole::read_method;
+use ld_refs::check::{Checked, check as check_unit};
+use ld_rules::prepared::PreparedUnit;
+use std::alloc::Global;
+use std::test::Fail;
+
+/// The documents of a course with two activities, a part of its tutor, and values of each kind.
+pub(crate) const COURSE: [&str; 6] = [
+    r#"{"roles":[{"identifier":"learner","kind":"learner","max-persons":2},
+{"identifier":"tutor","kind":"staff","min-persons":1}]}"#,
+    r#"{"properties":[
+{"identifier":"gate","kind":"glob","datatype":"boolean","uri":"urn:gate","initial":"false"},
+{"identifier":"nick","kind":"globpers","datatype":"string","uri":"urn:nick"},
+{"identifier":"score","kind":"locpers","datatype":"integer","restrictions":{"maxInclusive":"10"}},
+{"identifier":"note","kind":"locrole","role":"tutor","datatype":"string"},
+{"identifier":"rounds","kind":"loc","datatype":"integer","initial":"4"}]}"#,
+    r#"{"environments":[{"identifier":"room","learning-objects":[
+{"identifier":"book","title":"A book","items":[{"identifier":"page","href":"p.html"}]}]}]}"#,
+    r#"{"activities":[
+{"identifier":"read","title":"Read","environments":["room"],"complete":{"user-choice":true},
+"items":[{"identifier":"text","href":"t.html","title":"Text"}]},
+{"identifier":"write","visible":false,"complete":{"user-choice":true}},
+{"identifier":"watch","kind":"support","complete":{"time-limit":"PT1H"}}]}"#,
+    r#"{"format":1,"identifier":"course","level":"C","title":"A course","method":{"plays":[
+{"identifier":"p","acts":[{"identifier":"a","role-parts":[
+{"identifier":"rp1","role":"learner","ref":"read"},
+{"identifier":"rp2","role":"learner","ref":"write"},
+{"identifier":"rp3","role":"tutor","ref":"watch"}],
+"complete":{"when-role-part-completed":["rp1","rp2"]},
+"on-completion":{"change":[
+{"property":"rounds","value":{"sum":[{"property":"rounds"},{"integer":"1"}]}}],
+"notify":[{"roles":["tutor"],"subject":"Done"}]}}],
+"complete":{"when-last-act-completed":true}}],
+"complete":{"when-play-completed":["p"]},
+"on-completion":{"feedback":[{"identifier":"bye","href":"bye.html"}]}}}"#,
+    r#"{"conditions":[{"if":{"is":[{"property":"gate"},{"boolean":"true"}]},
+"then":[{"show":["write"]},{"notify":{"roles":["tutor"],"subject":"Open","activity":"write"}}],
+"else":[{"hide":["write"]}]}]}"#,
+];
+
+/// The documents of a unit whose condition undoes what it did, for ever.
+pub(crate) const SWING: [&str; 6] = [
+    r#"{"roles":[{"identifier":"one","kind":"learner"}]}"#,
+    r#"{"properties":[{"identifier":"n","kind":"loc","datatype":"integer","initial":"0"}]}"#,
+    "",
+    r#"{"activities":[{"identifier":"do","complete":{"user-choice":true}}]}"#,
+    r#"{"format":1,"identifier":"swing","level":"B","turns":3,"method":{"plays":[
+{"identifier":"p","acts":[{"identifier":"a","role-parts":[
+{"identifier":"rp","role":"one","ref":"do"}]}]}]}}"#,
+    r#"{"conditions":[{"if":{"is":[{"property":"n"},{"integer":"0"}]},
+"then":[{"change":{"property":"n","value":{"integer":"1"}}}],
+"else":[{"change":{"property":"n","value":{"integer":"0"}}}]}]}"#,
+];
+
+/// The documents of a unit with one activity, and one value that all runs share.
+pub(crate) const SMALL: [&str; 6] = [
+    r#"{"roles":[{"identifier":"one","kind":"learner"}]}"#,
+    r#"{"properties":[{"identifier":"gate","kind":"glob","datatype":"boolean","uri":"urn:gate"}]}"#,
+    "",
+    r#"{"activities":[{"identifier":"do","complete":{"user-choice":true}}]}"#,
+    r#"{"format":1,"identifier":"small","level":"B","method":{"plays":[
+{"identifier":"p","acts":[{"identifier":"a","role-parts":[
+{"identifier":"rp","role":"one","ref":"do"}]}]}]}}"#,
+    "",
+];
+
+/// The document of this text; the empty text stands for a file that is not there.
+fn doc_of(alloc: Global, text: &str) -> Result<Option<Doc>, Fail> {
+    if text.is_empty() {
+        return Ok(None);
+    }
+    Ok(Some(document(alloc, text.as_bytes())?))
+}
+
+/// Puts the documents of these texts, in the order of the files.
+fn put_docs(alloc: Global, docs: &mut [Option<Doc>], texts: &[&str]) -> Result<(), Fail> {
+    for (doc, text) in docs.iter_mut().zip(texts) {
+        *doc = doc_of(alloc, *text)?;
+    }
+    Ok(())
+}
+
+/// The checked unit of the documents of these texts.
+pub(crate) fn checked(alloc: Global, texts: &[&str]) -> Result<Checked, Fail> {
+    let mut docs = Docs {
+        of: [None, None, None, None, None, None],
+    };
+    put_docs(alloc, &mut docs.of, texts)?;
+    let parts = read_parts(alloc, &docs)?;
+    let unit = read_method(alloc, &docs, parts)?;
+    Ok(check_unit(alloc, unit)?)
+}
+
+/// The prepared unit of the last documents.
+pub(crate) fn small(alloc: Global) -> Result<PreparedUnit, Fail> {
+    Ok(PreparedUnit::new(alloc, checked(alloc, &SMALL)?)?)
+}
+
+/// The identifier of this text.
+pub(crate) fn id(alloc: Global, text: &str) -> Result<Id, Fail> {
+    let read = Id::read(alloc, text.as_bytes())?;
+    Ok(read.ok_or("no identifier")?)
+}
+
+/// Refuses the test where this does not hold.
+pub(crate) fn check(good: bool, what: &'static str) -> Result<(), Fail> {
+    if good {
+        return Ok(());
+    }
+    Err(what)?
+}
