@@ -97,7 +97,7 @@ const FIRST_ROOM: usize = 32_000_000;
 /// Takes this room and gives it back at once, where there is so much. The C library's allocator hands
 /// a large block back to the system as soon as it is free, until it has seen that blocks of its size
 /// come and go: behind this it keeps what files give back, and uses it again for what is made of
-/// them. Fewer pages are asked for so, and no answer depends on it.
+/// them. Fewer pages are asked for so; where memory is limited, some 2 MB more may be held at once.
 fn accustom_allocator(alloc: Global) {
     let room: Result<Vec<u8>, AllocError> = Vec::with_capacity(alloc, FIRST_ROOM);
     drop(room);

@@ -8,7 +8,7 @@ fn refusals_change_nothing(rt: HostRuntime) -> Result<(), Fail> {
     tell(rt.alloc(), &STARTED, &REFUSALS)
 }
 
-const REFUSALS: [&str; 25] = [
+const REFUSALS: [&str; 26] = [
     r#"["2024-01-01T09:00:00Z","fly","r"]
 no 1 bad-line
 "#,
@@ -80,6 +80,9 @@ ok enrol turns=0 fired=0 rejected=0 sent=0
 "#,
     r#"["2024-01-01T09:00:00Z","start","w"]
 no 30 turn-budget
+"#,
+    r#"["2024-01-01T09:00:00Z","tick","w"]
+no 6 not-started
 "#,
     r#"["2024-01-01T09:00:00Z","report","r"]
 ok report turns=0 fired=0 rejected=0 sent=0 lines=10
