@@ -35,10 +35,12 @@ fn names_of(alloc: Global, unit: &Unit) -> Result<Names, Fail> {
     Ok(Names::of(alloc, unit, &listing)?)
 }
 
-/// Whether the identifier names just this, and it is told by this identifier.
+/// Whether the identifier names just this, also where it remembers a wrong number, which it then
+/// does no longer, and is told by this identifier.
 fn is_named(names: &Names, id: &Id, named: Named) -> bool {
+    id.remember(u32::MAX);
     match names.number(id) {
-        Some(found) => found == named && names.id(found) == id,
+        Some(found) => found == named && names.id(found) == id && id.hint() < u32::MAX,
         None => false,
     }
 }
