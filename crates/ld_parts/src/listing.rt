@@ -44,7 +44,7 @@ impl<'a> Listing<'a> {
     pub fn of(alloc: Global, unit: &'a Unit) -> Result<Listing<'a>, NoMemory>
         ensures { IfOk result (λ listing. listing ≡ parts_of unit.now) }
     {
-        let mut walk = Walk::new(alloc)?;
+        let mut walk = Walk::with_room(alloc, likely_parts(unit))?;
         list_documents(&mut walk, unit)?;
         let (places, parts) = walk.into_rows();
         Ok(Listing { places, parts })
@@ -91,3 +91,20 @@ impl<'a> Listing<'a> {
         self.spot(index).fault(alloc, code)
     }
 }
+
+/// About as many parts as the unit has, so that its listing seldom grows: a guess, of which no contract
+/// speaks. Most have a place of their own.
+fn likely_parts(unit: &Unit) -> usize {
+    let mut objects = unit.roles.len();
+    objects = objects.saturating_add(unit.properties.len());
+    objects = objects.saturating_add(unit.activities.len());
+    objects = objects.saturating_add(unit.structures.len());
+    let mut parts = objects.saturating_mul(2).saturating_add(FEW_PARTS);
+    for activity in unit.activities.as_slice() {
+        parts = parts.saturating_add(activity.items.len());
+    }
+    parts
+}
+
+/// More parts than the method of a small unit has.
+const FEW_PARTS: usize = 64;

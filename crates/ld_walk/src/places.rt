@@ -48,13 +48,13 @@ impl Model for Places {
 }
 
 impl Places {
-    /// No places, which takes no memory.
-    pub fn new(alloc: Global) -> Places
-        ensures { result ≡ [] }
+    /// No places, with room for so many.
+    pub fn with_room(alloc: Global, room: usize) -> Result<Places, NoMemory>
+        ensures { IfOk result (λ places. places ≡ []) }
     {
-        Places {
-            rows: Vec::new(alloc),
-        }
+        Ok(Places {
+            rows: Vec::with_capacity(alloc, room)?,
+        })
     }
 
     /// Appends a place. Where memory is wanting the list stays as it was.

@@ -41,12 +41,12 @@ impl<'a> Model for Walk<'a> {
 }
 
 impl<'a> Walk<'a> {
-    /// A walk that stands before the first document.
-    pub fn new(alloc: Global) -> Result<Walk<'a>, NoMemory>
+    /// A walk that stands before the first document, with room for so many parts and places.
+    pub fn with_room(alloc: Global, room: usize) -> Result<Walk<'a>, NoMemory>
         ensures { IfOk result
             (λ walk. walk ≡ record { at = root file.Roles; back = []; parts = [] }) }
     {
-        let mut places = Places::new(alloc);
+        let mut places = Places::with_room(alloc, room)?;
         places.push(PlaceRow {
             above: 0,
             step: Down::Whole(FileNo::Roles),
@@ -55,7 +55,7 @@ impl<'a> Walk<'a> {
             places,
             at: 0,
             back: Vec::new(alloc),
-            parts: Vec::new(alloc),
+            parts: Vec::with_capacity(alloc, room)?,
         })
     }
 
