@@ -6,6 +6,7 @@ use Rattle.std.specs.List.{list_all}
 abbrev pub is_plain_byte : ℕ → Bool
 is_plain_byte x = not (x == 34) && (not (x == 92) && not (nat_lt x 32))
 
+-- All bytes of the text are such.
 abbrev pub is_plain : List ℕ → Bool
 is_plain text = list_all is_plain_byte text
 

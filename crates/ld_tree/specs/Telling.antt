@@ -12,6 +12,7 @@ pub record Printed : Type 0 where
   pub bytes : List ℕ
   pub count : ℕ
 
+-- The text with one more line behind it.
 abbrev pub line_printed_after : Printed → TreeLine → Printed
 line_printed_after printed line =
     record { bytes = printed.bytes ++ 10 ∷ line_text line; count = printed.count + 1 }
@@ -21,6 +22,7 @@ pub record Asked : Type 0 where
   pub identifier : List ℕ
   pub found : Bool
 
+-- The same once this line is told.
 abbrev pub asked_after : Asked → TreeLine → Asked
 asked_after asked line =
     record { identifier = asked.identifier; found = asked.found || tells_open asked.identifier line }

@@ -1,7 +1,7 @@
 //! The lines of what is referred to: activities, structures and environments.
 #![tactic(auto, using(crate::proofs::Fuel::targets_more, crate::proofs::Statuses::flagged_more))]
 
-ghost use Rattle.std.specs.Prelude.{◌≡◌, ◌&&◌, ◌+◌, ◌≤◌, ◌<◌, ◌^◌, true, fold, flat_map, not, length, OnOk, IsErr};
+ghost use Rattle.std.specs.Prelude.{◌≡◌, ◌&&◌, ◌+◌, ◌≤◌, ◌<◌, ◌^◌, true, fold, flat_map, length, OnOk, IsErr};
 ghost use Rattle.ld_expr.specs.Viewing.{HasCells, seen_by};
 ghost use Rattle.ld_tree.specs.Flags.{flag_after};
 ghost use Rattle.ld_tree.specs.Tree.{flagged, is_passed, status_word, structure_lines, target_lines};

@@ -1,14 +1,15 @@
 //! The text of a person's tree, and which activities are open in it.
-ghost use Rattle.std.specs.Prelude.{◌≡◌, ◌+◌, ◌≤◌, ◌++◌, length, map, IfOk, OnOk};
+ghost use Rattle.std.specs.Prelude.{◌≡◌, ◌+◌, ◌≤◌, ◌++◌, false, length, map, IfOk, OnOk};
 ghost use Rattle.ld_base.specs.Roomy.{KeepsRoom};
 ghost use Rattle.ld_expr.specs.Viewing.{HasCells, seen_by};
 ghost use Rattle.ld_names.specs.Names.{names_of};
 ghost use Rattle.ld_tree.specs.Lines.{line_text, lines_text};
-ghost use Rattle.ld_tree.specs.Telling.{KeepsFront};
-ghost use Rattle.ld_tree.specs.Tree.{is_open, tree_lines};
+ghost use Rattle.ld_tree.specs.LineView.{is_of_activity, line_view};
+ghost use Rattle.ld_tree.specs.Telling.{Asked, KeepsFront, asked_after};
+ghost use Rattle.ld_tree.specs.Tree.{is_open, tells_open, tree_lines};
 ghost use Rattle.ld_tree.specs.TreeLooks.{tree_looks};
 
-use crate::finder::Finder;
+use crate::line::{LineSink, Shown, TreeLine};
 use crate::printer::Printer;
 use crate::viewer::Viewer;
 use ld_base::id::Id;
@@ -22,10 +23,10 @@ use ld_names::names::Names;
 use std::alloc::Global;
 use std::sync::ledger::Ledger;
 
-/// Appends the lines of the person's tree, each behind the end of the line before it, and gives their
-/// number. The names are those of the unit, and the view has the cells at which the tree looks; each
-/// look is one step. The only error is want of memory, which leaves what stood in `out` and perhaps a
-/// beginning of the lines behind it. (docs/MEANING.md, "The tree")
+/// Appends the lines of the person's tree, each behind the end of the line before it, and gives
+/// their number. The names are those of the unit, and the view has the cells at which the tree
+/// looks; each look is one step. The only error is want of memory, which leaves what stood in `out`
+/// and perhaps a beginning of the lines behind it. (docs/MEANING.md, "The tree")
 pub fn tree_text<'a, V: View, L: Ledger>(
     alloc: Global,
     unit: &'a Unit,
@@ -57,9 +58,9 @@ pub fn tree_text<'a, V: View, L: Ledger>(
     Ok(printer.count())
 }
 
-/// Whether the activity of this identifier is open for the person: whether a line of the person's tree
-/// says so. It walks the unit as `tree_text` does and under its conditions, but it prints nothing and
-/// takes no memory. (docs/MEANING.md, "The tree")
+/// Whether the activity of this identifier is open for the person: whether a line of the person's
+/// tree says so. It walks the unit as `tree_text` does and under its conditions, but it prints
+/// nothing and takes no memory. (docs/MEANING.md, "The tree")
 pub fn is_open<'a, V: View, L: Ledger>(
     unit: &'a Unit,
     names: &'a Names,
@@ -87,5 +88,49 @@ pub fn is_open<'a, V: View, L: Ledger>(
     match viewer.put_tree(&mut finder, steps) {
         Ok(()) => finder.found,
         Err(_) => unreachable!(),
+    }
+}
+
+/// Looks for a line that tells that an activity is open. It prints nothing and takes no memory.
+#[derive(Drop)]
+struct Finder<'a> {
+    activity: &'a Id,
+    found: bool,
+}
+
+impl LineSink for Finder<'_> {
+    ghost Told = { Asked };
+
+    ghost told = { λ f. record { identifier = f.activity.now; found = f.found } };
+
+    ghost after = { asked_after };
+
+    ghost can_fail = { false };
+
+    fn put(&mut self, line: &TreeLine<'_>) -> Result<(), NoMemory> {
+        if tells_open(self.activity, line) {
+            self.found = true;
+        }
+        Ok(())
+    }
+}
+
+/// Whether the line tells that the activity of this identifier is open.
+fn tells_open(activity: &Id, line: &TreeLine<'_>) -> bool
+    ensures { result ≡ tells_open activity.now (line_view line.now) }
+{
+    let Some(note) = line.note else {
+        return false;
+    };
+    is_of_activity(line.shown) && *line.identifier == *activity && note == "open"
+}
+
+/// Whether the line shows an activity.
+fn is_of_activity(shown: Shown) -> bool
+    ensures { result ≡ is_of_activity shown }
+{
+    match shown {
+        Shown::Activity | Shown::Support => true,
+        _ => false,
     }
 }
