@@ -1,7 +1,6 @@
--- The links of a run: as their ranges grow, as the run is refreshed, and once a command has changed it directly.
-use Rattle.std.proofs.Common.{◌≡◌, refl, sym, ap, subst, ◌∙◌, ℕ, ℤ, List, [], length, Some, None, Bool, true, false, ◌&&◌, is_some, Option, if◌then◌else◌, arith}
-use Rattle.std.proofs.Math.Nat.{le_trans}
-use Rattle.ld_cascade.specs.Wiring.{LinksFollow, Wiring}
+-- The links of a run: as the run is refreshed, and once a command has changed it directly.
+use Rattle.std.proofs.Common.{◌≡◌, refl, sym, ap, subst, ◌∙◌, ℕ, ℤ, List, [], length, Some, None, Bool, true, false, ◌&&◌, is_some, Option, if◌then◌else◌}
+use Rattle.ld_cascade.specs.Wiring.{Wiring}
 use Rattle.ld_value.specs.Datum.{Datum, moment_datum}
 use Rattle.ld_model.specs.declared.cell.CellName.{CellName}
 use Rattle.ld_model.specs.declared.cell.CellName.TheVariants.{Started}
@@ -18,7 +17,7 @@ use Rattle.ld_firing.specs.RunSystem.{IsSoundRun}
 use Rattle.ld_firing.specs.Telling.{Tells, TellsPersons}
 use Rattle.ld_firing.proofs.LawsOpenings.{told_apart}
 use Rattle.ld_firing.proofs.Told.{IsNoMark}
-use Rattle.ld_settling.specs.RunLinking.{AreRestingLinks, Widens}
+use Rattle.ld_settling.specs.RunLinking.{AreRestingLinks}
 use Rattle.ld_checks.specs.AdmittedView.{IsPossible}
 use Rattle.ld_run.specs.Changes.{changes_persons, directly_changed, with_first, has_change, renews_sites}
 use Rattle.ld_checks.specs.Checks.{is_started}
@@ -26,17 +25,6 @@ use Rattle.ld_checks.specs.Commands.{Admitted, enrols, assigns, drops, starts, o
 use Rattle.ld_run.specs.Linked.{HadLinks, HasLinks, MayRelink, TellsBy, relinking_of, relinks_all}
 use Rattle.ld_run.specs.declared.settling.Relinking.{Relinking}
 use Rattle.ld_run.specs.declared.settling.Relinking.TheVariants.{Told, ToldPersons, Renewed}
-
--- ---- ranges
-
-pub widens_still : (wiring : Wiring) → Widens wiring wiring
-widens_still wiring = record { sites = omega arith; slots = omega arith }
-
-pub widens_then : {first middle last : Wiring} → Widens first middle → Widens middle last → Widens first last
-widens_then early late = record { sites = le_trans early.sites late.sites; slots = le_trans early.slots late.slots }
-
-pub widens_following : {old now : Wiring} → LinksFollow old now → Widens old now
-widens_following follows = record { sites = follows.sites; slots = follows.slots }
 
 -- ---- whether the run is started
 

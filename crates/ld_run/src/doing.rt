@@ -4,7 +4,6 @@ ghost use Rattle.ld_state.specs.StateView.{HasMarkedPersons, IsStateOf, run_of};
 ghost use Rattle.ld_firing.specs.RunSystem.{IsSoundRun};
 ghost use Rattle.ld_firing.specs.Telling.{Tells};
 ghost use Rattle.ld_cascade.specs.Wiring.{LinksFollow};
-ghost use Rattle.ld_settling.specs.RunLinking.{Widens};
 ghost use Rattle.ld_value.specs.Calendar.{IsMoment};
 ghost use Rattle.ld_sharing.specs.Fitting.{HasFittingGlobals, TakesFitting};
 ghost use Rattle.ld_sharing.specs.Globals.{taking_in};
@@ -79,7 +78,6 @@ pub(crate) fn do_admitted<L: Ledger>(
     ensures linked { OnOk result (HasLinks unit.now (run_of state.new) links.new) }
     ensures follows { renews_sites (admitted_of command.now) ≡ false
         → LinksFollow links.old links.new }
-    ensures widens { Widens links.old links.new }
 {
     let mut refreshed = Vec::new(alloc);
     if let Err(_) = refresh(alloc, unit, state, globals, moment, &mut refreshed, steps) {

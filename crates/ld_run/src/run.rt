@@ -76,8 +76,8 @@ impl Model for Run {
 }
 
 impl Run {
-    /// A run of the unit that is made at this moment. Its global properties have the store's values.
-    /// The only error is want of memory.
+    /// A run of the unit that is made at this moment. Its global properties have the store's
+    /// values. The only error is want of memory.
     pub fn new<L: Ledger>(
         alloc: Global,
         unit: Rc<PreparedUnit>,
@@ -97,9 +97,9 @@ impl Run {
         Ok(Run { unit, state, links })
     }
 
-    /// Does the command at the moment, or refuses it: `out` is emptied and then holds the reply block.
-    /// The run takes in the store's values of its global properties, and the store takes them back.
-    /// Where memory is wanting the block says so, and the command counts as not given.
+    /// Does the command at the moment, or refuses it: `out` is emptied and then holds the reply
+    /// block. The run takes in the store's values of its global properties, and the store takes
+    /// them back. Where memory is wanting the block says so, and the command counts as not given.
     pub fn apply<L: Ledger>(
         &mut self,
         alloc: Global,

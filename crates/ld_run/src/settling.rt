@@ -5,7 +5,7 @@ ghost use Rattle.ld_firing.specs.RunSystem.{IsSoundRun};
 ghost use Rattle.ld_firing.specs.SettledView.{settlement_of, sums_in};
 ghost use Rattle.ld_cascade.specs.Settling.{plus};
 ghost use Rattle.ld_cascade.specs.Wiring.{LinksFollow, IsEmpty};
-ghost use Rattle.ld_settling.specs.RunLinking.{AreLinksOf, Widens};
+ghost use Rattle.ld_settling.specs.RunLinking.{AreLinksOf};
 ghost use Rattle.ld_sharing.specs.Fitting.{HasFittingGlobals};
 ghost use Rattle.ld_checks.specs.AdmittedView.{admitted_of};
 ghost use Rattle.ld_checks.specs.Checks.{is_started};
@@ -29,8 +29,9 @@ use ld_state::state::State;
 use std::alloc::Global;
 use std::sync::ledger::Ledger;
 
-/// How the links of a run follow a change of it: told the slots that changed; told them, where persons
-/// joined or got or lost roles, of whom there were so many before; or by renewing all sites.
+/// How the links of a run follow a change of it: told the slots that changed; told them, where
+/// persons joined or got or lost roles, of whom there were so many before; or by renewing all
+/// sites.
 #[derive(Clone, Copy)]
 pub(crate) enum Relinking {
     Told,
@@ -70,7 +71,6 @@ pub(crate) fn settle_if<L: Ledger>(
     ensures linked { OnOk result (HasLinks unit.now (run_of state.new) links.new) }
     ensures clean { OnOk result (settles ≡ true → IsEmpty links.new.dirty) }
     ensures follows { relinks_all how ≡ false → LinksFollow links.old links.new }
-    ensures widens { Widens links.old links.new }
 {
     if !settles {
         return Ok(NO_SETTLING);
@@ -87,7 +87,7 @@ pub(crate) fn settle_if<L: Ledger>(
 
 /// Makes the links those of the run as it is now: all of its sites are dirty then, or the readers
 /// of the slots that changed and the sites of persons who joined. After an error, which is want of
-/// memory, no range is smaller.
+/// memory, nothing is said of the links where all sites were to be renewed.
 fn relink(
     how: Relinking,
     unit: &PreparedUnit,
@@ -100,7 +100,6 @@ fn relink(
     requires told { MayRelink how unit.now (run_of state.now) changed.now links.old }
     ensures linked { OnOk result (AreLinksOf unit.now (run_of state.now) links.new) }
     ensures follows { relinks_all how ≡ false → LinksFollow links.old links.new }
-    ensures widens { Widens links.old links.new }
 {
     match how {
         Relinking::Told => {

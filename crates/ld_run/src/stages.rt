@@ -5,7 +5,6 @@ ghost use Rattle.ld_state.specs.GlobalValues.{GlobalValues};
 ghost use Rattle.ld_state.specs.StateView.{HasMarkedPersons, IsStateOf, run_of};
 ghost use Rattle.ld_firing.specs.RunSystem.{IsSoundRun};
 ghost use Rattle.ld_cascade.specs.Wiring.{LinksFollow};
-ghost use Rattle.ld_settling.specs.RunLinking.{Widens};
 ghost use Rattle.ld_value.specs.Calendar.{IsMoment};
 ghost use Rattle.ld_sharing.specs.Fitting.{HasFittingGlobals};
 ghost use Rattle.ld_sharing.specs.Globals.{giving_back};
@@ -78,7 +77,6 @@ pub(crate) fn step<'a, L: Ledger>(
     ensures unmarked { state.new.kept ≡ None }
     ensures room { KeepsRoom out.old out.new }
     ensures linked { HasLinks unit.now (run_of state.new) links.new }
-    ensures widens { Widens links.old links.new }
 {
     match admit(alloc, unit, state, moment, command, steps) {
         Ok(admitted) => try_admitted(
@@ -128,7 +126,6 @@ fn try_admitted<'a, L: Ledger>(
     ensures unmarked { state.new.kept ≡ None }
     ensures room { KeepsRoom out.old out.new }
     ensures linked { HasLinks unit.now (run_of state.new) links.new }
-    ensures widens { Widens links.old links.new }
 {
     state.mark();
     links.begin();
@@ -192,7 +189,6 @@ fn do_and_tell<L: Ledger>(
     ensures linked { OnOk result (HasLinks unit.now (run_of state.new) links.new) }
     ensures follows { renews_sites (admitted_of command.now) ≡ false
         → LinksFollow links.old links.new }
-    ensures widens { Widens links.old links.new }
 {
     let totals = match do_admitted(alloc, unit, state, links, globals, moment, command, steps) {
         Ok(totals) => totals,

@@ -20,11 +20,6 @@ pub record AreRestingLinks (unit : Course) (s : RunState) (wiring : Wiring) : Ty
   pub links : AreLinksOf unit s wiring
   pub rest : IsAtRest wiring
 
--- No range of the links gets smaller.
-pub record Widens (old now : Wiring) : Type 0 where
-  pub sites : old.sites ≤ now.sites
-  pub slots : old.edges.slots ≤ now.edges.slots
-
 -- So many places among the seats are enough for the run and for so many persons, and are seats.
 pub record IsPlaceCount (count places : ℕ) : Type 0 where
   pub run : 0 < places

@@ -1,5 +1,5 @@
 //! The links of a run.
-ghost use Rattle.std.specs.Prelude.{◌≡◌, ◌*◌, ◌+◌, ◌^◌, ◌<◌, ◌≤◌, ◌⊎◌, ℕ, true, [], get_or, length, Contains, OnOk};
+ghost use Rattle.std.specs.Prelude.{◌≡◌, ◌*◌, ◌+◌, ◌^◌, ◌<◌, ◌≤◌, ◌⊎◌, ℕ, true, [], get_or, length, Contains, IfOk, OnOk};
 ghost use Rattle.ld_graph.specs.Edges.{IsLinked};
 ghost use Rattle.ld_graph.specs.Table.{has};
 ghost use Rattle.ld_cascade.specs.Wiring.{LinksFollow, IsEmpty, IsSameTable, Wiring};
@@ -10,7 +10,7 @@ ghost use Rattle.ld_state.specs.RunState.{RunState};
 ghost use Rattle.ld_state.specs.StateView.{IsStateOf, run_of};
 ghost use Rattle.ld_firing.specs.RunSystem.{IsSoundRun};
 ghost use Rattle.ld_firing.specs.Telling.{Tells, TellsPersons};
-ghost use Rattle.ld_settling.specs.RunLinking.{AreAmong, AreDirty, AreLinksOf, AreRestingLinks, IsAmong, IsPlaceCount, Loosens, Widens};
+ghost use Rattle.ld_settling.specs.RunLinking.{AreAmong, AreDirty, AreLinksOf, AreRestingLinks, IsAmong, IsPlaceCount, Loosens};
 
 use ld_base::memory::NoMemory;
 use ld_cascade::links::Links;
@@ -41,8 +41,14 @@ impl Model for RunLinks {
 }
 
 impl RunLinks {
-    /// The links of a run that is not started.
-    pub fn new(alloc: Global) -> Result<RunLinks, NoMemory> {
+    /// The links of a run that is not started: no site and no slot is in range.
+    pub fn new(alloc: Global) -> Result<RunLinks, NoMemory>
+        ensures sites { IfOk result (λ links. links.sites ≡ 0) }
+        ensures slots { IfOk result (λ links. links.edges.slots ≡ 0) }
+        ensures dirty { IfOk result (λ links. IsEmpty links.dirty) }
+        ensures loose { IfOk result (λ links. IsEmpty links.loose) }
+        ensures relinked { IfOk result (λ links. IsEmpty links.relinked) }
+    {
         Ok(RunLinks {
             links: Links::new(alloc),
             list: SlotList::with_room(alloc, 0)?,
@@ -101,7 +107,7 @@ impl RunLinks {
         ensures linked { (unit : Course) (s : RunState) → AreRestingLinks unit s self.old
             → AreRestingLinks unit s self.new }
         ensures relinked { IsEmpty self.new.relinked }
-        ensures widens { Widens self.old self.new }
+        ensures dirty { self.new.dirty ≡ self.old.dirty }
     {
         self.links.begin();
     }
@@ -115,18 +121,16 @@ impl RunLinks {
             → AreRestingLinks unit s self.new }
         ensures only { (i : ℕ) → has self.new.dirty i ≡ true → (has self.old.loose i ≡ true)
             ⊎ (has self.old.relinked i ≡ true) }
-        ensures widens { Widens self.old self.new }
     {
         self.links.take_back();
     }
 
     /// Takes all edges away and sets all sites of the run dirty, however many it has got. After an
-    /// error, which is want of memory, no range is smaller.
+    /// error, which is want of memory, nothing is said of the links.
     pub fn renew(&mut self, unit: &PreparedUnit, state: &State) -> Result<(), NoMemory>
         requires own { IsStateOf unit.now state.now }
         requires sound { IsSoundRun unit.now (run_of state.now) }
         ensures linked { OnOk result (AreLinksOf unit.now (run_of state.now) self.new) }
-        ensures widens { Widens self.old self.new }
     {
         let rules = rule_count(unit);
         // First, since a run that starts has no site in range yet.

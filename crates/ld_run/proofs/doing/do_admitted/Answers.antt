@@ -21,7 +21,7 @@ use Rattle.ld_run.specs.Linked.{MayRelink, relinking_of, relinks_all}
 use Rattle.ld_run.specs.declared.settling.Relinking.{Relinking}
 use Rattle.ld_run.proofs.FittingRuns.{changed_fits, dated_fits, taken_fits}
 use Rattle.ld_run.proofs.LawsNotices.{changed_outbox}
-use Rattle.ld_run.proofs.LinkedRuns.{links_before, no_links, relinks_some, tells_by, unsettled_links, widens_then}
+use Rattle.ld_run.proofs.LinkedRuns.{links_before, no_links, relinks_some, tells_by, unsettled_links}
 use Rattle.ld_run.proofs.SoundRuns.{changed_is_sound, dated_is_sound, taken_is_sound, possible_stays, tellable_after, tellable_stays}
 use Rattle.ld_run.proofs.StepStages.{first_refused, is_done, not_open, second_refused, stays_closed}
 use Rattle.ld_run.proofs.doing.do_admitted.Goals as goal
@@ -220,13 +220,6 @@ returns-in-Ok-both-clause-tellable g c =
     (ap persons_of (sym c.settle_if-2.ensures.rows)) command
     (subst (λ (s : RunState). IsTellable unit s command) (sym c.in_default-change_directly.ensures.run)
     (tellable_after unit store (run_of c.settle_if.new.state) c.args.moment.0 command possible))
-
--- No range of the links gets smaller.
-pub returns-in-Err-settle_if-2-clause-widens : goal.returns-in-Err-settle_if-2-clause-widens
-returns-in-Err-settle_if-2-clause-widens g c = widens_then c.settle_if.ensures.widens c.settle_if-2.ensures.widens
-
-pub returns-in-Ok-both-clause-widens : goal.returns-in-Ok-both-clause-widens
-returns-in-Ok-both-clause-widens g c = widens_then c.settle_if.ensures.widens c.settle_if-2.ensures.widens
 
 -- Where not all sites of the run are renewed, the links follow those before.
 pub returns-in-Err-settle_if-2-clause-follows : goal.returns-in-Err-settle_if-2-clause-follows

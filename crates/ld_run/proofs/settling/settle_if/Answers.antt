@@ -5,7 +5,6 @@ use Rattle.ld_firing.specs.SettledView.{settlement_of}
 use Rattle.ld_cascade.proofs.Edges.{follows_self, follows_then}
 use Rattle.ld_settling.proofs.RunLinks.{resting_settled}
 use Rattle.ld_run.proofs.FittingRuns.{settling_fits}
-use Rattle.ld_run.proofs.LinkedRuns.{widens_following, widens_still, widens_then}
 use Rattle.ld_run.proofs.NoticesTold.{settling_told}
 use Rattle.ld_run.proofs.settling.settle_if.Goals as goal
 
@@ -23,15 +22,9 @@ returns-in-Ok-clause-notices g c =
     settling_told c.args.unit.now (run_of c.args.state.now) (settlement_of c.in-Ok.totals (run_of c.settle.new.state))
     c.requires.sound c.requires.notices c.in-Ok.ensures.settled
 
-pub returns-then-not-settles-clause-widens : goal.returns-then-not-settles-clause-widens
-returns-then-not-settles-clause-widens g c = widens_still c.args.links.now
-
 pub returns-in-Ok-clause-linked : goal.returns-in-Ok-clause-linked
 returns-in-Ok-clause-linked g c started =
     resting_settled c.args.unit.now (run_of c.settle.new.state) c.settle.new.links c.in-Ok.ensures.linked c.in-Ok.ensures.clean
-
-pub returns-in-Ok-clause-widens : goal.returns-in-Ok-clause-widens
-returns-in-Ok-clause-widens g c = widens_then c.relink.ensures.widens (widens_following c.settle.ensures.follows)
 
 pub returns-then-not-settles-clause-follows : goal.returns-then-not-settles-clause-follows
 returns-then-not-settles-clause-follows g c _ = follows_self

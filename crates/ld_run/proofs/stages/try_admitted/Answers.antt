@@ -9,7 +9,7 @@ use Rattle.ld_checks.specs.AdmittedView.{IsPossible, admitted_of}
 use Rattle.ld_run.specs.Linked.{HasLinks}
 use Rattle.ld_replies.specs.Printing.{AreNoticesOf}
 use Rattle.ld_run.specs.RunStep.{done_by}
-use Rattle.ld_run.proofs.LinkedRuns.{links_back, widens_then}
+use Rattle.ld_run.proofs.LinkedRuns.{links_back}
 use Rattle.ld_run.proofs.StepStages.{undone_is}
 use Rattle.ld_run.proofs.stages.try_admitted.Goals as goal
 
@@ -65,13 +65,6 @@ returns-in-Err-clause-linked g c =
     (links_back unit s (admitted_of c.args.command.now) c.take_back.new.self c.requires.possible
     (λ plain started. c.take_back.ensures.linked unit s c.begin.new.self
     (c.begin.ensures.linked unit s (c.requires.linked started)) (c.do_and_tell.ensures.follows plain)))
-
-pub returns-in-Err-clause-widens : goal.returns-in-Err-clause-widens
-returns-in-Err-clause-widens g c =
-    widens_then (widens_then c.begin.ensures.widens c.do_and_tell.ensures.widens) c.take_back.ensures.widens
-
-pub returns-in-Ok-clause-widens : goal.returns-in-Ok-clause-widens
-returns-in-Ok-clause-widens g c = widens_then c.begin.ensures.widens c.do_and_tell.ensures.widens
 
 pub returns-in-Err-clause-fitting : goal.returns-in-Err-clause-fitting
 returns-in-Err-clause-fitting g c =
