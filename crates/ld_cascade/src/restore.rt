@@ -1,8 +1,8 @@
 //! Making the edges right again, after the state was taken back.
-ghost use Rattle.std.specs.Prelude.{◌≡◌, ℕ, ◌+◌, ◌<◌, ◌≤◌, true, false, List, [], get_or};
+ghost use Rattle.std.specs.Prelude.{◌≡◌, ℕ, ◌+◌, ◌<◌, ◌≤◌, true, false, [], get_or};
 ghost use Rattle.ld_graph.specs.Table.{has};
 ghost use Rattle.ld_graph.specs.Edges.{edge_room};
-ghost use Rattle.ld_cascade.specs.Wiring.{Wiring, IsEmpty, IsWith, HasSameRow, EdgesAre};
+ghost use Rattle.ld_cascade.specs.Wiring.{IsEmpty, IsWith, HasSameRow, EdgesAre};
 ghost use Rattle.ld_cascade.specs.Tidy.{Bound, Covers};
 ghost use Rattle.ld_cascade.specs.Work.{weight, weight_of};
 ghost use Rattle.ld_cascade.specs.Rooms.{read_count, HasRoom, Restorable};

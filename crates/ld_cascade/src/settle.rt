@@ -1,15 +1,14 @@
 //! Settling: sweeps over the dirty sites until one fires nothing.
-ghost use Rattle.std.specs.Prelude.{◌≡◌, ℕ, ◌+◌, ◌*◌, ◌^◌, ◌<◌, ◌≤◌, ◌⊎◌, Bool, true, false, List, [], ◌++◌, ◌-◌, get_or, length, IfOk, IfErr, IsOk, Contains};
+ghost use Rattle.std.specs.Prelude.{◌≡◌, ℕ, ◌+◌, ◌^◌, ◌<◌, ◌≤◌, ◌⊎◌, true, false, [], ◌-◌, IfOk, IfErr, IsOk};
 ghost use Rattle.ld_graph.specs.Table.{has};
-ghost use Rattle.ld_graph.specs.Edges.{edge_room};
-ghost use Rattle.ld_cascade.specs.System.{System, Lawful, MayFire, due, fires};
-ghost use Rattle.ld_cascade.specs.Settling.{Firing, Sums, sums_of, plus, no_sums, step, fired, fired_below, swept, sweep_firings, Moves, after_sweeps, all_firings, firings_to, PassesBudget, Settles, rejections, notices};
+ghost use Rattle.ld_cascade.specs.System.{fires};
+ghost use Rattle.ld_cascade.specs.Settling.{step, fired, fired_below, swept, sweep_firings, after_sweeps, all_firings, PassesBudget};
 ghost use Rattle.ld_cascade.specs.Outcome.{IsSettled};
-ghost use Rattle.ld_cascade.specs.Wiring.{Wiring, IsEmpty, IsWith, IsWithout, HasSameRow, EdgesAre, LinksFollow};
+ghost use Rattle.ld_cascade.specs.Wiring.{IsEmpty, IsWithout, HasSameRow, EdgesAre, LinksFollow};
 ghost use Rattle.ld_cascade.specs.Tidy.{IsTidy, Tidy, Bound, Covers};
-ghost use Rattle.ld_cascade.specs.Work.{weight, weight_of, work, Stirs, Costs, Spends, SpendsInPart};
+ghost use Rattle.ld_cascade.specs.Work.{weight, Spends, SpendsInPart};
 ghost use Rattle.ld_cascade.specs.Rooms.{read_count, HasRoom, HasRoomOutside};
-ghost use Rattle.ld_cascade.specs.Standing.{Standing, standing, steps_due, Goes, Arrives};
+ghost use Rattle.ld_cascade.specs.Standing.{standing, Goes, Arrives};
 
 use crate::links::Links;
 use crate::settled::{Settled, Stop};

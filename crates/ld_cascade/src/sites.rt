@@ -1,5 +1,5 @@
 //! What a settling asks of the sites that it settles.
-ghost use Rattle.std.specs.Prelude.{◌≡◌, ℕ, ◌+◌, ◌<◌, ◌≤◌, Bool, true, false, List, ◌++◌, length, IfOk, IsOk, Contains, ⊤};
+ghost use Rattle.std.specs.Prelude.{◌≡◌, ℕ, ◌+◌, ◌<◌, ◌≤◌, ◌++◌, length, IfOk, IsOk, Contains, ⊤};
 ghost use Rattle.std.specs.Borrow.{sem};
 ghost use mathlib.Core.Option.{none};
 ghost use denote.Follow.{follows_so};

@@ -1,5 +1,5 @@
 //! A row of lamps: a site hands its lamp on to the one before it.
-ghost use Rattle.std.specs.Prelude.{◌≡◌, ℕ, ◌+◌, ◌-◌, ◌^◌, ◌<◌, ◌≤◌, false, length, replicate, set, IfOk};
+ghost use Rattle.std.specs.Prelude.{◌≡◌, ◌-◌, ◌^◌, ◌<◌, false, length, replicate, set, IfOk};
 
 use ld_base::fired::Fired;
 use ld_base::memory::NoMemory;

@@ -29,8 +29,8 @@ abbrev pub held_at : List (Option Datum) → ℕ → Option Datum
 held_at cells slot = slice_index_or cells slot None
 
 -- The slot holds this value, or none.
-abbrev pub Holds : List (Option Datum) → ℕ → Option Value → Type 0
-Holds cells slot value = held_at cells slot ≡ held value
+abbrev pub IsHeldAt : List (Option Datum) → ℕ → Option Value → Type 0
+IsHeldAt cells slot value = held_at cells slot ≡ held value
 
 -- What these cells hold once the value, or none, is written to the slot.
 abbrev pub with_value : List (Option Datum) → ℕ → Option Value → List (Option Datum)

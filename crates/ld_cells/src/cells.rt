@@ -1,6 +1,6 @@
 //! The cells of a run's state.
-ghost use Rattle.std.specs.Prelude.{◌≡◌, ◌↔◌, ◌<◌, ◌≤◌, ◌+◌, ◌-◌, ◌^◌, ◌++◌, ◌∷◌, [], length, false, IfOk, OnOk, OnErr, IfErr, IsOk, IfSome, IsSome, IsTrue, option_copied};
-ghost use Rattle.ld_cells.specs.Stored.{Stored, Holds, KeepsCellRoom, held, marked_cells, with_value};
+ghost use Rattle.std.specs.Prelude.{◌≡◌, ◌↔◌, ◌<◌, ◌≤◌, ◌+◌, ◌-◌, ◌^◌, ◌++◌, ◌∷◌, [], length, false, IfOk, OnOk, OnErr, IfErr, IsOk, IfSome, IsSome, option_copied};
+ghost use Rattle.ld_cells.specs.Stored.{Stored, IsHeldAt, KeepsCellRoom, held, marked_cells, with_value};
 
 use crate::change::Change;
 use crate::mark::Mark;
@@ -96,7 +96,7 @@ impl Cells {
     /// What the slot holds; None exactly where it has no value. It counts as one step.
     pub fn read<L: Ledger>(&self, slot: u32, steps: &mut Steps<L>) -> Option<&Value>
         requires { slot < length self.now.cells }
-        ensures value { Holds self.now.cells slot (option_copied result) }
+        ensures value { IsHeldAt self.now.cells slot (option_copied result) }
         ensures steps { steps.new ≡ steps.old + 1 }
     {
         steps.tick();
@@ -110,7 +110,7 @@ impl Cells {
         requires { slot < length self.old.cells }
         ensures cells { OnOk result (self.new.cells ≡ with_value self.old.cells slot value) }
         ensures answer { IfOk result (λ changed.
-            (changed ≡ false) ↔ Holds self.old.cells slot value) }
+            (changed ≡ false) ↔ IsHeldAt self.old.cells slot value) }
         ensures same { result ≡ Ok false → self.new ≡ self.old }
         ensures refused { OnErr result (self.new ≡ self.old) }
         ensures returned { IfErr result (λ refused. refused.0 ≡ value) }

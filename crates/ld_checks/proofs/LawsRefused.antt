@@ -12,42 +12,42 @@ use Rattle.ld_expr.specs.Owners.{of_person}
 use Rattle.ld_expr.specs.Terms.{cell_of_property}
 use Rattle.ld_roles.specs.Roster.{Shortage, person_number, holds_role, has_no_room, is_excluded, short_at_start}
 use Rattle.ld_state.specs.RunState.{RunState, seen_in}
-use Rattle.ld_checks.specs.Causes.{Cause, first_cause, refusal_of, unless_found, of_both, too_early, not_started, shortage_cause, shortage_for, activity_thing, is_by_choice, fitting, is_barred, causes}
+use Rattle.ld_checks.specs.Causes.{Cause, first_cause, refusal_in, unless_found, of_both, too_early, not_started, shortage_cause, shortage_for, activity_thing, is_by_choice, fitting, is_barred, causes}
 use Rattle.ld_checks.specs.Checks.{admitted, in_time, running, last_moment, is_started, none_short, shortage_if_running}
 use Rattle.ld_checks.specs.Refusals.{Refusal, MomentBack, NotStarted, StartedAlready, UnknownPerson, PersonExists, RunFull, UnknownRole, HoldsAlready, NotHeld, RoleFull, RoleExclusive, UnknownActivity, NotByChoice, UnknownProperty, BadValue, NotAllowed, ◌unless_refused◌ as ◌>>=◌, ◌>>◌, refuse_if}
 
 -- A check, and then those behind it.
-after_check : {A : Type 0} (b c : Bool) (refusal : Refusal) (next : Result A Refusal) (later : List Cause) → b ≡ c → refusal_of next ≡ first_cause later
-    → refusal_of (refuse_if b refusal >> next) ≡ first_cause (provided c refusal ∷ later)
+after_check : {A : Type 0} (b c : Bool) (refusal : Refusal) (next : Result A Refusal) (later : List Cause) → b ≡ c → refusal_in next ≡ first_cause later
+    → refusal_in (refuse_if b refusal >> next) ≡ first_cause (provided c refusal ∷ later)
 after_check b c refusal next later same rest = by b ∙ ap (λ d. first_cause (provided d refusal ∷ later)) same
   where
-    by : (d : Bool) → refusal_of (refuse_if d refusal >> next) ≡ first_cause (provided d refusal ∷ later)
+    by : (d : Bool) → refusal_in (refuse_if d refusal >> next) ≡ first_cause (provided d refusal ∷ later)
     by true = refl
     by false = rest
 
-after_own : {A : Type 0} (b : Bool) (refusal : Refusal) (next : Result A Refusal) (later : List Cause) → refusal_of next ≡ first_cause later → refusal_of (refuse_if b refusal >> next) ≡ first_cause (provided b refusal ∷ later)
+after_own : {A : Type 0} (b : Bool) (refusal : Refusal) (next : Result A Refusal) (later : List Cause) → refusal_in next ≡ first_cause later → refusal_in (refuse_if b refusal >> next) ≡ first_cause (provided b refusal ∷ later)
 after_own b refusal next later rest = after_check b b refusal next later refl rest
 
-after_search : {A B : Type 0} (found : Option A) (refusal : Refusal) (next : A → Result B Refusal) (later : List Cause) → ((x : A) → found ≡ Some x → refusal_of (next x) ≡ first_cause later)
-    → refusal_of (ok_or found refusal >>= next) ≡ first_cause (unless_found found refusal ∷ later)
+after_search : {A B : Type 0} (found : Option A) (refusal : Refusal) (next : A → Result B Refusal) (later : List Cause) → ((x : A) → found ≡ Some x → refusal_in (next x) ≡ first_cause later)
+    → refusal_in (ok_or found refusal >>= next) ≡ first_cause (unless_found found refusal ∷ later)
 after_search None refusal next later each = refl
 after_search (Some x) refusal next later each = each x refl
 
-after_any : {A B : Type 0} (found : Option A) (refusal : Refusal) (next : A → Result B Refusal) (later : List Cause) → ((x : A) → refusal_of (next x) ≡ first_cause later)
-    → refusal_of (ok_or found refusal >>= next) ≡ first_cause (unless_found found refusal ∷ later)
+after_any : {A B : Type 0} (found : Option A) (refusal : Refusal) (next : A → Result B Refusal) (later : List Cause) → ((x : A) → refusal_in (next x) ≡ first_cause later)
+    → refusal_in (ok_or found refusal >>= next) ≡ first_cause (unless_found found refusal ∷ later)
 after_any None refusal next later each = refl
 after_any (Some x) refusal next later each = each x
 
 -- The same of a search that itself looks at what was found before.
-after_own_search : {A B : Type 0} (found : Option A) (none : Bool) (refusal : Refusal) (next : A → Result B Refusal) (later : List Cause) → not (is_some found) ≡ none → ((x : A) → refusal_of (next x) ≡ first_cause later)
-    → refusal_of (ok_or found refusal >>= next) ≡ first_cause (provided none refusal ∷ later)
+after_own_search : {A B : Type 0} (found : Option A) (none : Bool) (refusal : Refusal) (next : A → Result B Refusal) (later : List Cause) → not (is_some found) ≡ none → ((x : A) → refusal_in (next x) ≡ first_cause later)
+    → refusal_in (ok_or found refusal >>= next) ≡ first_cause (provided none refusal ∷ later)
 after_own_search found none refusal next later same each = after_any found refusal next later each ∙ ap (λ d. first_cause (provided d refusal ∷ later)) same
 
-after_shortage : {A : Type 0} (unit : Course) (short other : Option Shortage) (next : Result A Refusal) (later : List Cause) → short ≡ other → refusal_of next ≡ first_cause later
-    → refusal_of (none_short unit short >> next) ≡ first_cause (shortage_cause unit other ∷ later)
+after_shortage : {A : Type 0} (unit : Course) (short other : Option Shortage) (next : Result A Refusal) (later : List Cause) → short ≡ other → refusal_in next ≡ first_cause later
+    → refusal_in (none_short unit short >> next) ≡ first_cause (shortage_cause unit other ∷ later)
 after_shortage unit short other next later same rest = by short ∙ ap (λ o. first_cause (shortage_cause unit o ∷ later)) same
   where
-    by : (o : Option Shortage) → refusal_of (none_short unit o >> next) ≡ first_cause (shortage_cause unit o ∷ later)
+    by : (o : Option Shortage) → refusal_in (none_short unit o >> next) ≡ first_cause (shortage_cause unit o ∷ later)
     by None = rest
     by (Some one) = refl
 
@@ -55,10 +55,10 @@ both_found : (test : ℕ → ℕ → Bool) (r p : ℕ) (ro po : Option ℕ) → 
 both_found test r p ro po role person = sym (ap (λ o. of_both test o po) role ∙ ap (λ o. is_some_and (test r) o) person)
 
 module _ (unit : Course) (s : RunState) (moment : ℤ) where
-  in_order : {A : Type 0} (next : Result A Refusal) (later : List Cause) → refusal_of next ≡ first_cause later → refusal_of (in_time s moment >> next) ≡ first_cause (too_early s moment ∷ later)
+  in_order : {A : Type 0} (next : Result A Refusal) (later : List Cause) → refusal_in next ≡ first_cause later → refusal_in (in_time s moment >> next) ≡ first_cause (too_early s moment ∷ later)
   in_order next later rest = after_own (int_lt moment (last_moment s)) (MomentBack (last_moment s)) next later rest
 
-  in_running : {A : Type 0} (next : Result A Refusal) (later : List Cause) → refusal_of next ≡ first_cause later → refusal_of (in_time s moment >> (running s >> next)) ≡ first_cause (too_early s moment ∷ not_started s ∷ later)
+  in_running : {A : Type 0} (next : Result A Refusal) (later : List Cause) → refusal_in next ≡ first_cause later → refusal_in (in_time s moment >> (running s >> next)) ≡ first_cause (too_early s moment ∷ not_started s ∷ later)
   in_running next later rest = in_order (running s >> next) (not_started s ∷ later) (after_own (not (is_started s)) NotStarted next later rest)
 
   abbrev bars : ℕ → Property → Bool
@@ -80,7 +80,7 @@ module _ (unit : Course) (s : RunState) (moment : ℤ) where
   short_same r p ro po role person = sym (ap (λ o. shortage_for unit s o po) role ∙ ap (λ o. shortage_for unit s (Some r) o) person)
 
   -- The refusal of the checks is the first of the causes, and they pass where there is none.
-  pub refused_by_first : (asked : RunCommand) → refusal_of (admitted unit s moment asked) ≡ first_cause (causes unit s moment asked)
+  pub refused_by_first : (asked : RunCommand) → refusal_in (admitted unit s moment asked) ≡ first_cause (causes unit s moment asked)
   unfolding admitted
   refused_by_first (Enrol person) =
       in_order _ _ (after_own (is_some (person_number s.persons person)) PersonExists _ _ (after_own (nat_le s.seats (length s.persons)) RunFull _ _ refl))

@@ -16,6 +16,7 @@ use Rattle.ld_checks.specs.Commands.{Admitted, enrols, assigns, drops, starts, o
 use Rattle.ld_checks.specs.declared.admitted.Admitted.{Admitted as AdmittedOf}
 use Rattle.ld_checks.specs.declared.admitted.Admitted.TheVariants as given
 
+-- What an admitted command of the program means: the same command, by its numbers, its cell and its value.
 abbrev pub admitted_of : AdmittedOf → Admitted
 admitted_of (given.Enrols name) = enrols name.now
 admitted_of (given.Assigns p role) = assigns p.0 role.0

@@ -29,9 +29,10 @@ first_cause [] = None
 first_cause (Some refusal ∷ causes) = Some refusal
 first_cause (None ∷ causes) = first_cause causes
 
-abbrev pub refusal_of : {A : Type 0} → Result A Refusal → Option Refusal
-refusal_of (Ok x) = None
-refusal_of (Err refusal) = Some refusal
+-- The refusal, where the result is one.
+abbrev pub refusal_in : {A : Type 0} → Result A Refusal → Option Refusal
+refusal_in (Ok x) = None
+refusal_in (Err refusal) = Some refusal
 
 -- Nothing was found.
 abbrev pub unless_found : {A : Type 0} → Option A → Refusal → Cause
@@ -41,16 +42,20 @@ unless_found found refusal = provided (not (is_some found)) refusal
 abbrev pub of_both : (ℕ → ℕ → Bool) → Option ℕ → Option ℕ → Bool
 of_both test r p = is_some_and (λ role. is_some_and (test role) p) r
 
+-- The moment is before the run's last one.
 abbrev pub too_early : RunState → ℤ → Cause
 too_early s moment = provided (int_lt moment (last_moment s)) (MomentBack (last_moment s))
 
+-- The run is not started.
 abbrev pub not_started : RunState → Cause
 not_started s = provided (not (is_started s)) NotStarted
 
+-- A role is short of members, of which its identifier and both numbers are told.
 abbrev pub shortage_cause : Course → Option Shortage → Cause
 shortage_cause unit short =
     option_map (λ one. RoleShort (role_identifier unit one.role) one.count one.least) short
 
+-- Where both are found and the run is started: the first role that would be short once it is dropped.
 abbrev pub shortage_for : Course → RunState → Option ℕ → Option ℕ → Option Shortage
 shortage_for unit s r p = r >>= λ role. p >>= λ person. shortage_if_running unit s role person (is_started s)
 
@@ -59,10 +64,12 @@ abbrev pub activity_thing : Course → List ℕ → Option ℕ
 activity_thing unit id =
     option_and_then (λ (one : Activity). thing_number unit one.identifier) (activity_named unit id)
 
+-- The activity of this identifier is completed by its person's choice.
 abbrev pub is_by_choice : Course → List ℕ → Bool
 is_by_choice unit id =
     is_some_and (λ one. is_some_and is_choice one.complete) (activity_named unit id)
 
+-- The value that the text has as one of the property's datatype, where it meets the restrictions.
 abbrev pub fitting : Property → List ℕ → Option Datum
 fitting property text = option_and_then
     (λ value. provided (fits_property property value) value)
@@ -73,15 +80,19 @@ abbrev pub bars : Course → RunState → ℕ → Property → Bool
 bars unit s p property =
     is_some_and (λ role. not (is_member_of unit (seen_in unit s) role p)) property.role
 
+-- Both are found, and the property is one of a role that the person is no member of.
 abbrev pub is_barred : Course → RunState → Option ℕ → Option Property → Bool
 is_barred unit s p property = is_some_and (λ person. is_some_and (bars unit s person) property) p
 
+-- For the person there is no cell of the property: the identifier names none.
 abbrev pub lacks_cell : Course → List ℕ → ℕ → Bool
 lacks_cell unit property p = not (is_some (cell_of_property unit (of_person p) property))
 
+-- The person is found, and there is no cell of the property for the person.
 abbrev pub own_cell : Course → Option ℕ → List ℕ → Cause
 own_cell unit p property = provided (is_some_and (lacks_cell unit property) p) UnknownProperty
 
+-- The causes of each command, in the order of its checks; the first that holds is the refusal.
 abbrev pub causes : Course → RunState → ℤ → RunCommand → List Cause
 causes unit s moment (Enrol person) =
     too_early s moment

@@ -25,14 +25,17 @@ use Rattle.ld_lines.specs.declared.command.RunCommand.{RunCommand}
 use Rattle.ld_lines.specs.declared.command.RunCommand.TheVariants.{Enrol, Assign, Drop, Start, Open, Complete, Set, Clear, Get, Tree, Outbox, Report, Tick}
 use Rattle.ld_checks.specs.Refusals.{Refusal, MomentBack, NotStarted, StartedAlready, UnknownPerson, PersonExists, RunFull, UnknownRole, HoldsAlready, NotHeld, RoleFull, RoleExclusive, RoleShort, UnknownActivity, NotByChoice, UnknownProperty, BadValue, NotAllowed, ◌unless_refused◌ as ◌>>=◌, ◌>>◌, refuse_if}
 
+-- A check: it passes, or it refuses.
 abbrev pub Passed : Type 0
 Passed = Result (Unit {0}) Refusal
 
 -- ---- moments and persons
 
+-- The run's last moment, or 0 where its cell has none.
 abbrev pub last_moment : RunState → ℤ
 last_moment s = unwrap_or (moment_of_value (s.cells Now)) (pos 0)
 
+-- The run is started: there is a moment at which it was.
 abbrev pub is_started : RunState → Bool
 is_started s = is_some (s.cells Started)
 
@@ -40,15 +43,19 @@ is_started s = is_some (s.cells Started)
 abbrev pub in_time : RunState → ℤ → Passed
 in_time s moment = refuse_if (int_lt moment (last_moment s)) (MomentBack (last_moment s))
 
+-- The run is started.
 abbrev pub running : RunState → Passed
 running s = refuse_if (not (is_started s)) NotStarted
 
+-- The run is not started.
 abbrev pub not_running : RunState → Passed
 not_running s = refuse_if (is_started s) StartedAlready
 
+-- The number of the person of this name in the run.
 abbrev pub the_person : RunState → List ℕ → Result ℕ Refusal
 the_person s person = ok_or (person_number s.persons person) UnknownPerson
 
+-- No person of this name is enrolled in the run.
 abbrev pub not_enrolled : RunState → List ℕ → Passed
 not_enrolled s person = refuse_if (is_some (person_number s.persons person)) PersonExists
 
@@ -58,21 +65,27 @@ has_seat s = refuse_if (nat_le s.seats (length s.persons)) RunFull
 
 -- ---- roles
 
+-- The number of the role of this identifier.
 abbrev pub the_role : Course → List ℕ → Result ℕ Refusal
 the_role unit role = ok_or (role_number unit role) UnknownRole
 
+-- The person does not hold this very role.
 abbrev pub does_not_hold : RunState → ℕ → ℕ → Passed
 does_not_hold s role p = refuse_if (holds_role s.persons role p) HoldsAlready
 
+-- The person holds this very role.
 abbrev pub holds_it : RunState → ℕ → ℕ → Passed
 holds_it s role p = refuse_if (not (holds_role s.persons role p)) NotHeld
 
+-- The role, and each that it stands within, has room for the person or has the person as a member.
 abbrev pub has_room : Course → RunState → ℕ → ℕ → Passed
 has_room unit s role p = refuse_if (has_no_room unit s.persons role p) RoleFull
 
+-- The role would not bring the person into two roles right within an `exclusively-in-roles` one.
 abbrev pub keeps_apart : Course → RunState → ℕ → ℕ → Passed
 keeps_apart unit s role p = refuse_if (is_excluded unit s.persons role p) RoleExclusive
 
+-- The identifier of the role of this number, or the empty text where there is none.
 abbrev pub role_identifier : Course → ℕ → List ℕ
 role_identifier unit role = unwrap_or (option_map (λ row. row.identifier) (slice_get (roles_of unit) role)) []
 
@@ -81,7 +94,7 @@ abbrev pub none_short : Course → Option Shortage → Passed
 none_short unit None = Ok tt
 none_short unit (Some short) = Err (RoleShort (role_identifier unit short.role) short.count short.least)
 
--- In a run that is started, the first role that would be short without it.
+-- In a run that is started, the first role that would be short once the person has dropped the role.
 abbrev pub shortage_if_running : Course → RunState → ℕ → ℕ → Bool → Option Shortage
 shortage_if_running unit s role p true = short_once_dropped unit s.persons role p
 shortage_if_running unit s role p false = None
@@ -94,10 +107,12 @@ the_activity unit id =
     let thing_of = λ (activity : Activity). thing_number unit activity.identifier in
     ok_or (option_and_then thing_of (activity_named unit id)) UnknownActivity
 
+-- The completion rule is `user-choice`.
 abbrev pub is_choice : Completion → Bool
 is_choice UserChoice = true
 is_choice _ = false
 
+-- The activity of this identifier is completed by its person's choice.
 abbrev pub only_by_choice : Course → List ℕ → Passed
 only_by_choice unit id = refuse_if
     (not (is_some_and (λ activity. is_some_and is_choice activity.complete) (activity_named unit id)))
@@ -105,6 +120,7 @@ only_by_choice unit id = refuse_if
 
 -- ---- properties
 
+-- The property of this identifier.
 abbrev pub the_property : Course → List ℕ → Result Property Refusal
 the_property unit id = ok_or (property_of unit id) UnknownProperty
 
@@ -112,6 +128,7 @@ the_property unit id = ok_or (property_of unit id) UnknownProperty
 abbrev pub the_cell : Course → ℕ → List ℕ → Result CellName Refusal
 the_cell unit p id = ok_or (cell_of_property unit (of_person p) id) UnknownProperty
 
+-- The value that the text has as one of the property's datatype; it has to meet the restrictions.
 abbrev pub fitting_value : Property → List ℕ → Result Datum Refusal
 fitting_value property text =
     let if_fits = λ (value : Datum). provided (fits_property property value) value in
@@ -125,6 +142,7 @@ may_write unit s p property = refuse_if
 
 -- ---- the checks of each command
 
+-- What the command is once all its checks pass, in their order; or the refusal of the first that fails.
 unfoldable pub admitted : Course → RunState → ℤ → RunCommand → Result Admitted Refusal
 admitted unit s moment (Enrol person) = do
   in_time s moment

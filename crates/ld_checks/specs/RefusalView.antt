@@ -4,6 +4,7 @@ use Rattle.ld_checks.specs.Refusals.{Refusal, BadLine, UnknownUnit, RunExists, U
 use Rattle.ld_checks.specs.declared.refusal.Refusal.{Refusal as RefusalOf}
 use Rattle.ld_checks.specs.declared.refusal.Refusal.TheVariants as given
 
+-- What each refusal of the program means: the one of the same name, with what it tells.
 abbrev pub refusal_of : RefusalOf → Refusal
 refusal_of given.BadLine = BadLine
 refusal_of given.UnknownUnit = UnknownUnit

@@ -32,6 +32,7 @@ pub data Refusal : Type 0 where
   NotOpen : Refusal
   NoMemory : Refusal
 
+-- The number that is printed of each refusal.
 abbrev pub refusal_number : Refusal → ℕ
 refusal_number BadLine = 1
 refusal_number UnknownUnit = 2
@@ -83,6 +84,7 @@ abbrev pub ◌>>◌ : {A B : Type 0} → Result A Refusal → Result B Refusal �
 (Ok x) >> next = next
 (Err refusal) >> next = Err refusal
 
+-- It refuses where the truth holds, and else it passes.
 abbrev pub refuse_if : Bool → Refusal → Result (Unit {0}) Refusal
 refuse_if true refusal = Err refusal
 refuse_if false refusal = Ok tt

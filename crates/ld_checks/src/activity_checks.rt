@@ -49,7 +49,8 @@ impl<'a, 's> Checker<'a, 's> {
         }
     }
 
-    /// Passes where it is up to the person to say that the activity of this identifier is completed.
+    /// Passes where it is up to the person to say that the activity of this identifier is
+    /// completed.
     pub(crate) fn only_by_choice(&self, id: &Id, activity: &Activity) -> Result<(), Refusal<'a>>
         requires { activity_named self.now.unit.now id.now ≡ Some activity.now }
         ensures { answer_of (λ _. tt) result ≡ only_by_choice self.now.unit.now id.now }

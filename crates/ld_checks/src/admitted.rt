@@ -4,8 +4,9 @@ use ld_base::numbers::{PersonNo, RoleNo, ThingNo};
 use ld_model::cell::CellName;
 use ld_value::value::Value;
 
-/// What a command is once it is admitted: persons, roles and activities by their numbers, properties by
-/// the cells in which they stand. A person who joins has a name alone. (docs/MEANING.md, "A command")
+/// What a command is once it is admitted: persons, roles and activities by their numbers,
+/// properties by the cells in which they stand. A person who joins has a name alone.
+/// (docs/MEANING.md, "A command")
 #[derive(Drop)]
 pub enum Admitted<'a> {
     Enrols(&'a Id),

@@ -113,7 +113,8 @@ impl<'a, 's> Checker<'a, 's> {
         self.running(steps)
     }
 
-    /// The person who acts: the moment is in time, the run has been started, and the person is there.
+    /// The person who acts: the moment is in time, the run has been started, and the person is
+    /// there.
     pub(crate) fn acting<L: Ledger>(
         &self,
         moment: Moment,

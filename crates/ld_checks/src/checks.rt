@@ -17,8 +17,8 @@ use ld_value::moment::Moment;
 use std::alloc::Global;
 use std::sync::ledger::Ledger;
 
-/// The command once it is admitted, or the first of its checks that fails. What it names is looked up
-/// here, once. Memory is wanted for the value of a text that is set, and for nothing else.
+/// The command once it is admitted, or the first of its checks that fails. What it names is looked
+/// up here, once. Memory is wanted for the value of a text that is set, and for nothing else.
 /// (docs/MEANING.md, "A command")
 pub fn admit<'a, L: Ledger>(
     alloc: Global,

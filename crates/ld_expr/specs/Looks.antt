@@ -15,6 +15,7 @@ use Rattle.ld_expr.specs.Owners.{of_person}
 use Rattle.ld_expr.specs.Seen.{Seen, everyone, member_cell, opened_cell}
 use Rattle.ld_expr.specs.Terms.{cell_of_property}
 
+-- The cell of the property that the identifier names, if it names one, where the owner speaks.
 abbrev pub property_looks : Course → Owner → List ℕ → List CellName
 property_looks unit owner id = list_from (λ cell. cell ∷ []) (cell_of_property unit owner id)
 

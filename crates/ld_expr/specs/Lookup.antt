@@ -25,6 +25,7 @@ list_from list (Some x) = list x
 
 -- ---- properties
 
+-- The number of the property, if what is named is one.
 abbrev pub property_among : Named → Option ℕ
 property_among (named.Prop p) = Some p.0
 property_among _ = None
@@ -39,6 +40,7 @@ property_of unit id = property_number unit id >>= slice_get unit.properties
 
 -- ---- things
 
+-- The thing of this number.
 abbrev pub thing_at : Course → ℕ → Option Entry
 thing_at unit thing = slice_get (things_of unit) thing
 
@@ -46,14 +48,17 @@ thing_at unit thing = slice_get (things_of unit) thing
 abbrev pub place_named : Course → List ℕ → Option Place
 place_named unit id = thing_number unit id >>= thing_at unit >>= λ thing. Some thing.place
 
+-- The activity at the place, if the place is that of one.
 abbrev pub activity_at : Course → Place → Option ActivityOf
 activity_at unit (Activity a) = slice_get unit.activities a
 activity_at unit _ = None
 
+-- The structure at the place, if the place is that of one.
 abbrev pub structure_at : Course → Place → Option StructureOf
 structure_at unit (Structure s) = slice_get unit.structures s
 structure_at unit _ = None
 
+-- The environment at the place, if the place is that of one.
 abbrev pub environment_at : Course → Place → Option EnvironmentOf
 environment_at unit (Environment e) = slice_get unit.environments e
 environment_at unit _ = None
@@ -62,9 +67,11 @@ environment_at unit _ = None
 abbrev pub activity_named : Course → List ℕ → Option ActivityOf
 activity_named unit id = place_named unit id >>= activity_at unit
 
+-- The structure that the identifier names, if it names one.
 abbrev pub structure_named : Course → List ℕ → Option StructureOf
 structure_named unit id = place_named unit id >>= structure_at unit
 
+-- The environment that the identifier names, if it names one.
 abbrev pub environment_named : Course → List ℕ → Option EnvironmentOf
 environment_named unit id = place_named unit id >>= environment_at unit
 

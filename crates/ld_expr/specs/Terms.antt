@@ -22,6 +22,7 @@ cell_of_property unit owner id = do
   property ← slice_get unit.properties number
   Some (property_cell number (owner_of (is_personal property.kind) owner))
 
+-- The value of the property that the identifier names: the owner's own, or the run's.
 abbrev pub property_value : Course → Seen → Owner → List ℕ → Option Datum
 property_value unit seen owner id = cell_of_property unit owner id >>= seen.value
 

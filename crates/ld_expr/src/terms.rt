@@ -26,8 +26,8 @@ use std::alloc::Global;
 use std::sync::ledger::Ledger;
 
 /// The value of the term for the owner; `Ok(None)` exactly where it has none. The only error is
-/// want of memory, and it comes for a text alone. It takes at most a step for each cell at which the
-/// term looks. (docs/MEANING.md, "Terms and tests")
+/// want of memory, and it comes for a text alone. It takes at most a step for each cell at which
+/// the term looks. (docs/MEANING.md, "Terms and tests")
 pub fn value_of<V: View, L: Ledger>(
     alloc: Global,
     unit: &Unit,

@@ -33,12 +33,14 @@ abbrev pub all_change_cells : Course → ℕ → Owner → ChangeOf → List Cel
 all_change_cells unit persons owner change =
     flat_map (change_cells unit change) (owners_of_change persons owner (is_of_persons unit change.property))
 
+-- The cells of one action at a site of the owner; of a notice none is listed.
 abbrev pub action_cells : Course → ℕ → Owner → Action → List CellName
 action_cells unit persons owner (Show things) = flat_map (visible_cells unit owner) things
 action_cells unit persons owner (Hide things) = flat_map (visible_cells unit owner) things
 action_cells unit persons owner (Change change) = all_change_cells unit persons owner change
 action_cells unit persons owner (Notify notice) = []
 
+-- Those of several actions, one after another.
 abbrev pub actions_cells : Course → ℕ → Owner → List Action → List CellName
 actions_cells unit persons owner actions = flat_map (action_cells unit persons owner) actions
 

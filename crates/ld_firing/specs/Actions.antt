@@ -39,9 +39,11 @@ pub record Doing : Type 0 where
   pub rejected : ℕ
   pub sent : ℕ
 
+-- The state as it is, and nothing done on the way to it.
 abbrev pub nothing_done : RunState → Doing
 nothing_done s = record { state = s; changes = []; rejected = 0; sent = 0 }
 
+-- The two are neither the same value nor both none.
 abbrev pub differs : Option Datum → Option Datum → Bool
 differs a b = not (option_eq same_datum a b)
 
@@ -76,12 +78,15 @@ abbrev pub owners_of_change : ℕ → Owner → Bool → List Owner
 owners_of_change persons Run true = map of_person (numbers_below persons)
 owners_of_change persons owner _ = owner ∷ []
 
+-- The property of this identifier is one of which each person has a value of the person's own.
 abbrev pub is_of_persons : Course → List ℕ → Bool
 is_of_persons unit id = is_some_and (λ property. is_personal property.kind) (property_of unit id)
 
+-- For whom the change is made at a site of the owner, in this state.
 abbrev pub targets_of : Course → RunState → Owner → ChangeOf → List Owner
 targets_of unit s owner change = owners_of_change (length s.persons) owner (is_of_persons unit change.property)
 
+-- The change is made for each of them, one after another, each time in what was left before.
 abbrev pub do_change : Course → Owner → Doing → ChangeOf → Doing
 do_change unit owner doing change =
     fold (change_for unit change) doing (targets_of unit doing.state owner change)
@@ -102,6 +107,7 @@ notice_now unit s notice = record {
   to = recipients unit (seen_in unit s) notice.roles;
 }
 
+-- The notice is sent: it is put at the end of the outbox.
 abbrev pub do_notify : Course → Doing → Notice → Doing
 do_notify unit doing notice = record doing {
   state = record doing.state { outbox = doing.state.outbox ++ notice_now unit doing.state notice ∷ [] };
@@ -121,6 +127,7 @@ abbrev pub set_visible : Course → Owner → Bool → Doing → List ℕ → Do
 set_visible unit Run visible doing id = doing
 set_visible unit (Person p) visible doing id = with_visible p.0 visible doing (thing_number unit id)
 
+-- The action is done at a site of the owner.
 abbrev pub do_action : Course → Owner → Doing → Action → Doing
 do_action unit owner doing (Show things) = fold (set_visible unit owner true) doing things
 do_action unit owner doing (Hide things) = fold (set_visible unit owner false) doing things
@@ -133,9 +140,11 @@ do_action unit owner doing (Notify notice) = do_notify unit doing notice
 abbrev pub actions_in : OnCompletion → List Action
 actions_in follows = map Change follows.change ++ map Notify follows.notify
 
+-- The same, where it is said what follows; else none.
 abbrev pub actions_if : Option OnCompletion → List Action
 actions_if follows = list_from actions_in follows
 
+-- The actions of the condition for the verdict: those of `then` for yes, those of `else` for no.
 abbrev pub branch_of : Bool → Condition → List Action
 branch_of true condition = condition.yes
 branch_of false condition = condition.no
@@ -174,6 +183,7 @@ firing_by unit s site rule =
     rule_effect unit site.owner rule verdict
     (with_write (nothing_done s) (site_mark site) (Some (truth_datum verdict)))
 
+-- What the firing of a site does: nothing where there is no rule of its number.
 unfoldable pub site_firing : Course → RunState → Site → Doing
 site_firing unit s site = elim (rule_of unit site) as (λ _. Doing) [
   | None ↦ nothing_done s

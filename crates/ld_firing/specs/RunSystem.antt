@@ -22,6 +22,7 @@ use Rattle.ld_rules.specs.SiteTests.{site_test, site_mark}
 
 -- ---- numbers of sites
 
+-- The owner's place among the seats: 0 for the run, and for a person the person's number.
 abbrev pub owner_number : Owner → ℕ
 owner_number Run = 0
 owner_number (Person p) = p.0
@@ -42,9 +43,11 @@ of_site unit s number said other = option_map_or said (site_at unit s number) ot
 
 -- ---- slots
 
+-- The slots of those of these cells that the run has, in order and with repeats.
 abbrev pub slots_named : Course → RunState → List CellName → List ℕ
 slots_named unit s cells = filter_map (slot_of unit (length s.persons)) cells
 
+-- The value of the cell that has this slot, if there is one.
 abbrev pub content_of : Course → RunState → ℕ → Option Datum
 content_of unit s slot = slice_get (all_cells unit (length s.persons)) slot >>= cell_of unit s
 
@@ -82,6 +85,7 @@ verdict_in _ = None
 abbrev pub firing_at : Course → RunState → ℕ → Doing
 firing_at unit s i = of_site unit s i (site_firing unit s) (nothing_done s)
 
+-- The system of the runs of a unit: a situation is the state of a run, and a site is its number.
 abbrev pub run_system : Course → System
 run_system unit = record {
   Situation = RunState;

@@ -8,6 +8,7 @@ use Rattle.ld_state.specs.RunState.{RunState}
 abbrev pub reseated : ℕ → RunState → RunState
 reseated seats s = record s { seats = seats }
 
+-- The same settlement, whose state has so many seats.
 abbrev pub settlement_reseated : ℕ → Settlement → Settlement
 settlement_reseated seats x = record x { state = reseated seats x.state }
 

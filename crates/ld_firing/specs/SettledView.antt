@@ -4,6 +4,7 @@ use Rattle.ld_cascade.specs.declared.settled.Settled.{Settled}
 use Rattle.ld_firing.specs.RunSettling.{Settlement}
 use Rattle.ld_state.specs.RunState.{RunState}
 
+-- The sums among these numbers: the firings, the rejected changes and the notices sent.
 abbrev pub sums_in : Settled → Sums
 sums_in settled = record { fired = settled.fired; rejected = settled.rejected; sent = settled.sent }
 

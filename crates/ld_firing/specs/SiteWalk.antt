@@ -28,6 +28,7 @@ pub record SiteFiring : Type 0 where
   pub before : RunState
   pub site : Site
 
+-- The firing of the visit of a site, or none where it is not due.
 abbrev pub visit_firings : Course → RunState → Site → List SiteFiring
 visit_firings unit s site = cond (is_due unit s site) (record { before = s; site = site } ∷ []) []
 
@@ -35,6 +36,7 @@ visit_firings unit s site = cond (is_due unit s site) (record { before = s; site
 abbrev pub walked : Course → RunState → List Site → RunState
 walked unit s sites = fold (after_visit unit) s sites
 
+-- The firings of those visits, in order.
 abbrev pub walk_firings : Course → RunState → List Site → List SiteFiring
 walk_firings unit s [] = []
 walk_firings unit s (site ∷ sites) =

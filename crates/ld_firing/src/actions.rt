@@ -5,7 +5,7 @@ ghost use Rattle.ld_model.specs.declared.condition.Action.TheVariants.{Change as
 ghost use Rattle.ld_expr.specs.Viewing.{HasCells};
 ghost use Rattle.ld_state.specs.StateView.{IsStateOf, run_of};
 ghost use Rattle.ld_firing.specs.ActionCells.{action_cells, actions_cells, has_slot, visible_cells};
-ghost use Rattle.ld_firing.specs.Actions.{actions_if, actions_in, do_action, set_visible};
+ghost use Rattle.ld_firing.specs.Actions.{actions_if, do_action, set_visible};
 ghost use Rattle.ld_firing.specs.Costs.{action_cost};
 ghost use Rattle.ld_firing.specs.Progress.{Does, progress_of};
 

@@ -1,5 +1,5 @@
 //! Changes of properties.
-ghost use Rattle.std.specs.Prelude.{◌≡◌, ◌+◌, ◌*◌, ◌≤◌, ◌<◌, flat_map, fold, length, map, IfOk, IfSome, OnOk, option_copied, option_map};
+ghost use Rattle.std.specs.Prelude.{◌≡◌, ◌+◌, ◌*◌, ◌≤◌, ◌<◌, flat_map, fold, length, map, IfOk, IfSome, OnOk, option_map};
 ghost use Rattle.ld_base.specs.Maybe.{◌>>=◌ as ◌then◌};
 ghost use Rattle.ld_base.specs.Numbers.{numbers_below};
 ghost use Rattle.ld_model.specs.Properties.{is_personal};
@@ -98,8 +98,8 @@ impl<'a> Actor<'a> {
         Ok(())
     }
 
-    /// Makes the change for the owner. Where the new value does not fit, all stays, and the change is
-    /// rejected.
+    /// Makes the change for the owner. Where the new value does not fit, all stays, and the change
+    /// is rejected.
     fn change_for<L: Ledger>(
         &self,
         change: &Change,

@@ -34,10 +34,10 @@ use ld_value::value::Value;
 use std::alloc::Global;
 use std::sync::ledger::Ledger;
 
-/// Fires the site: its mark becomes the verdict, which is what its test says, and what its rule wants
-/// then follows. The slots of the cells that get another value are told, in order and with repeats.
-/// After want of memory the state is another one of the same persons, with the same mark: it has to be
-/// taken back. (docs/MEANING.md, "Firing, sweeping, settling")
+/// Fires the site: its mark becomes the verdict, which is what its test says, and what its rule
+/// wants then follows. The slots of the cells that get another value are told, in order and with
+/// repeats. After want of memory the state is another one of the same persons, with the same mark:
+/// it has to be taken back. (docs/MEANING.md, "Firing, sweeping, settling")
 pub fn fire<L: Ledger>(
     alloc: Global,
     unit: &PreparedUnit,

@@ -27,10 +27,10 @@ module _ (declared : List (Roomy × Declared)) (persons : List (List ℕ)) (dist
   -- Numbers are one where keys are.
   pub numbers-tell : (key : Key) (k : KeyNumber) (e : KeyNumber × Cell) → IsNumberOf declared persons key k → IsCell declared persons e → same_number k e.0 ≡ same_key key (key_of declared persons e.0)
   numbers-tell key k e number cell =
-      let at = slice_get-map (λ d. d.0) declared k.uri ∙ ap (option_map (λ d. d.0)) number.there in
+      let at = slice_get-map (λ d. d.0) declared k.uri ∙ ap (option_map (λ d. d.0)) number.uri.there in
       let there = slice_get-map (λ d. d.0) declared e.0.uri ∙ ap (option_map (λ d. d.0)) cell.there in
-      let uri = place-tells (λ t. t.bytes) (keys_of declared) k.uri e.0.uri number.entry.0 cell.entry.0 distinct.0 at there in
-      let same = (bytes_decides key.uri number.entry.0.bytes).0 number.same in
+      let uri = place-tells (λ t. t.bytes) (keys_of declared) k.uri e.0.uri number.uri.entry.0 cell.entry.0 distinct.0 at there in
+      let same = (bytes_decides key.uri number.uri.entry.0.bytes).0 number.uri.same in
       rw (cell.there, uri, same, person-tells key.person k.person e.0.person number.person cell.person) refl
 
   pub written-found : (eq : KeyNumber → KeyNumber → Bool) → ((a b : KeyNumber) → eq a b ≡ same_number a b) → (key : Key) (k : KeyNumber) (cells : List (KeyNumber × Cell)) → IsNumberOf declared persons key k → AllByRecursion (IsCell declared persons) cells

@@ -169,7 +169,7 @@ keys-equal a b same =
 
 module _ (declared : List (Roomy × Declared)) (persons : List (List ℕ)) (cells : List (KeyNumber × Cell)) (numbering : IsNumbering declared persons) (all : AllByRecursion (IsCell declared persons) cells) (own : IsDistinct same_number (keys_of cells)) where
   its-number : (c : KeyNumber × Cell) → IsCell declared persons c → IsNumberOf declared persons (key_of declared persons c.0) c.0
-  its-number c cell = record { entry = cell.entry; there = cell.there; same = (bytes_decides (key_of declared persons c.0).uri cell.entry.0.bytes).1 (ap entry_uri cell.there); person = by c.0.person cell.person }
+  its-number c cell = record { uri = record { entry = cell.entry; there = cell.there; same = (bytes_decides (key_of declared persons c.0).uri cell.entry.0.bytes).1 (ap entry_uri cell.there) }; person = by c.0.person cell.person }
     where
       by : (q : Option ℕ) → IsNumbered persons q → IsPersonNumber persons (option_map (λ p. person_text (slice_get persons p)) q) q
       by None there = tt

@@ -108,9 +108,9 @@ module _ (declared : List (Roomy × Declared)) (persons added : List (List ℕ))
 -- A number is of the key that it was made for.
 pub key-numbered : (declared : List (Roomy × Declared)) (persons : List (List ℕ)) (key : Key) (k : KeyNumber) → IsNumberOf declared persons key k → key_of declared persons k ≡ key
 key-numbered declared persons key k number =
-    let uri = sym ((bytes_decides key.uri number.entry.0.bytes).0 number.same) in
+    let uri = sym ((bytes_decides key.uri number.uri.entry.0.bytes).0 number.uri.same) in
     let person = by key.person k.person number.person in
-    rw (number.there) (λ i. record { uri = uri i; person = person i })
+    rw (number.uri.there) (λ i. record { uri = uri i; person = person i })
   where
     by : (person : Option (List ℕ)) (p : Option ℕ) → IsPersonNumber persons person p → (key_of declared persons (record { uri = 0; person = p })).person ≡ person
     by None None is = refl
@@ -164,10 +164,10 @@ module _ (declared : List (Roomy × Declared)) (persons : List (List ℕ)) (key 
   numbered None (Some p) is = elim is [ ]
   numbered (Some text) None is = elim is [ ]
 
-  pub new-cell : (c : Cell) (d : Declaration) → declaration_of number.entry.1 ≡ d → IsTrue (suits d.kind (is_some key.person)) → IsTrue (fits_declared d (option_map datum_of c.value)) → IsCell declared persons (k, c)
+  pub new-cell : (c : Cell) (d : Declaration) → declaration_of number.uri.entry.1 ≡ d → IsTrue (suits d.kind (is_some key.person)) → IsTrue (fits_declared d (option_map datum_of c.value)) → IsCell declared persons (k, c)
   new-cell c d is suited fitting =
       let person = numbered key.person k.person number.person in
-      record { entry = number.entry; there = number.there; person = person.0; suited = subst (λ b. IsTrue (suits number.entry.1.kind b)) (sym person.1) (subst (λ t. IsTrue (suits t.kind (is_some key.person))) (sym is) suited); fitting = subst (λ t. IsTrue (fits_declared t (option_map datum_of c.value))) (sym is) fitting }
+      record { entry = number.uri.entry; there = number.uri.there; person = person.0; suited = subst (λ b. IsTrue (suits number.uri.entry.1.kind b)) (sym person.1) (subst (λ t. IsTrue (suits t.kind (is_some key.person))) (sym is) suited); fitting = subst (λ t. IsTrue (fits_declared t (option_map datum_of c.value))) (sym is) fitting }
 
 -- How a uri is declared tells the entry that declares it.
 pub declaring : (es : List (Roomy × Declared)) (uri : List ℕ) (d : Declaration) → declared_in (map uri_and_declaration es) uri ≡ Some d → (e : Declared) × (lookup (λ k. bytes_eq uri k.bytes) es ≡ Some e)

@@ -97,9 +97,7 @@ pub record IsUriNumber (declared : List (Roomy × Declared)) (uri : List ℕ) (n
 
 -- The numbers are those of the key.
 pub record IsNumberOf (declared : List (Roomy × Declared)) (persons : List (List ℕ)) (key : Key) (k : KeyNumber) : Type 0 where
-  pub entry : Roomy × Declared
-  pub there : slice_get declared k.uri ≡ Some entry
-  pub same : bytes_eq key.uri entry.0.bytes ≡ true
+  pub uri : IsUriNumber declared key.uri k.uri
   pub person : IsPersonNumber persons key.person k.person
 
 -- No uri is declared twice.
@@ -107,8 +105,8 @@ abbrev pub DeclareOnce : List (Roomy × Declared) → Type 0
 DeclareOnce declared = IsDistinct (λ a b. bytes_eq a.bytes b.bytes) (keys_of declared)
 
 -- The uri is declared.
-abbrev pub IsAmong : List (Roomy × Declared) → List ℕ → Type 0
-IsAmong declared uri = (e : Declared) × (lookup (λ k. bytes_eq uri k.bytes) declared ≡ Some e)
+abbrev pub IsDeclaredUri : List (Roomy × Declared) → List ℕ → Type 0
+IsDeclaredUri declared uri = (e : Declared) × (lookup (λ k. bytes_eq uri k.bytes) declared ≡ Some e)
 
 -- No uri is declared twice, and no person has two numbers.
 abbrev pub IsNumbering : List (Roomy × Declared) → List (List ℕ) → Type 0

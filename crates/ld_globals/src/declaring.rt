@@ -1,9 +1,7 @@
 //! Declaring uris, part by part.
-ghost use Rattle.std.specs.Prelude.{◌≡◌, ◌≤◌, ◌+◌, ◌<◌, ◌++◌, [], List, None, IfSome, IsTrue, false, length, map, slice_get};
+ghost use Rattle.std.specs.Prelude.{◌≡◌, ◌≤◌, ◌+◌, ◌<◌, None, IfSome, IsTrue, false, length};
 ghost use Rattle.std.specs.List.{AllByRecursion, fold};
-ghost use Rattle.std.specs.Str.{bytes_eq};
 ghost use Rattle.indexmap.specs.IndexMap as by_key;
-ghost use Rattle.ld_base.specs.Roomy.{Roomy};
 ghost use Rattle.ld_globals.specs.Kept.{DeclareOnce, Extends, IsWhole, declaring, uri_and_declaration, pairs_of};
 ghost use Rattle.ld_globals.specs.Store.{Agrees, Differs, IsFirstToDiffer, with_declared};
 ghost use Rattle.ld_globals.specs.declared.declared.Declared.{Declared};

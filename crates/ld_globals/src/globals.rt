@@ -1,5 +1,5 @@
 //! The store of global values.
-ghost use Rattle.std.specs.Prelude.{◌≡◌, ◌≤◌, ◌<◌, ◌+◌, [], ℕ, option_map, option_copied, Some, None, Ok, Err, OnOk, OnErr, IfOk, IfErr, ◌≢◌, ◌↔◌, Contains, IsTrue, length, map};
+ghost use Rattle.std.specs.Prelude.{◌≡◌, ◌≤◌, ◌<◌, ◌+◌, [], option_map, Some, None, Ok, Err, OnOk, OnErr, IfOk, IfErr, ◌↔◌, Contains, IsTrue, length};
 ghost use Rattle.std.specs.List.{AllByRecursion, IsDistinct};
 ghost use Rattle.std.specs.Map.{keys_of};
 ghost use Rattle.std.specs.Str.{bytes_eq};

@@ -1,12 +1,11 @@
 //! The numbers by which a key is kept.
-ghost use Rattle.std.specs.Prelude.{◌≡◌, Some, None, IfSome, map, option_map, option_copied};
+ghost use Rattle.std.specs.Prelude.{◌≡◌, Some, None, IfSome, option_map, option_copied};
 ghost use Rattle.std.specs.List.{AllByRecursion};
 ghost use Rattle.std.specs.Map.{lookup};
-ghost use Rattle.std.specs.Str.{bytes_eq};
 ghost use Rattle.ld_globals.specs.declared.declared.Declared.{Declared};
 ghost use Rattle.ld_globals.specs.Answers.{key_given};
-ghost use Rattle.ld_globals.specs.Kept.{IsUriNumber, writes_of, IsCell, IsNumberOf, IsNumbering, IsPersonNumber, IsUnknown, write_of, written_of};
-ghost use Rattle.ld_globals.specs.Store.{key_at, same_key};
+ghost use Rattle.ld_globals.specs.Kept.{IsUriNumber, writes_of, IsCell, IsNumbering, IsPersonNumber, IsUnknown, write_of};
+ghost use Rattle.ld_globals.specs.Store.{same_key};
 
 use crate::cell::Cell;
 use crate::declared::Declared;

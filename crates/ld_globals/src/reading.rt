@@ -1,7 +1,6 @@
 //! Reading the value that a key is to be set to.
-ghost use Rattle.std.specs.Prelude.{◌≡◌, ◌≢◌, Ok, Err, IfOk, IfErr, is_some};
+ghost use Rattle.std.specs.Prelude.{◌≡◌, Ok, Err, IfOk, IfErr, is_some};
 ghost use Rattle.ld_value.specs.Datum.{datum_of};
-ghost use Rattle.ld_globals.specs.Declarations.{declaration_of, suits as is_suited};
 ghost use Rattle.ld_globals.specs.Kept.{read_in};
 ghost use Rattle.ld_globals.specs.Store.{IsRefused};
 

@@ -1,17 +1,16 @@
 //! Writing a value, part by part. What it takes was reserved.
-ghost use Rattle.std.specs.Prelude.{◌≡◌, ◌≢◌, ◌≤◌, ◌<◌, ◌+◌, ◌++◌, List, ℕ, Some, IsTrue, length, map, slice_get, option_map, option_copied, is_some, IfOk, OnErr};
+ghost use Rattle.std.specs.Prelude.{◌≡◌, ◌≤◌, ◌<◌, ◌+◌, ◌++◌, List, ℕ, Some, length, slice_get, option_map, IfOk, OnErr};
 ghost use Rattle.std.specs.List.{AllByRecursion, IsDistinct, position_or_len};
-ghost use Rattle.std.specs.Map.{keys_of, lookup};
+ghost use Rattle.std.specs.Map.{keys_of};
 ghost use Rattle.std.specs.Option.{option_eq};
 ghost use Rattle.std.specs.Str.{bytes_eq};
 ghost use Rattle.indexmap.specs.IndexMap as by_key;
 ghost use Rattle.indexmap.specs.IndexSet as members;
 ghost use Rattle.ld_value.specs.Datum.{datum_of, same_datum};
-ghost use Rattle.ld_globals.specs.Declarations.{declaration_of, fits_declared, suits};
 ghost use Rattle.ld_globals.specs.Answers.{key_given};
 ghost use Rattle.ld_globals.specs.Given.{IsLent, given_text};
-ghost use Rattle.ld_globals.specs.Kept.{IsAmong, IsCell, IsNumbering, IsPersonNumber, same_number, store_of};
-ghost use Rattle.ld_globals.specs.Store.{key_at, last_stamp, next_stamp, value_at};
+ghost use Rattle.ld_globals.specs.Kept.{IsDeclaredUri, IsCell, IsNumbering, IsPersonNumber, same_number, store_of};
+ghost use Rattle.ld_globals.specs.Store.{last_stamp, next_stamp, value_at};
 ghost use Rattle.ld_globals.specs.declared.declared.Declared.{Declared};
 
 use crate::cell::Cell;
@@ -36,7 +35,7 @@ pub(crate) fn has_value(
     requires numbers { IsNumbering declared.now.entries persons.now.keys }
     requires cells { AllByRecursion (IsCell declared.now.entries persons.now.keys)
         cells.now.entries }
-    requires declared { IsAmong declared.now.entries uri.now.bytes }
+    requires declared { IsDeclaredUri declared.now.entries uri.now.bytes }
     ensures { result ≡ option_eq same_datum (value_at
         (store_of declared.now.entries persons.now.keys cells.now.entries 0 0)
         (key_given uri.now person.entry)) (option_map datum_of value.now) }

@@ -4,7 +4,7 @@ use Rattle.std.proofs.lemmas.List.{get_or_past, get_or_default, get_or_append_le
 use Rattle.std.proofs.lemmas.List.FromFn.{sum_by-map-range_with_len_more}
 use Rattle.ld_graph.specs.declared.edge.Edge.{Edge}
 use Rattle.ld_graph.specs.Edges.{Edges, Grows}
-use Rattle.ld_graph.specs.Linked.{none_at, Among, Follows, FollowsBack, AreKeyed, Holds, HoldsBack, Linkage, slots_of_site, rows_of, free_count}
+use Rattle.ld_graph.specs.Linked.{none_at, Among, Follows, FollowsBack, AreKeyed, LeadsThrough, LeadsBackThrough, Linkage, slots_of_site, rows_of, free_count}
 use Rattle.ld_graph.specs.Columns.{slots_of, edge_sites, nexts_of, befores_of, site_nexts_of, IsGraph}
 use Rattle.ld_graph.proofs.Chains.{follows_within, forget}
 use Rattle.ld_graph.proofs.Rowed.{row_edge, row_append, rows_at, rows_length, rows_past, rows_same}
@@ -87,7 +87,7 @@ module _ {slots sites next before site_next firsts site_firsts : List ℕ} {free
                 keyed = keyed_longer sites h.edges t h.keyed (λ q. omega arith) (λ e x.
                     let w = follows_within site_next (get_or site_firsts t free) h.edges h.follows e x in omega arith);
               }
-          | inr none ↦ subst (λ (z : ℕ). Holds (site_next ++ free ∷ []) (sites ++ none_at ∷ []) (get_or site_firsts z n) z) (sym none)
+          | inr none ↦ subst (λ (z : ℕ). LeadsThrough (site_next ++ free ∷ []) (sites ++ none_at ∷ []) (get_or site_firsts z n) z) (sym none)
               (let h = l.by_site none_at (inr refl) in
               let first : get_or site_firsts none_at free ≡ free = get_or_past site_firsts none_at free c in
               record {
@@ -154,7 +154,7 @@ module _ {slots sites next before site_next firsts site_firsts : List ℕ} {free
         before_len = l.before_len;
         site_next_len = l.site_next_len;
         by_slot = λ s within. elim (cases_lt s (length firsts)) [
-          | inl old ↦ subst (λ (z : ℕ). HoldsBack next before slots z s) (sym (get_or_append_left firsts (replicate more none_at) none_at s old)) (l.by_slot s old)
+          | inl old ↦ subst (λ (z : ℕ). LeadsBackThrough next before slots z s) (sym (get_or_append_left firsts (replicate more none_at) none_at s old)) (l.by_slot s old)
           | inr new ↦ record {
             edges = [];
             follows = get_or-append_right firsts (replicate more none_at) (length firsts) s none_at refl new
@@ -191,7 +191,7 @@ module _ {slots sites next before site_next firsts site_firsts : List ℕ} {free
         site_next_len = l.site_next_len;
         by_slot = l.by_slot;
         by_site = λ t key. elim (cases_lt t (length site_firsts)) [
-          | inl old ↦ subst (λ (z : ℕ). Holds site_next sites z t) (sym (get_or_append_left site_firsts (replicate more none_at) free t old)) (l.by_site t (inl old))
+          | inl old ↦ subst (λ (z : ℕ). LeadsThrough site_next sites z t) (sym (get_or_append_left site_firsts (replicate more none_at) free t old)) (l.by_site t (inl old))
           | inr new ↦ elim key [
             | inl within ↦ record {
               edges = [];
@@ -202,7 +202,7 @@ module _ {slots sites next before site_next firsts site_firsts : List ℕ} {free
                 only = λ e h. absurd h;
               };
             }
-            | inr none ↦ subst (λ (z : ℕ). Holds site_next sites z t)
+            | inr none ↦ subst (λ (z : ℕ). LeadsThrough site_next sites z t)
                 (get_or_past site_firsts t free new ∙ sym (get_or_past (site_firsts ++ replicate more none_at) t free (omega arith)))
                 (l.by_site t (inr none))
           ]

@@ -1,7 +1,7 @@
 use Rattle.std.proofs.Common.{◌≡◌, ◌≢◌, ℕ, ◌<◌, ◌⊎◌, inl, inr, List, length, get_or, set, refl, sym, ◌∙◌, ap, subst, arith}
 use Rattle.std.proofs.lemmas.Bool.{cases_eq, cases_lt}
 use Rattle.std.proofs.lemmas.List.{get_or-set_same, get_or-set_other, length-set, get_or_past, get_or_default}
-use Rattle.ld_graph.specs.Linked.{none_at, Holds, Linkage}
+use Rattle.ld_graph.specs.Linked.{none_at, LeadsThrough, Linkage}
 use Rattle.ld_graph.proofs.Moves.{moved, led_by, slot_less, slot_more}
 
 -- a column in which one entry changed
@@ -73,7 +73,7 @@ module _ {slots sites next before site_next firsts site_firsts : List ℕ} {free
         site_next_len = omega arith;
         by_slot = λ s within. slot_less next before slots (omega arith) (omega arith) (omega arith) firsts l.slots_fit l.by_slot e (get_or slots e none_at)
             there refl slot_lt firsts' front_case mid_case s (omega arith);
-        by_site = λ t key. subst (λ (z : ℕ). Holds (set site_next e z) (set sites e none_at) (get_or (set site_firsts i (get_or site_next e none_at)) t e) t) free_first_is
+        by_site = λ t key. subst (λ (z : ℕ). LeadsThrough (set site_next e z) (set sites e none_at) (get_or (set site_firsts i (get_or site_next e none_at)) t e) t) free_first_is
             (moved site_next sites (omega arith) (omega arith) (λ u. get_or site_firsts u free) Key l.by_site
             i none_at e (inl lt) (inr refl) (λ q. omega arith) (get_or_default site_firsts i free none_at lt ∙ is) some
             (λ u. get_or (set site_firsts i (get_or site_next e none_at)) u e)
@@ -135,7 +135,7 @@ module _ {slots sites next before site_next firsts site_firsts : List ℕ} {free
         site_next_len = omega arith;
         by_slot = λ t within. slot_more next before slots (omega arith) (omega arith) (omega arith) firsts l.slots_fit l.by_slot free s
             there (l.no_slot free no_site) slot_lt t (omega arith);
-        by_site = λ t key. subst (λ (z : ℕ). Holds (set site_next free z) (set sites free i) (get_or (set site_firsts i free) t (get_or site_next free none_at)) t)
+        by_site = λ t key. subst (λ (z : ℕ). LeadsThrough (set site_next free z) (set sites free i) (get_or (set site_firsts i free) t (get_or site_next free none_at)) t)
             (get_or_default site_firsts i free none_at lt)
             (moved site_next sites (omega arith) (omega arith) (λ u. get_or site_firsts u free) Key l.by_site
             none_at i free (inr refl) (inl lt) (λ q. omega arith) free_first_is some

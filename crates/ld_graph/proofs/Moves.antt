@@ -1,7 +1,7 @@
 use Rattle.std.proofs.Common.{◌≡◌, ◌≢◌, ℕ, ◌<◌, ◌≤◌, ◌⊎◌, inl, inr, List, [], ◌∷◌, ◌++◌, length, get_or, set, refl, sym, ◌∙◌, ap, subst, arith}
 use Rattle.std.proofs.lemmas.Bool.{cases_eq}
 use Rattle.std.proofs.lemmas.List.{get_or-set_same, get_or-set_other, length-set, set-set}
-use Rattle.ld_graph.specs.Linked.{none_at, Among, Follows, FollowsBack, AreKeyed, Holds, HoldsBack}
+use Rattle.ld_graph.specs.Linked.{none_at, Among, Follows, FollowsBack, AreKeyed, LeadsThrough, LeadsBackThrough}
 use Rattle.ld_graph.proofs.Chains.{Fresh, among_split, among_left, among_right, among_cases, follows_fresh, follows_within, follows_kept, forget, back_kept, prior_in, next_in, first_after, back_removed, back_pushed}
 
 -- a number that is in the list and one that is not
@@ -74,7 +74,7 @@ led next first e (x ∷ xs) f is some =
 
 -- the first edge of one list goes to the head of another
 module _ (next keys : List ℕ) (fits : length next ≤ none_at) (same : length keys ≡ length next)
-    (first : ℕ → ℕ) (Key : ℕ → Type 0) (holds : (t : ℕ) → Key t → Holds next keys (first t) t)
+    (first : ℕ → ℕ) (Key : ℕ → Type 0) (holds : (t : ℕ) → Key t → LeadsThrough next keys (first t) t)
     (from to e : ℕ) (key_from : Key from) (key_to : Key to) (apart : from ≢ to) (is : first from ≡ e) (some : e ≢ none_at) where
   -- the edge has the key of the list that it leads
   pub led_by : (e < length keys) × (get_or keys e none_at ≡ from)
@@ -86,9 +86,9 @@ module _ (next keys : List ℕ) (fits : length next ≤ none_at) (same : length 
 
   pub moved : (first' : ℕ → ℕ) → first' from ≡ get_or next e none_at → first' to ≡ e
       → ((t : ℕ) → Key t → t ≢ from → t ≢ to → first' t ≡ first t)
-      → (t : ℕ) → Key t → Holds (set next e (first to)) (set keys e to) (first' t) t
+      → (t : ℕ) → Key t → LeadsThrough (set next e (first to)) (set keys e to) (first' t) t
   moved first' left come others t key = elim (cases_eq t from) [
-    | inl at_from ↦ subst (λ (z : ℕ). Holds (set next e (first to)) (set keys e to) (first' z) z) (sym at_from)
+    | inl at_from ↦ subst (λ (z : ℕ). LeadsThrough (set next e (first to)) (set keys e to) (first' z) z) (sym at_from)
         (let h = holds from key_from in
         let l = led next (first from) e h.edges h.follows is some in
         let fresh : Fresh (e ∷ l.0) = follows_fresh next fits (first from) (e ∷ l.0) (subst (λ (z : List ℕ). Follows next (first from) z) l.1 h.follows) in
@@ -99,7 +99,7 @@ module _ (next keys : List ℕ) (fits : length next ≤ none_at) (same : length 
           keyed = keyed_less keys e to led_by.0 [] l.0 from (subst (λ (z : List ℕ). AreKeyed keys z from) l.1 h.keyed) apart fresh.0;
         })
     | inr not_from ↦ elim (cases_eq t to) [
-      | inl at_to ↦ subst (λ (z : ℕ). Holds (set next e (first to)) (set keys e to) (first' z) z) (sym at_to)
+      | inl at_to ↦ subst (λ (z : ℕ). LeadsThrough (set next e (first to)) (set keys e to) (first' z) z) (sym at_to)
           (let h = holds to key_to in
           let new : Among h.edges e → ⊥ = λ a. apart (sym led_by.1 ∙ h.keyed.only e a) in
           let lt = led_by.0 in
@@ -134,7 +134,7 @@ first_in next before prior first (x ∷ xs) f = inr (inl (sym f.0))
 -- the lists of the slots
 module _ (next before keys : List ℕ) (fits : length next ≤ none_at) (same_keys : length keys ≡ length next) (same_before : length before ≡ length next)
     (firsts : List ℕ) (slots_fit : length firsts ≤ none_at)
-    (holds : (s : ℕ) → s < length firsts → HoldsBack next before keys (get_or firsts s none_at) s) where
+    (holds : (s : ℕ) → s < length firsts → LeadsBackThrough next before keys (get_or firsts s none_at) s) where
   -- an edge of one slot is in no list of another
   apart_from : (s t : ℕ) (a : s < length firsts) (b : t < length firsts) → s ≢ t → (x : ℕ)
       → (x ≡ none_at) ⊎ Among (holds s a).edges x → Among (holds t b).edges x → ⊥
@@ -171,7 +171,7 @@ module _ (next before keys : List ℕ) (fits : length next ≤ none_at) (same_ke
   -- an edge is taken out of the list of its slot
   pub slot_less : (e s : ℕ) → e < length keys → get_or keys e none_at ≡ s → s < length firsts → (firsts' : List ℕ)
       → (get_or before e none_at ≡ none_at → firsts' ≡ set firsts s (get_or next e none_at)) → (get_or before e none_at ≢ none_at → firsts' ≡ firsts)
-      → (t : ℕ) → t < length firsts → HoldsBack (set next (get_or before e none_at) (get_or next e none_at)) (set before (get_or next e none_at) (get_or before e none_at))
+      → (t : ℕ) → t < length firsts → LeadsBackThrough (set next (get_or before e none_at) (get_or next e none_at)) (set before (get_or next e none_at) (get_or before e none_at))
       (set keys e none_at) (get_or firsts' t none_at) t
   slot_less e s there is lt firsts' front_case mid_case t within =
       let h = holds s lt in
@@ -181,7 +181,7 @@ module _ (next before keys : List ℕ) (fits : length next ≤ none_at) (same_ke
       let one_way : Follows next (get_or firsts s none_at) (p.0 ++ e ∷ p.1) = forget next before none_at (get_or firsts s none_at) (p.0 ++ e ∷ p.1) f in
       let fresh : Fresh (p.0 ++ e ∷ p.1) = follows_fresh next fits (get_or firsts s none_at) (p.0 ++ e ∷ p.1) one_way in
       elim (cases_eq t s) [
-        | inl here ↦ subst (λ (z : ℕ). HoldsBack (set next (get_or before e none_at) (get_or next e none_at)) (set before (get_or next e none_at) (get_or before e none_at))
+        | inl here ↦ subst (λ (z : ℕ). LeadsBackThrough (set next (get_or before e none_at) (get_or next e none_at)) (set before (get_or next e none_at) (get_or before e none_at))
             (set keys e none_at) (get_or firsts' z none_at) z) (sym here)
             (record {
               edges = p.0 ++ p.1;
@@ -217,14 +217,14 @@ module _ (next before keys : List ℕ) (fits : length next ≤ none_at) (same_ke
 
   -- an edge of no slot is put before the first of a slot
   pub slot_more : (e s : ℕ) → e < length keys → get_or keys e none_at ≡ none_at → s < length firsts
-      → (t : ℕ) → t < length firsts → HoldsBack (set next e (get_or firsts s none_at)) (set (set before e none_at) (get_or firsts s none_at) e)
+      → (t : ℕ) → t < length firsts → LeadsBackThrough (set next e (get_or firsts s none_at)) (set (set before e none_at) (get_or firsts s none_at) e)
       (set keys e s) (get_or (set firsts s e) t none_at) t
   slot_more e s there is lt t within =
       let new : (u : ℕ) (b : u < length firsts) → Among (holds u b).edges e → ⊥ = λ u b a. let q : get_or keys e none_at ≡ u = (holds u b).keyed.only e a in omega arith in
       let h = holds s lt in
       let fresh : Fresh h.edges = follows_fresh next fits (get_or firsts s none_at) h.edges (forget next before none_at (get_or firsts s none_at) h.edges h.follows) in
       elim (cases_eq t s) [
-        | inl here ↦ subst (λ (z : ℕ). HoldsBack (set next e (get_or firsts s none_at)) (set (set before e none_at) (get_or firsts s none_at) e)
+        | inl here ↦ subst (λ (z : ℕ). LeadsBackThrough (set next e (get_or firsts s none_at)) (set (set before e none_at) (get_or firsts s none_at) e)
             (set keys e s) (get_or (set firsts s e) z none_at) z) (sym here)
             (record {
               edges = e ∷ h.edges;

@@ -27,13 +27,13 @@ pub record AreKeyed (keys edges : List ℕ) (key : ℕ) : Type 0 where
   pub only : (e : ℕ) → Among edges e → get_or keys e none_at ≡ key
 
 -- the links lead from the first edge through those with this key
-pub record Holds (next keys : List ℕ) (first key : ℕ) : Type 0 where
+pub record LeadsThrough (next keys : List ℕ) (first key : ℕ) : Type 0 where
   pub edges : List ℕ
   pub follows : Follows next first edges
   pub keyed : AreKeyed keys edges key
 
 -- the same, both ways
-pub record HoldsBack (next before keys : List ℕ) (first key : ℕ) : Type 0 where
+pub record LeadsBackThrough (next before keys : List ℕ) (first key : ℕ) : Type 0 where
   pub edges : List ℕ
   pub follows : FollowsBack next before none_at first edges
   pub keyed : AreKeyed keys edges key
@@ -62,8 +62,8 @@ pub record Linkage (slots sites next before site_next firsts site_firsts : List 
   pub next_len : length next ≡ length slots
   pub before_len : length before ≡ length slots
   pub site_next_len : length site_next ≡ length slots
-  pub by_slot : (s : ℕ) → s < length firsts → HoldsBack next before slots (get_or firsts s none_at) s
-  pub by_site : (t : ℕ) → (t < length site_firsts) ⊎ (t ≡ none_at) → Holds site_next sites (get_or site_firsts t free) t
+  pub by_slot : (s : ℕ) → s < length firsts → LeadsBackThrough next before slots (get_or firsts s none_at) s
+  pub by_site : (t : ℕ) → (t < length site_firsts) ⊎ (t ≡ none_at) → LeadsThrough site_next sites (get_or site_firsts t free) t
   pub slot_there : (e : ℕ) → e < length slots → get_or sites e none_at ≢ none_at → get_or slots e none_at < length firsts
   pub site_there : (e : ℕ) → e < length slots → get_or sites e none_at ≢ none_at → get_or sites e none_at < length site_firsts
   pub no_slot : (e : ℕ) → get_or sites e none_at ≡ none_at → get_or slots e none_at ≡ none_at

@@ -26,8 +26,8 @@ pub struct Dirty {
 }
 
 impl Model for Dirty {
-    ghost use Rattle.std.specs.Prelude.{◌≡◌, ℕ, ◌*◌, ◌^◌, ◌<◌, ◌≤◌, List, Bool, false, length};
-    ghost use Rattle.ld_graph.specs.Words.{bit, bits_of, lowest, AreLevels, IsTable};
+    ghost use Rattle.std.specs.Prelude.{◌≡◌, ℕ, ◌^◌, ◌<◌, ◌≤◌, List, Bool, false, length};
+    ghost use Rattle.ld_graph.specs.Words.{bits_of, lowest, IsTable};
 
     ghost Value = { List Bool };
 

@@ -1,5 +1,5 @@
 //! One edge, and the writes to a vector of edges.
-ghost use Rattle.std.specs.Prelude.{◌≡◌, ℕ, ◌<◌, ◌≤◌, ◌⊎◌, length};
+ghost use Rattle.std.specs.Prelude.{◌≡◌, ◌<◌, ◌≤◌, ◌⊎◌, length};
 ghost use Rattle.ld_graph.specs.Linked.{none_at};
 ghost use Rattle.ld_graph.specs.Columns.{ChangesNext, ChangesBefore, ChangesToFree, ChangesEdge};
 

@@ -1,5 +1,5 @@
 //! A set of pairs of a slot and a site.
-ghost use Rattle.std.specs.Prelude.{◌≡◌, ◌≢◌, ℕ, ◌+◌, ◌^◌, ◌<◌, ◌≤◌, ◌⊎◌, ◌↔◌, true, false, [], List, length, get_or, Contains, All, IfOk, OnErr};
+ghost use Rattle.std.specs.Prelude.{◌≡◌, ◌≢◌, ℕ, ◌+◌, ◌^◌, ◌<◌, ◌≤◌, ◌⊎◌, ◌↔◌, true, false, [], length, Contains, All, IfOk, OnErr};
 ghost use Rattle.ld_graph.specs.Slots.{AreDistinct};
 ghost use Rattle.ld_graph.specs.Edges.{Edges, IsLinked, Changes, Grows, SameRange, row_at, edge_room};
 ghost use Rattle.ld_graph.specs.Table.{has};

@@ -1,5 +1,5 @@
 //! Rows of bits above one another: a bit of the next row says that a word of this one is not zero.
-ghost use Rattle.std.specs.Prelude.{◌≡◌, ◌≢◌, ℕ, ◌+◌, ◌*◌, ◌/◌, ◌^◌, ◌<◌, ◌≤◌, true, false, List, length, IfOk, IfSome, IfNone};
+ghost use Rattle.std.specs.Prelude.{◌≡◌, ◌≢◌, ℕ, ◌+◌, ◌*◌, ◌/◌, ◌^◌, ◌<◌, ◌≤◌, true, false, length, IfOk, IfSome, IfNone};
 ghost use Rattle.ld_graph.specs.Words.{bit, lowest, AreLevels};
 
 use crate::level::Level;

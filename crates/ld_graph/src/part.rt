@@ -1,5 +1,5 @@
 //! How an edge leaves the list of its slot.
-ghost use Rattle.std.specs.Prelude.{◌≡◌, ◌≢◌, ℕ, ◌<◌, ◌≤◌, ◌⊎◌, length, set};
+ghost use Rattle.std.specs.Prelude.{◌≡◌, ◌≢◌, ◌<◌, ◌≤◌, ◌⊎◌, length, set};
 ghost use Rattle.ld_graph.specs.Linked.{none_at};
 ghost use Rattle.ld_graph.specs.Columns.{PassesOver};
 

@@ -1,5 +1,5 @@
 //! A list of distinct slots.
-ghost use Rattle.std.specs.Prelude.{◌≡◌, ℕ, ◌<◌, ◌≤◌, ◌⊎◌, true, false, [], ◌∷◌, ◌++◌, length, slice_get, option_copied, IfOk, Contains};
+ghost use Rattle.std.specs.Prelude.{◌≡◌, ◌<◌, ◌≤◌, ◌⊎◌, true, false, [], ◌∷◌, ◌++◌, length, slice_get, option_copied, IfOk, Contains};
 ghost use Rattle.ld_graph.specs.Slots.{AreDistinct};
 ghost use Rattle.ld_graph.specs.Buckets.{bucket_of, Emptied};
 

@@ -3,7 +3,7 @@ use Rattle.std.proofs.Common.{◌≡◌, ℕ, ◌+◌, ◌<◌, List, [], ◌∷
 use Rattle.std.proofs.lemmas.Bool.{both_ways, cases_Bool}
 use Rattle.ld_base.specs.Outside.{piece_then}
 use Rattle.ld_lines.specs.Lines.{HasNoFeed, without_blank, lines_of, ended_lines_of}
-use Rattle.ld_lines.specs.Reading.{Reading, KnowsEnd, Takes, Leaves}
+use Rattle.ld_lines.specs.Reading.{LinesRead, KnowsEnd, Takes, Leaves}
 use Rattle.ld_lines.specs.Answer.{Answer, WholeLine, OverLine}
 use Rattle.ld_lines.specs.Cutting.{Ends, FeedAt, Fetches, CutsOf, CutsOff}
 use Rattle.ld_lines.proofs.Feeds.{HasNoFeed-append}
@@ -20,7 +20,7 @@ piece_then-more xs ys (Some rest) = ap Some (sym (append_assoc xs ys rest))
 nil-append : (xs ys : List ℕ) → xs ≡ [] → ys ≡ [] → xs ++ ys ≡ []
 nil-append xs ys p q = rw (p, q) refl
 
-pub Takes-none : (r : Reading) (left : Option (List ℕ)) → Takes r left [] r left
+pub Takes-none : (r : LinesRead) (left : Option (List ℕ)) → Takes r left [] r left
 Takes-none r left = record {
   left = piece_then-nil left;
   counted = omega arith;
@@ -29,7 +29,7 @@ Takes-none r left = record {
   knows_end = λ k. k;
 }
 
-pub Takes-more : {a b c : Reading} {x y z : Option (List ℕ)} {xs ys : List ℕ} → Takes a x xs b y → Takes b y ys c z → Takes a x (xs ++ ys) c z
+pub Takes-more : {a b c : LinesRead} {x y z : Option (List ℕ)} {xs ys : List ℕ} → Takes a x xs b y → Takes b y ys c z → Takes a x (xs ++ ys) c z
 Takes-more {a} {b} {c} {x} {y} {z} {xs} {ys} p q = record {
   left = p.left ∙ ap (piece_then xs) q.left ∙ piece_then-more xs ys z;
   counted = omega (arith, length-append xs ys, p.counted, q.counted);
@@ -39,7 +39,7 @@ Takes-more {a} {b} {c} {x} {y} {z} {xs} {ys} p q = record {
 }
 
 -- What was taken stays what it was while the reading goes on among the held bytes.
-pub Takes-same : {old mid new : Reading} {before now : Option (List ℕ)} {piece : List ℕ} → Takes old before piece mid now → mid.ended ≡ false → new.taken ≡ mid.taken → KnowsEnd new now → Takes old before piece new now
+pub Takes-same : {old mid new : LinesRead} {before now : Option (List ℕ)} {piece : List ℕ} → Takes old before piece mid now → mid.ended ≡ false → new.taken ≡ mid.taken → KnowsEnd new now → Takes old before piece new now
 Takes-same {old} {mid} {new} p going count ends = record {
   left = p.left;
   counted = count ∙ p.counted;
@@ -48,7 +48,7 @@ Takes-same {old} {mid} {new} p going count ends = record {
   knows_end = λ _. ends;
 }
 
-pub Fetches-none : (r : Reading) (left : Option (List ℕ)) → r.ended ≡ false → Fetches r left r left
+pub Fetches-none : (r : LinesRead) (left : Option (List ℕ)) → r.ended ≡ false → Fetches r left r left
 Fetches-none r left going = record {
   piece = [];
   takes = Takes-none r left;
@@ -56,7 +56,7 @@ Fetches-none r left going = record {
   ended = going;
 }
 
-pub Fetches-more : {a b c : Reading} {x y z : Option (List ℕ)} → Fetches a x b y → Fetches b y c z → Fetches a x c z
+pub Fetches-more : {a b c : LinesRead} {x y z : Option (List ℕ)} → Fetches a x b y → Fetches b y c z → Fetches a x c z
 Fetches-more {a} p q = record {
   piece = p.piece ++ q.piece;
   takes = Takes-more p.takes q.takes;
@@ -65,7 +65,7 @@ Fetches-more {a} p q = record {
 }
 
 -- a cut behind the bytes that were fetched
-pub CutsOff-more : {old mid new : Reading} {before between now : Option (List ℕ)} (answer : Answer) → Fetches old before mid between → CutsOff mid between answer new now → CutsOff old before answer new now
+pub CutsOff-more : {old mid new : LinesRead} {before between now : Option (List ℕ)} (answer : Answer) → Fetches old before mid between → CutsOff mid between answer new now → CutsOff old before answer new now
 CutsOff-more {old} {mid} {new} answer p q = record {
   after_end = λ e. absurd (both_ways mid.ended p.ended (p.takes.stays_ended e));
   piece = p.piece ++ q.piece;
@@ -74,7 +74,7 @@ CutsOff-more {old} {mid} {new} answer p q = record {
 }
 
 -- a piece that is passed over: what was held and taken is a part of it
-pub record Passing (old : Reading) (before : Option (List ℕ)) (r : Reading) (now : Option (List ℕ)) : Type 0 where
+pub record Passing (old : LinesRead) (before : Option (List ℕ)) (r : LinesRead) (now : Option (List ℕ)) : Type 0 where
   pub piece : List ℕ
   pub takes : Takes old before piece r now
   pub clear : HasNoFeed (old.held ++ piece)
@@ -82,7 +82,7 @@ pub record Passing (old : Reading) (before : Option (List ℕ)) (r : Reading) (n
   pub ended : r.ended ≡ false
 
 -- What a take is depends on the count and the end alone, not on what is held.
-pub Takes-from : {r s new : Reading} {x y : Option (List ℕ)} {piece : List ℕ} → s.taken ≡ r.taken → s.ended ≡ r.ended → Takes s x piece new y → Takes r x piece new y
+pub Takes-from : {r s new : LinesRead} {x y : Option (List ℕ)} {piece : List ℕ} → s.taken ≡ r.taken → s.ended ≡ r.ended → Takes s x piece new y → Takes r x piece new y
 Takes-from {r} {s} {new} {x} {y} {piece} count ends p = record {
   left = p.left;
   counted = omega (arith, p.counted);
@@ -91,7 +91,7 @@ Takes-from {r} {s} {new} {x} {y} {piece} count ends p = record {
   knows_end = λ k. p.knows_end (λ e. k (sym ends ∙ e));
 }
 
-module _ {old r cleared new : Reading} {before x now : Option (List ℕ)} (passing : Passing old before r x)
+module _ {old r cleared new : LinesRead} {before x now : Option (List ℕ)} (passing : Passing old before r x)
     (nothing : cleared.held ≡ []) (count : cleared.taken ≡ r.taken) (ends : cleared.ended ≡ r.ended) (p : Fetches cleared x new now) where
   taken : Takes old before (passing.piece ++ p.piece) new now
   taken = Takes-more passing.takes (Takes-from count ends p.takes)
@@ -114,7 +114,7 @@ module _ {old r cleared new : Reading} {before x now : Option (List ℕ)} (passi
   }
 
   -- the first line feed among what was fetched ends the piece
-  pub Passing-cut : (at : ℕ) (cut : Reading) → FeedAt new.held (Some at) → cut.held ≡ drop (at + 1) new.held → cut.taken ≡ new.taken → cut.ended ≡ false → CutsOff old before OverLine cut now
+  pub Passing-cut : (at : ℕ) (cut : LinesRead) → FeedAt new.held (Some at) → cut.held ≡ drop (at + 1) new.held → cut.taken ≡ new.taken → cut.ended ≡ false → CutsOff old before OverLine cut now
   unfolding taken fresh all
   Passing-cut at cut (within, clear, parts) held same going = record {
     after_end = λ e. absurd (both_ways new.ended p.ended (taken.stays_ended e));
@@ -131,19 +131,19 @@ module _ {old r cleared new : Reading} {before x now : Option (List ℕ)} (passi
   }
 
 -- An ended piece makes the bytes fewer.
-pub Ends-shorter : (bytes piece : List ℕ) (r : Reading) → Ends bytes piece r → length r.held < length bytes
+pub Ends-shorter : (bytes piece : List ℕ) (r : LinesRead) → Ends bytes piece r → length r.held < length bytes
 Ends-shorter bytes piece r (clear, inl p) = omega (arith, ap length p.0, length-append piece (10 ∷ r.held))
 Ends-shorter bytes piece r (clear, inr p) = omega (arith, ap length p.0, ap length p.1)
 
-pub CutsOff-progress : {old new : Reading} {before now : Option (List ℕ)} {line : List ℕ} → CutsOff old before (WholeLine line) new now → length new.held + old.taken < length old.held + new.taken
+pub CutsOff-progress : {old new : LinesRead} {before now : Option (List ℕ)} {line : List ℕ} → CutsOff old before (WholeLine line) new now → length new.held + old.taken < length old.held + new.taken
 CutsOff-progress {old} {new} {before} {now} {line} cut =
     omega (arith, cut.takes.counted, length-append old.held cut.piece, Ends-shorter (old.held ++ cut.piece) line new cut.cuts_of.0)
 
-pub Leaves-none : (r : Reading) → Leaves r.held [] r
+pub Leaves-none : (r : LinesRead) → Leaves r.held [] r
 Leaves-none r = record { every = λ more none. refl; by_feed = λ more going. refl }
 
 -- An ended piece is a line, unless it is passed over.
-pub Leaves-piece : (bytes piece : List ℕ) (r : Reading) → Ends bytes piece r → Leaves bytes (without_blank (piece ∷ [])) r
+pub Leaves-piece : (bytes piece : List ℕ) (r : LinesRead) → Ends bytes piece r → Leaves bytes (without_blank (piece ∷ [])) r
 Leaves-piece bytes piece r (clear, inl p) = record {
   every = λ more none.
       ap (λ xs. lines_of (xs ++ more)) p.0 ∙ ap lines_of (append_assoc piece (10 ∷ r.held) more) ∙ lines_of-ended piece (r.held ++ more) clear;
@@ -158,7 +158,7 @@ Leaves-piece bytes piece r (clear, inr p) = record {
 pub not_ended : (b d : Bool) → (b ≡ true → d ≡ true) → d ≡ false → b ≡ false
 not_ended b d stays going = ⊎_elim (λ e. absurd (both_ways d going (stays e))) (λ e. e) (cases_Bool b)
 
-pub Leaves-more : {r s : Reading} {x y : Option (List ℕ)} (bytes piece : List ℕ) (lines later : List (List ℕ)) → Leaves bytes lines r → Takes r x piece s y → Leaves (r.held ++ piece) later s → Leaves (bytes ++ piece) (lines ++ later) s
+pub Leaves-more : {r s : LinesRead} {x y : Option (List ℕ)} (bytes piece : List ℕ) (lines later : List (List ℕ)) → Leaves bytes lines r → Takes r x piece s y → Leaves (r.held ++ piece) later s → Leaves (bytes ++ piece) (lines ++ later) s
 Leaves-more {r} {s} bytes piece lines later p takes q = record {
   every = λ more none.
       ap lines_of (append_assoc bytes piece more)

@@ -8,14 +8,14 @@ use Rattle.std.proofs.Common.{◌≡◌, ℕ, List, [], ◌∷◌, ◌++◌, len
 use Rattle.std.proofs.lemmas.Bool.{both_ways}
 use Rattle.ld_base.specs.Outside.{piece_then}
 use Rattle.ld_lines.specs.Lines.{lines_of, ended_lines_of}
-use Rattle.ld_lines.specs.Reading.{Reading, IsEnd, Takes, Leaves}
+use Rattle.ld_lines.specs.Reading.{LinesRead, IsEnd, Takes, Leaves}
 use Rattle.ld_lines.specs.Answer.{Answer, WholeLine, OverLine, NoLine, Fault, TooLong, HandsOut}
 use Rattle.ld_lines.specs.Handed.{Handed, Stopped, HandedOn}
 use Rattle.ld_lines.proofs.Cuts.{piece_then-nil, piece_then-more, Leaves-none, Leaves-more, not_ended}
 use Rattle.ld_lines.proofs.Pieces.{lines_of-nil}
 
 -- Nothing was taken, and nothing handed out.
-pub Handed-first : (first : Option (List ℕ)) (r : Reading) → r.held ≡ [] → r.taken ≡ 0 → r.ended ≡ false → Handed first [] [] r first
+pub Handed-first : (first : Option (List ℕ)) (r : LinesRead) → r.held ≡ [] → r.taken ≡ 0 → r.ended ≡ false → Handed first [] [] r first
 Handed-first first r nothing zero going = record {
   left = piece_then-nil first;
   counted = zero;
@@ -23,7 +23,7 @@ Handed-first first r nothing zero going = record {
   leaves = subst (λ xs. Leaves xs [] r) nothing (Leaves-none r);
 }
 
-module _ {first : Option (List ℕ)} {bytes : List ℕ} {lines : List (List ℕ)} {old new : Reading} {before now : Option (List ℕ)} (handed : Handed first bytes lines old before) (piece : List ℕ) (takes : Takes old before piece new now) where
+module _ {first : Option (List ℕ)} {bytes : List ℕ} {lines : List (List ℕ)} {old new : LinesRead} {before now : Option (List ℕ)} (handed : Handed first bytes lines old before) (piece : List ℕ) (takes : Takes old before piece new now) where
   left : first ≡ piece_then (bytes ++ piece) now
   left = handed.left ∙ ap (piece_then bytes) takes.left ∙ piece_then-more bytes piece now
 
@@ -68,7 +68,7 @@ module _ {first : Option (List ℕ)} {bytes : List ℕ} {lines : List (List ℕ)
       at_end (Some rest) is end = rw (is, end) (sym (append-nil (bytes ++ piece)))
 
 -- One more call.
-pub Handed-next : {first : Option (List ℕ)} {bytes : List ℕ} {lines : List (List ℕ)} {old new : Reading} {before now : Option (List ℕ)} (answer : Answer) → Handed first bytes lines old before → HandsOut old before answer new now → HandedOn first lines answer new now
+pub Handed-next : {first : Option (List ℕ)} {bytes : List ℕ} {lines : List (List ℕ)} {old new : LinesRead} {before now : Option (List ℕ)} (answer : Answer) → Handed first bytes lines old before → HandsOut old before answer new now → HandedOn first lines answer new now
 Handed-next (WholeLine line) handed out = (_, on handed out.piece out.takes (line ∷ []) out.bytes.1)
 Handed-next OverLine handed out = (_, out.bytes.0, out.bytes.1, on handed out.piece out.takes (out.bytes.0 ∷ []) out.bytes.2)
 Handed-next NoLine handed out =

@@ -3,7 +3,7 @@ use Rattle.std.proofs.Common.{◌≡◌, ℕ, ◌+◌, ◌<◌, ◌≤◌, ◌^�
 use Rattle.std.proofs.lemmas.Bool.{and_left, and_right, lt-leb, le-leb}
 use Rattle.std.specs.List.{list_all}
 use Rattle.ld_lines.specs.Lines.{lines_of, ended_lines_of, is_passed_over, is_blank, lines_from, line_then, HasNoFeed}
-use Rattle.ld_lines.specs.Reading.{Reading, IsEnd, KnowsEnd, Takes, Leaves}
+use Rattle.ld_lines.specs.Reading.{LinesRead, IsEnd, KnowsEnd, Takes, Leaves}
 use Rattle.ld_lines.specs.Answer.{Answer, WholeLine, OverLine, NoLine, Fault, TooLong, HandsOut}
 use Rattle.ld_lines.specs.Cutting.{CutsOff, StopsAt, answer_of_cut}
 use Rattle.ld_lines.specs.declared.stop.LineStop.{LineStop}
@@ -12,13 +12,13 @@ use Rattle.ld_lines.proofs.Pieces.{lines_of-nil, ended_lines_of-none, without_bl
 use Rattle.ld_lines.proofs.Cuts.{Takes-none, Takes-more, Ends-shorter, Leaves-none, Leaves-piece, Leaves-more, not_ended}
 
 -- What was held and taken is passed over, up to what is held now.
-pub record Passed (old : Reading) (before : Option (List ℕ)) (r : Reading) (now : Option (List ℕ)) : Type 0 where
+pub record Passed (old : LinesRead) (before : Option (List ℕ)) (r : LinesRead) (now : Option (List ℕ)) : Type 0 where
   pub piece : List ℕ
   pub takes : Takes old before piece r now
   pub leaves : Leaves (old.held ++ piece) [] r
   pub shorter : length r.held ≤ length old.held + length piece
 
-pub Passed-none : (r : Reading) (left : Option (List ℕ)) → Passed r left r left
+pub Passed-none : (r : LinesRead) (left : Option (List ℕ)) → Passed r left r left
 Passed-none r left = record {
   piece = [];
   takes = Takes-none r left;
@@ -27,12 +27,12 @@ Passed-none r left = record {
 }
 
 -- The lines of what the source had left, by those of what it has left.
-lines_from-line : {old new : Reading} {before : Option (List ℕ)} {piece line : List ℕ} (now : Option (List ℕ)) → Takes old before piece new now → Leaves (old.held ++ piece) (line ∷ []) new → KnowsEnd new now → lines_from old.held before ≡ line_then line (lines_from new.held now)
+lines_from-line : {old new : LinesRead} {before : Option (List ℕ)} {piece line : List ℕ} (now : Option (List ℕ)) → Takes old before piece new now → Leaves (old.held ++ piece) (line ∷ []) new → KnowsEnd new now → lines_from old.held before ≡ line_then line (lines_from new.held now)
 lines_from-line {old} None takes leaves ends = ap (lines_from old.held) takes.left
 lines_from-line {old} {piece = piece} (Some rest) takes leaves ends =
     ap (lines_from old.held) takes.left ∙ ap Some (ap lines_of (sym (append_assoc old.held piece rest)) ∙ leaves.every rest ends)
 
-lines_from-nil : {old new : Reading} {before : Option (List ℕ)} {piece : List ℕ} (now : Option (List ℕ)) → Takes old before piece new now → lines_of (old.held ++ piece) ≡ [] → IsEnd now → IfSome (lines_from old.held before) (λ lines. lines ≡ [])
+lines_from-nil : {old new : LinesRead} {before : Option (List ℕ)} {piece : List ℕ} (now : Option (List ℕ)) → Takes old before piece new now → lines_of (old.held ++ piece) ≡ [] → IsEnd now → IfSome (lines_from old.held before) (λ lines. lines ≡ [])
 lines_from-nil None takes none ends = rw takes.left tt
 lines_from-nil {piece = piece} (Some rest) takes none ends = rw (takes.left, ends, append-nil piece) none
 
@@ -46,7 +46,7 @@ blank : (line : List ℕ) → length line ≤ 65536 → list_all is_blank line �
 blank line short h = rw (h, le-leb (length line) 65536 short) refl
 
 -- One more piece behind what was passed over.
-module _ {old mid new : Reading} {before between now : Option (List ℕ)} (answer : Answer) (passed : Passed old before mid between) (cut : CutsOff mid between answer new now) where
+module _ {old mid new : LinesRead} {before between now : Option (List ℕ)} (answer : Answer) (passed : Passed old before mid between) (cut : CutsOff mid between answer new now) where
   abbrev taken : Takes old before (passed.piece ++ cut.piece) new now
   taken = Takes-more passed.takes cut.takes
 
@@ -70,7 +70,7 @@ module _ {old mid new : Reading} {before between now : Option (List ℕ)} (answe
       ∙ passed.leaves.by_feed cut.piece (not_ended mid.ended new.ended cut.takes.stays_ended going)
       ∙ ended_lines_of-none (mid.held ++ cut.piece) clear
 
-pub Passed-more : {old mid new : Reading} {before between now : Option (List ℕ)} {line : List ℕ} → Passed old before mid between → CutsOff mid between (WholeLine line) new now → list_all is_blank line ≡ true → Passed old before new now
+pub Passed-more : {old mid new : LinesRead} {before between now : Option (List ℕ)} {line : List ℕ} → Passed old before mid between → CutsOff mid between (WholeLine line) new now → list_all is_blank line ≡ true → Passed old before new now
 Passed-more {old} {mid} {new} {before} {between} {now} {line} passed cut all_blank =
     let ends = cut.cuts_of.0 in
     let one = Leaves-piece (mid.held ++ cut.piece) line new ends in
@@ -82,7 +82,7 @@ Passed-more {old} {mid} {new} {before} {between} {now} {line} passed cut all_bla
     }
 
 -- What `advance` answers, by what the last piece was.
-pub HandsOut-whole : {old mid new : Reading} {before between now : Option (List ℕ)} {line : List ℕ} → Passed old before mid between → CutsOff mid between (WholeLine line) new now → list_all is_blank line ≡ false → new.taken ≤ 2 ^ 40 → HandsOut old before (WholeLine line) new now
+pub HandsOut-whole : {old mid new : LinesRead} {before between now : Option (List ℕ)} {line : List ℕ} → Passed old before mid between → CutsOff mid between (WholeLine line) new now → list_all is_blank line ≡ false → new.taken ≤ 2 ^ 40 → HandsOut old before (WholeLine line) new now
 HandsOut-whole {old} {mid} {new} {before} {between} {now} {line} passed cut some limit =
     let answer = WholeLine line in
     let ends = cut.cuts_of.0 in
@@ -99,7 +99,7 @@ HandsOut-whole {old} {mid} {new} {before} {between} {now} {line} passed cut some
       limit = limit;
     }
 
-pub HandsOut-over : {old mid new : Reading} {before between now : Option (List ℕ)} → Passed old before mid between → CutsOff mid between OverLine new now → new.taken ≤ 2 ^ 40 → HandsOut old before OverLine new now
+pub HandsOut-over : {old mid new : LinesRead} {before between now : Option (List ℕ)} → Passed old before mid between → CutsOff mid between OverLine new now → new.taken ≤ 2 ^ 40 → HandsOut old before OverLine new now
 HandsOut-over {old} {mid} {new} {before} {between} {now} passed cut limit =
     let long = cut.cuts_of.0 in
     let ends = cut.cuts_of.1 in
@@ -116,7 +116,7 @@ HandsOut-over {old} {mid} {new} {before} {between} {now} passed cut limit =
       limit = limit;
     }
 
-pub HandsOut-none : {old mid new : Reading} {before between now : Option (List ℕ)} → Passed old before mid between → CutsOff mid between NoLine new now → new.taken ≤ 2 ^ 40 → HandsOut old before NoLine new now
+pub HandsOut-none : {old mid new : LinesRead} {before between now : Option (List ℕ)} → Passed old before mid between → CutsOff mid between NoLine new now → new.taken ≤ 2 ^ 40 → HandsOut old before NoLine new now
 HandsOut-none {old} {mid} {new} {before} {between} {now} passed cut limit =
     let nothing : mid.held ++ cut.piece ≡ [] = cut.cuts_of.0 in
     let told : new.ended ≡ true = cut.cuts_of.2 in
@@ -135,7 +135,7 @@ HandsOut-none {old} {mid} {new} {before} {between} {now} passed cut limit =
       limit = limit;
     }
 
-HandsOut-fault : {old mid new : Reading} {before between now : Option (List ℕ)} → Passed old before mid between → CutsOff mid between Fault new now → new.taken < 2 ^ 40 → HandsOut old before Fault new now
+HandsOut-fault : {old mid new : LinesRead} {before between now : Option (List ℕ)} → Passed old before mid between → CutsOff mid between Fault new now → new.taken < 2 ^ 40 → HandsOut old before Fault new now
 HandsOut-fault {old} {mid} {new} {before} {between} {now} passed cut below = record {
   lines = tt;
   after_end = after_end Fault passed cut;
@@ -146,7 +146,7 @@ HandsOut-fault {old} {mid} {new} {before} {between} {now} passed cut below = rec
   limit = omega arith;
 }
 
-HandsOut-too_long : {old mid new : Reading} {before between now : Option (List ℕ)} → Passed old before mid between → CutsOff mid between TooLong new now → new.taken ≡ 2 ^ 40 → HandsOut old before TooLong new now
+HandsOut-too_long : {old mid new : LinesRead} {before between now : Option (List ℕ)} → Passed old before mid between → CutsOff mid between TooLong new now → new.taken ≡ 2 ^ 40 → HandsOut old before TooLong new now
 HandsOut-too_long {old} {mid} {new} {before} {between} {now} passed cut full = record {
   lines = tt;
   after_end = after_end TooLong passed cut;
@@ -157,6 +157,6 @@ HandsOut-too_long {old} {mid} {new} {before} {between} {now} passed cut full = r
   limit = omega arith;
 }
 
-pub HandsOut-stop : {old mid new : Reading} {before between now : Option (List ℕ)} (line : List ℕ) (stop : LineStop) → Passed old before mid between → CutsOff mid between (answer_of_cut line (Err stop)) new now → StopsAt stop new.taken → HandsOut old before (answer_of_cut line (Err stop)) new now
+pub HandsOut-stop : {old mid new : LinesRead} {before between now : Option (List ℕ)} (line : List ℕ) (stop : LineStop) → Passed old before mid between → CutsOff mid between (answer_of_cut line (Err stop)) new now → StopsAt stop new.taken → HandsOut old before (answer_of_cut line (Err stop)) new now
 HandsOut-stop line ReadFault passed cut below = HandsOut-fault passed cut below
 HandsOut-stop line InputTooLong passed cut full = HandsOut-too_long passed cut full

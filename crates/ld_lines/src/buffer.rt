@@ -1,6 +1,6 @@
 //! Bytes that were taken from a source and wait in a room of fixed size.
 ghost use Rattle.std.specs.Prelude.{◌≡◌, ◌≤◌, ◌<◌, ◌+◌, ◌-◌, [], IfOk, OnErr, length, take, drop, slice_range, vec_len};
-ghost use Rattle.ld_base.specs.Outside.{Rose, piece_then};
+ghost use Rattle.ld_base.specs.Outside.{Rose};
 ghost use Rattle.ld_lines.specs.Reading.{IsEnd};
 ghost use Rattle.ld_lines.specs.Window.{Window, Fills, TakesInto};
 

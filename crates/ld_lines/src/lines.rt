@@ -1,5 +1,5 @@
 //! The lines of a source.
-ghost use Rattle.ld_lines.specs.Reading.{Reading};
+ghost use Rattle.ld_lines.specs.Reading.{LinesRead};
 
 use crate::cut::Cut;
 use crate::next::Next;
@@ -22,7 +22,7 @@ pub struct Lines {
 }
 
 impl Model for Lines {
-    ghost Value = { Reading };
+    ghost Value = { LinesRead };
 
     ghost view = { λ s. s.reader.reading };
 }

@@ -1,5 +1,5 @@
 //! The words of refusals.
-ghost use Rattle.std.specs.Prelude.{◌≡◌, Some, codes};
+ghost use Rattle.std.specs.Prelude.{◌≡◌, Some};
 ghost use Rattle.ld_lines.specs.Refusals.{HasRefusal, word_of_refusal};
 
 /// The word of the refusal of this number (docs/COMMANDS.md, "Refusals"). Takes no memory.

@@ -1,12 +1,10 @@
 //! The names of a unit's parts, and their numbers.
 #![tactic(auto, using(crate::proofs::Kept::absent_kept, crate::proofs::Kept::found_kept, crate::proofs::Kept::kept_at, crate::proofs::Kept::property_at, crate::proofs::Kept::thing_at))]
 
-ghost use Rattle.std.specs.Prelude.{◌≡◌, ◌<◌, ◌^◌, length, map, true, Some, None, IfOk, IfSome, OnOk, option_map, slice_get};
-ghost use Rattle.ld_model.specs.Roles.{roles_of};
-ghost use Rattle.ld_names.specs.Identifiers.{HasDistinctIdentifiers, identifiers_of};
+ghost use Rattle.std.specs.Prelude.{◌≡◌, ◌<◌, length, map, Some, None, IfOk, IfSome, option_map, slice_get};
+ghost use Rattle.ld_names.specs.Identifiers.{HasDistinctIdentifiers};
 ghost use Rattle.ld_parts.specs.Listing.{parts_of};
 ghost use Rattle.ld_names.specs.Names.{all_identifiers, names_of, named_by, identifier_at, rule_named, HasPart};
-ghost use Rattle.ld_names.specs.Things.{things_of};
 ghost use Rattle.ld_names.specs.ThingView.{entry_of};
 ghost use Rattle.ld_value.specs.Datum.{datum_of};
 ghost use Rattle.ld_value.specs.Values.{restrictions_of};

@@ -1,11 +1,10 @@
 //! The checks of a whole unit.
 #![tactic(auto, unfolding(crate::specs::Checks::check_faults), using(crate::proofs::Distinct::distinct, ld_json::proofs::First::first_of_both))]
 
-ghost use Rattle.std.specs.Prelude.{◌≡◌, ◌≤◌, [], true, false, IfErr, IfOk, OnOk, length};
+ghost use Rattle.std.specs.Prelude.{◌≡◌, ◌≤◌, [], true, IfErr, IfOk, OnOk, length};
 ghost use Rattle.ld_formats.specs.Units.{is_well_formed};
 ghost use Rattle.ld_json.specs.Fault.{SaysFirst};
 ghost use Rattle.ld_names.specs.Identifiers.{HasDistinctIdentifiers};
-ghost use Rattle.ld_parts.specs.Listing.{parts_of};
 ghost use Rattle.ld_names.specs.Names.{names_of};
 ghost use Rattle.ld_names.specs.Rules.{rules_of};
 ghost use Rattle.ld_refs.specs.Checks.{IsValid, check_faults, leaves_of};

@@ -3,7 +3,7 @@
 
 ghost use Rattle.std.specs.Prelude.{◌≡◌, ◌≤◌, [], false, IfErr, IfOk, OnOk, length};
 ghost use Rattle.ld_json.specs.Fault.{SaysFirst};
-ghost use Rattle.ld_names.specs.Rules.{rules_in, rules_of};
+ghost use Rattle.ld_names.specs.Rules.{rules_in};
 ghost use Rattle.ld_refs.specs.Bounds.{leaves_in};
 ghost use Rattle.ld_refs.specs.Checks.{amount_faults, meaning_faults, text_faults};
 ghost use Rattle.ld_refs.specs.Edges.{edges_of};

@@ -28,6 +28,7 @@ pub record IsNoticeOf (unit : Course) (notice : NoticeState) : Type 0 where
   pub moment : IsMoment notice.moment
   pub activity : IfSome notice.activity (λ thing. thing < length (things_of unit))
 
+-- Each of the notices has such a moment and such an activity.
 abbrev pub AreNoticesOf : Course → List NoticeState → Type 0
 AreNoticesOf unit notices = All (IsNoticeOf unit) notices
 

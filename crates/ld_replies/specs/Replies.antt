@@ -13,6 +13,7 @@ use Rattle.ld_checks.specs.Commands.{Admitted, enrols, assigns, drops, starts, o
 use Rattle.ld_checks.specs.Refusals.{Refusal, refusal_words}
 use Rattle.ld_replies.specs.Reports.{outbox_lines, report_lines}
 
+-- The verb of the command, as in its line.
 abbrev pub verb_of : Admitted → List ℕ
 verb_of (enrols _) = codes "enrol"
 verb_of (assigns _ _) = codes "assign"
@@ -55,5 +56,6 @@ abbrev pub told_line : Course → RunState → Admitted → ℕ → Sums → Lis
 told_line unit s command turns sums =
     codes "ok " ++ verb_of command ++ sums_text turns sums ++ answer_told unit s command
 
+-- The words of the refusal with spaces between them; the end of the line is not in it.
 abbrev pub refusal_text : Refusal → List ℕ
 refusal_text refusal = spaced (refusal_words refusal)

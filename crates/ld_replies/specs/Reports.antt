@@ -47,13 +47,16 @@ outbox_lines unit s p = each_numbered (notice_lines unit p) s.outbox
 
 -- ---- the report
 
+-- The moment as one word of a line; no word where there is no moment.
 abbrev pub moment_word : Option Datum → WordLine
 moment_word value = list_from (λ moment. text_of_moment moment ∷ []) (moment_of_value value)
 
+-- `role ID members=N`
 abbrev pub report_of_role : Seen → ℕ → RoleRow → List WordLine
 report_of_role seen number role =
     (codes "role" ∷ role.identifier ∷ (codes "members=" ++ decimal (length (members seen number))) ∷ []) ∷ []
 
+-- The state of a play or of the unit: what is not done is open.
 abbrev pub done_or_open : Bool → List ℕ
 done_or_open true = codes "done"
 done_or_open false = codes "open"
@@ -64,9 +67,11 @@ progress_word true opened = codes "done"
 progress_word false true = codes "open"
 progress_word false false = codes "waiting"
 
+-- The state of the act itself, or of a role-part of the act, by its identifier.
 abbrev pub progress_in : Course → Seen → Act → List ℕ → List ℕ
 progress_in unit seen act id = progress_word (is_done unit seen Run id) (is_opened unit seen act)
 
+-- `part ID STATE`
 abbrev pub report_of_part : Course → Seen → Act → RolePart → WordLine
 report_of_part unit seen act part =
     codes "part" ∷ part.identifier ∷ progress_in unit seen act part.identifier ∷ []

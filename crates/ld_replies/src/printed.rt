@@ -12,8 +12,8 @@ use ld_value::moment::{Moment, print_moment};
 use std::alloc::Global;
 use std::marker::Model;
 
-/// Lines of words, each behind the end of the line before it. They are seen by contracts as their text
-/// and their number. Where memory is wanting, a part of what was to be added may stand there.
+/// Lines of words, each behind the end of the line before it. They are seen by contracts as their
+/// text and their number. Where memory is wanting, a part of what was to be added may stand there.
 #[derive(Drop)]
 pub(crate) struct Lines {
     text: Text,

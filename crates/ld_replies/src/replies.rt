@@ -68,8 +68,8 @@ pub fn push_done<L: Ledger>(
     }
 }
 
-/// Appends what is told of a command that was refused. It takes no memory where there is room for 127
-/// bytes and the identifier that is told, if there is one, has at most 64. (docs/COMMANDS.md,
+/// Appends what is told of a command that was refused. It takes no memory where there is room for
+/// 127 bytes and the identifier that is told, if there is one, has at most 64. (docs/COMMANDS.md,
 /// "Refusals")
 ///
 /// # Errors

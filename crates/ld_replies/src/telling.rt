@@ -24,8 +24,8 @@ pub fn tell_refusal(refusal: Refusal<'_>, out: &mut Text)
     };
 }
 
-/// Empties the text and says that the line was refused. The only error is want of memory, which does
-/// not come where there is room for 128 bytes.
+/// Empties the text and says that the line was refused. The only error is want of memory, which
+/// does not come where there is room for 128 bytes.
 pub fn refuse(refusal: Refusal<'_>, out: &mut Text) -> Result<(), NoMemory>
     requires { IsPrintable (refusal_of refusal) }
     ensures text { OnOk result (out.new.bytes

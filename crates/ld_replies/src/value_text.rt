@@ -13,7 +13,8 @@ use ld_value::print::print_value;
 use ld_value::value::Value;
 use std::alloc::Global;
 
-/// Appends the value as a JSON text, or `none` where there is no value. (docs/COMMANDS.md, "Replies")
+/// Appends the value as a JSON text, or `none` where there is no value. (docs/COMMANDS.md,
+/// "Replies")
 pub fn push_value(alloc: Global, value: Option<&Value>, out: &mut Text) -> Result<(), NoMemory>
     requires { IfSome (option_map datum_of (option_copied value)) HasText }
     ensures text { OnOk result (out.new.bytes

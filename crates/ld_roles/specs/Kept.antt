@@ -19,9 +19,11 @@ pub record RosterView : Type 0 where
 abbrev pub held_in : List Bool → ℕ → Bool
 held_in held role = slice_index_or held role false
 
+-- The person of the row, with the set of the roles that the person holds.
 abbrev pub person_of : PersonRow → PersonState
 person_of row = record { name = row.name; holds = held_in row.held }
 
+-- The persons of the rows, in the same order.
 abbrev pub persons_of : List PersonRow → Persons
 persons_of rows = map person_of rows
 

@@ -13,15 +13,18 @@ use Rattle.ld_roles.specs.RoleTree.{role_numbers, with_inner, is_within, outward
 abbrev pub is_member_by : List RoleBounds → PersonState → ℕ → Bool
 is_member_by roles person role = list_any person.holds (with_inner roles role)
 
+-- The person of this number is a member of the role.
 abbrev pub is_member_among : List RoleBounds → Persons → ℕ → ℕ → Bool
 is_member_among roles persons role p =
     is_some_and (λ person. is_member_by roles person role) (slice_get persons p)
 
+-- How many members the role has, each counted once.
 abbrev pub member_count : List RoleBounds → Persons → ℕ → ℕ
 member_count roles persons role = count_by (λ person. is_member_by roles person role) persons
 
 -- ---- what stands against an assignment
 
+-- The role has as many members as it may have, or more; one without a greatest number is never full.
 abbrev pub is_full : List RoleBounds → Persons → ℕ → Bool
 is_full roles persons role = is_some_and
     (λ row. is_some_and (λ most. nat_le most (member_count roles persons role)) row.max_persons)
@@ -34,6 +37,7 @@ has_no_room_among roles persons role p =
     (λ outer. not (is_member_among roles persons outer p) && is_full roles persons outer)
     (outwards roles role)
 
+-- A person may not be in several of the roles directly within the role.
 abbrev pub is_exclusive : MatchPersons → Bool
 is_exclusive ExclusivelyInRoles = true
 is_exclusive NotExclusively = false
@@ -65,6 +69,7 @@ pub record Shortage : Type 0 where
   pub count : ℕ
   pub least : ℕ
 
+-- The role's shortage, if it has fewer members than it needs.
 abbrev pub shortage_of : List RoleBounds → Persons → ℕ → Option Shortage
 shortage_of roles persons role = do
   row ← slice_get roles role

@@ -13,9 +13,11 @@ pub record PersonState : Type 0 where
 abbrev pub Persons : Type 0
 Persons = List PersonState
 
+-- The number of the person of this name, if there is one: the place in the order of enrolment.
 abbrev pub person_number : Persons → List ℕ → Option ℕ
 person_number persons name = number_where (λ person. bytes_eq name person.name) persons
 
+-- A person of this name who holds no role.
 abbrev pub newcomer : List ℕ → PersonState
 newcomer name = record { name = name; holds = λ _. false }
 

@@ -13,6 +13,7 @@ pub record RoleBounds : Type 0 where
   pub min_persons : ℕ
   pub max_persons : Option ℕ
 
+-- The bounds of the role of this row.
 abbrev pub bounds_of : RoleRow → RoleBounds
 bounds_of row = record {
   path = row.path;

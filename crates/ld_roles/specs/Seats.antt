@@ -25,6 +25,7 @@ pub record Seated : Type 0 where
   pub roles : List RoleBounds
   pub rows : List PersonRow
 
+-- The person of this name in this seat, and of each role whether the person holds it.
 abbrev pub row_of : List ℕ × Seat → PersonRow
 row_of entry = record { name = entry.0; held = entry.1.holds.items }
 

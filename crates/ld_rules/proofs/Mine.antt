@@ -21,17 +21,17 @@ use Rattle.ld_rules.proofs.Reaching.{any_of, any_from, same_text}
 use Rattle.ld_rules.proofs.RoleNumbers.{role_there, role_named}
 
 -- What a value passes, there is.
-record Holds {A : Type 0} (test : A → Bool) (o : Option A) : Type 0 where
+record IsPassed {A : Type 0} (test : A → Bool) (o : Option A) : Type 0 where
   value : A
   is : o ≡ Some value
   passes : test value ≡ true
 
-holds_of : {A : Type 0} (test : A → Bool) (o : Option A) → is_some_and test o ≡ true → Holds test o
-holds_of test None is = absurd (false≢true is)
-holds_of test (Some x) is = record { value = x; is = refl; passes = is }
+passed_of : {A : Type 0} (test : A → Bool) (o : Option A) → is_some_and test o ≡ true → IsPassed test o
+passed_of test None is = absurd (false≢true is)
+passed_of test (Some x) is = record { value = x; is = refl; passes = is }
 
-holds_from : {A : Type 0} (test : A → Bool) (o : Option A) (x : A) → o ≡ Some x → test x ≡ true → is_some_and test o ≡ true
-holds_from test o x is passes = ap (is_some_and test) is ∙ passes
+passed_from : {A : Type 0} (test : A → Bool) (o : Option A) (x : A) → o ≡ Some x → test x ≡ true → is_some_and test o ≡ true
+passed_from test o x is passes = ap (is_some_and test) is ∙ passes
 
 -- Elements of a list that pass a test.
 one_more : {A : Type 0} (test : A → Bool) (y : A) (ys : List A) (x : A) (b : Bool) → test y ≡ b → IsIn (filter test ys) x → IsIn (filter test (y ∷ ys)) x
@@ -71,7 +71,7 @@ module _ (unit : Course) (id : List ℕ) where
   reaching_there part r there reached number =
       let role = role_there unit part.role r number in
       let found = any_from (reaches_for role.row.identifier) (role_parts_of unit) part there (and_from (bytes_eq part.role role.row.identifier) (reaches unit part id) role.named reached) in
-      let passes = holds_from (λ (row : RoleRow). role_reaches unit id row.identifier) (slice_get (roles_of unit) r) role.row role.at found in
+      let passes = passed_from (λ (row : RoleRow). role_reaches unit id row.identifier) (slice_get (roles_of unit) r) role.row role.at found in
       let below = slice_get_within (roles_of unit) r role.row role.at in
       kept role_of_number (numbers_below (length (roles_of unit))) r (in_below (length (roles_of unit)) r below) passes
 
@@ -84,7 +84,7 @@ module _ (unit : Course) (seen : Seen) (id : List ℕ) (p : ℕ) where
       let found = any_of reaches_to (role_parts_of unit) mine in
       let part = found.0 in
       let parts = and_parts (reaches unit part id) (is_member_of unit seen part.role p) found.2 in
-      let number = holds_of (λ r. is_member seen r p) (role_number unit part.role) parts.1 in
+      let number = passed_of (λ r. is_member seen r p) (role_number unit part.role) parts.1 in
       let inside = reaching_there unit id part number.value found.1 parts.0 number.is in
       any_from (λ r. is_member seen r p) (reaching_roles unit id) number.value (contains_from_in (reaching_roles unit id) number.value inside) number.passes
 
@@ -93,12 +93,12 @@ module _ (unit : Course) (seen : Seen) (id : List ℕ) (p : ℕ) where
       let found = any_of (λ r. is_member seen r p) (reaching_roles unit id) any in
       let r = found.0 in
       let passes = passing (role_of_number unit id) (numbers_below (length (roles_of unit))) r (in_from_contains (reaching_roles unit id) r found.1) in
-      let role = holds_of (λ (row : RoleRow). role_reaches unit id row.identifier) (slice_get (roles_of unit) r) passes in
+      let role = passed_of (λ (row : RoleRow). role_reaches unit id row.identifier) (slice_get (roles_of unit) r) passes in
       let reached = any_of (reaches_for unit id role.value.identifier) (role_parts_of unit) role.passes in
       let part = reached.0 in
       let parts = and_parts (bytes_eq part.role role.value.identifier) (reaches unit part id) reached.2 in
       let number = ap (role_number unit) (same_text part.role role.value.identifier parts.0) ∙ role_named unit r role.value distinct role.is in
-      any_from reaches_to (role_parts_of unit) part reached.1 (and_from (reaches unit part id) (is_member_of unit seen part.role p) parts.1 (holds_from (λ n. is_member seen n p) (role_number unit part.role) r number found.2))
+      any_from reaches_to (role_parts_of unit) part reached.1 (and_from (reaches unit part id) (is_member_of unit seen part.role p) parts.1 (passed_from (λ n. is_member seen n p) (role_number unit part.role) r number found.2))
 
   pub mine_by_roles : HasDistinctIdentifiers unit → is_mine unit seen id p ≡ list_any (λ r. is_member seen r p) (reaching_roles unit id)
   mine_by_roles distinct = both_ways (is_mine unit seen id p) (list_any (λ r. is_member seen r p) (reaching_roles unit id)) by_role (by_part distinct)

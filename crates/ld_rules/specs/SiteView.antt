@@ -13,9 +13,11 @@ use Rattle.ld_rules.specs.SiteTests.{Completing, is_latched, site_mark}
 use Rattle.ld_rules.specs.declared.completion.Completing.{Completing as CompletingOf}
 use Rattle.ld_rules.specs.declared.site.Site.{Site as SiteOf}
 
+-- The site for which the program's site stands.
 abbrev pub site_of : SiteOf → Site
 site_of site = record { rule = site.rule.0; owner = site.owner }
 
+-- What the program says of something to be completed, as it is meant.
 abbrev pub completing_of : CompletingOf → Completing
 completing_of c = record {
   owner = c.owner;

@@ -4,12 +4,11 @@
 ghost use Rattle.std.specs.Prelude.{◌≡◌, ◌+◌, ◌≤◌, is_some, length, None, option_copied, option_map};
 ghost use Rattle.std.specs.List.{last_or};
 ghost use Rattle.ld_names.specs.Names.{names_of};
-ghost use Rattle.ld_refs.specs.Extents.{act_at, play_at, role_part_at};
-ghost use Rattle.ld_expr.specs.Looks.{done_looks, members_looks};
-ghost use Rattle.ld_expr.specs.Lookup.{environment_named, is_some_and, list_from};
+ghost use Rattle.ld_refs.specs.Extents.{act_at};
+ghost use Rattle.ld_expr.specs.Lookup.{environment_named};
 ghost use Rattle.ld_expr.specs.Viewing.{HasCells, seen_by};
 ghost use Rattle.ld_rules.specs.SiteLooks.{site_act_looks, cell_list, completion_looks_if, opening_looks, site_part_looks, run_looks};
-ghost use Rattle.ld_rules.specs.SiteTests.{act_completing, act_test, is_opened, opening_cell, opening_test, part_test, play_completing, play_test, run_test, unit_completing, unit_test};
+ghost use Rattle.ld_rules.specs.SiteTests.{act_test, is_opened, opening_cell, opening_test, part_test, play_completing, play_test, run_test, unit_completing, unit_test};
 ghost use Rattle.ld_rules.specs.SiteView.{completing_of};
 
 use crate::completion::{Completing, rule_holds};

@@ -5,7 +5,6 @@ ghost use Rattle.ld_names.specs.Names.{names_of};
 ghost use Rattle.ld_names.specs.Rules.{rules_of};
 ghost use Rattle.ld_names.specs.ThingView.{entry_of};
 ghost use Rattle.ld_names.specs.Things.{things_of};
-ghost use Rattle.ld_parts.specs.Listing.{parts_of};
 ghost use Rattle.ld_refs.specs.Checks.{IsValid};
 ghost use Rattle.ld_state.specs.Beginnings.{AreOfUnit};
 ghost use Rattle.ld_state.specs.Layout.{layout_of};

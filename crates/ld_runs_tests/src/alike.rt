@@ -1,5 +1,4 @@
 //! A run all of whose cells are alike.
-ghost use Rattle.std.specs.Prelude.{◌≡◌};
 
 use ld_base::steps::Steps;
 use ld_model::cell::CellName;

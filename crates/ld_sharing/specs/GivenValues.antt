@@ -21,6 +21,7 @@ pub record GivenValue : Type 0 where
   pub person : Option (List ℕ)
   pub value : Option Datum
 
+-- The key of a write of the program, and the value that it gets.
 abbrev pub given_by : Write → GivenValue
 given_by write = record {
   uri = write.uri.bytes;
@@ -37,6 +38,7 @@ where_other store given =
 abbrev pub value_of_run : RunState → ℕ → List ℕ → GivenValue
 value_of_run s n uri = record { uri = uri; person = None; value = s.cells (property_cell n Run) }
 
+-- The value that the person has of the property of this number and uri, by the person's name.
 abbrev pub value_of_person : RunState → ℕ → List ℕ → ℕ → PersonState → GivenValue
 value_of_person s n uri p person = record {
   uri = uri;
@@ -44,6 +46,7 @@ value_of_person s n uri p person = record {
   value = s.cells (property_cell n (of_person p));
 }
 
+-- The person's value, where the store has another one.
 abbrev pub others_of_person :
     GlobalValues → RunState → ℕ → List ℕ → ℕ → PersonState → List GivenValue
 others_of_person store s n uri p person = where_other store (value_of_person s n uri p person)
@@ -53,6 +56,7 @@ abbrev pub others_of_uri : GlobalValues → RunState → ℕ → Bool → List �
 others_of_uri store s n true uri = each_numbered (others_of_person store s n uri) s.persons
 others_of_uri store s n false uri = where_other store (value_of_run s n uri)
 
+-- The same of a property; none where it has no uri.
 abbrev pub others_of_property : GlobalValues → RunState → ℕ → Property → List GivenValue
 others_of_property store s n property =
     list_from (others_of_uri store s n (is_personal property.kind)) property.uri

@@ -33,6 +33,7 @@ pub record IsShared (unit : Course) (store : Store) (n : ℕ) (uri : List ℕ) (
   pub personal_is : is_personal property.kind ≡ personal
   pub declared : declared_at store uri ≡ Some (declaration_by property)
 
+-- The owner is a person.
 abbrev pub is_person : Owner → Bool
 is_person Run = false
 is_person (Person p) = true

@@ -33,6 +33,7 @@ declaration_by property = record {
   initial = initial_of property;
 }
 
+-- The store declares the uri of the property, if it has one, with its contents.
 abbrev pub IsDeclared : Store → Property → Type 0
 IsDeclared store property =
     (uri : List ℕ) → property.uri ≡ Some uri → declared_at store uri ≡ Some (declaration_by property)

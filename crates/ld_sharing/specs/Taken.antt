@@ -31,6 +31,7 @@ abbrev pub is_value_of : ℕ → CellName → Bool
 is_value_of n (Prop p owner) = nat_eq p.0 n
 is_value_of n _ = false
 
+-- The cell is one of a property among the first so many.
 abbrev pub is_value_before : ℕ → CellName → Bool
 is_value_before n (Prop p owner) = nat_lt p.0 n
 is_value_before n _ = false

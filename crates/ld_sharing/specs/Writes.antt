@@ -17,9 +17,11 @@ abbrev pub with_shared_value : GlobalValues → List ℕ → Option (List ℕ) �
 with_shared_value store uri person value =
     λ u p. if bytes_eq u uri && option_eq bytes_eq p person then value else store u p
 
+-- The store's values, once this write is done.
 abbrev pub written_by : GlobalValues → Write → GlobalValues
 written_by store write = with_shared_value store write.uri.bytes write.person (option_map datum_of write.value)
 
+-- The write is one that the store may take.
 abbrev pub IsWritableTo : Store → Write → Type 0
 IsWritableTo store write = IsWritable store (key_at write.uri.bytes write.person) (option_map datum_of write.value)
 

@@ -78,8 +78,8 @@ pub fn give_back(globals: &mut Globals, writes: Vec<Write>)
     }
 }
 
-/// The writes of the values that differ, in the order of the properties, and of each in the order of
-/// the persons.
+/// The writes of the values that differ, in the order of the properties, and of each in the order
+/// of the persons.
 fn list_writes<L: Ledger>(
     alloc: Global,
     unit: &PreparedUnit,
@@ -127,7 +127,8 @@ fn push_property<L: Ledger>(
     )
 }
 
-/// Appends the writes of the global property's values that differ: of each person's, or of the run's.
+/// Appends the writes of the global property's values that differ: of each person's, or of the
+/// run's.
 fn push_shared<L: Ledger>(
     alloc: Global,
     unit: &PreparedUnit,

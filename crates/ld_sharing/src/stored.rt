@@ -93,7 +93,8 @@ fn shared_value<L: Ledger>(
     copy_of(alloc, read_key(globals, uri, person, steps))
 }
 
-/// Whether a property of the kind has a value for the person, or one for all where no name is given.
+/// Whether a property of the kind has a value for the person, or one for all where no name is
+/// given.
 fn is_for(kind: PropertyKind, person: Option<&Id>) -> bool
     ensures { result ≡ same_truth (is_personal kind) (is_some (option_copied person.entry)) }
 {

@@ -1,7 +1,7 @@
 //! A run takes in the store's value of one cell.
 ghost use Rattle.std.specs.Prelude.{◌≡◌, length, option_copied, true, None, Ok, IfOk, IfSome, OnOk};
 ghost use Rattle.ld_cells.specs.Stored.{held};
-ghost use Rattle.ld_globals.specs.Answers.{key_given, meaning};
+ghost use Rattle.ld_globals.specs.Answers.{key_given};
 ghost use Rattle.ld_globals.specs.Store.{IsWritable, value_at};
 ghost use Rattle.ld_model.specs.Cells.{same_cell};
 ghost use Rattle.ld_expr.specs.Seen.{property_cell};
@@ -27,8 +27,8 @@ use ld_value::value::Value;
 use std::alloc::Global;
 use std::sync::ledger::Ledger;
 
-/// Gives the owner's cell of the global property the store's value, and tells its slot where that is
-/// another one.
+/// Gives the owner's cell of the global property the store's value, and tells its slot where that
+/// is another one.
 pub(crate) fn take_value<L: Ledger>(
     alloc: Global,
     unit: &PreparedUnit,

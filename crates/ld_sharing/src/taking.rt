@@ -23,9 +23,9 @@ use ld_state::state::State;
 use std::alloc::Global;
 use std::sync::ledger::Ledger;
 
-/// Gives each cell of a global property, of the run and of each person, the store's value. The slots
-/// of the cells that get another value are told. After want of memory the state is another one with the
-/// same mark. (docs/MEANING.md, "A command")
+/// Gives each cell of a global property, of the run and of each person, the store's value. The
+/// slots of the cells that get another value are told. After want of memory the state is another
+/// one with the same mark. (docs/MEANING.md, "A command")
 pub fn take_in<L: Ledger>(
     alloc: Global,
     unit: &PreparedUnit,
@@ -55,8 +55,8 @@ pub fn take_in<L: Ledger>(
     Ok(())
 }
 
-/// Gives each cell of the property, if it is a global one, the store's value, and tells the slots of
-/// those that get another one.
+/// Gives each cell of the property, if it is a global one, the store's value, and tells the slots
+/// of those that get another one.
 fn take_property<L: Ledger>(
     alloc: Global,
     unit: &PreparedUnit,
@@ -98,8 +98,8 @@ fn take_property<L: Ledger>(
     )
 }
 
-/// Gives each person's cell of the global property the store's value, and tells the slots of those that
-/// get another one.
+/// Gives each person's cell of the global property the store's value, and tells the slots of those
+/// that get another one.
 fn take_for_persons<L: Ledger>(
     alloc: Global,
     unit: &PreparedUnit,

@@ -41,6 +41,7 @@ cell_of unit s Started = s.cells Started
 cell_of unit s (Mark r owner) = s.cells (Mark r owner)
 cell_of unit s Now = s.cells Now
 
+-- What is seen of the run: how many persons it has, and the value of each cell.
 abbrev pub seen_in : Course → RunState → Seen
 seen_in unit s = record { persons = length s.persons; value = cell_of unit s }
 
@@ -59,6 +60,7 @@ made_at seats unit store moment = record {
 
 -- ---- persons
 
+-- The owner is the person of this number.
 abbrev pub is_owned_by : ℕ → Owner → Bool
 is_owned_by p Run = false
 is_owned_by p (Person q) = nat_eq q.0 p

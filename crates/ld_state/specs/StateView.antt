@@ -62,6 +62,7 @@ run_with layout rows outbox cells = record {
   cells = own_values (cell_value_at layout (length rows) cells);
 }
 
+-- The run as it is now.
 abbrev pub run_of : StateView → RunState
 run_of s = run_with s.layout s.rows s.outbox s.cells
 
@@ -77,6 +78,7 @@ marked s = record s {
 
 -- ---- reading
 
+-- There is a cell of this name, with the persons that there are.
 abbrev pub has_cell : StateView → CellName → Bool
 has_cell s name = is_some (slot_in s.layout (length s.rows) name)
 
@@ -156,6 +158,7 @@ roles_changed s t p = filter
     (is_member_among t.roles (persons_of t.rows) r p)))
     (numbers_below (length s.roles))
 
+-- The slots of the person's `Member` cells of those roles, in their order.
 abbrev pub slots_of_membership : StateView → StateView → ℕ → List ℕ
 slots_of_membership s t p =
     slots_among s.layout (length s.rows) (map (λ r. member_cell r p) (roles_changed s t p))

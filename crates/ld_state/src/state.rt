@@ -1,5 +1,5 @@
 //! The state of a run.
-ghost use Rattle.std.specs.Prelude.{◌≡◌, ◌<◌, ◌≤◌, ◌+◌, ◌++◌, ◌∷◌, [], ℕ, List, length, map, true, false, Some, None, Option, is_some, option_map, IfOk, IfSome, OnOk, OnErr, IsOk, IsSome, vec_len, vec_capacity};
+ghost use Rattle.std.specs.Prelude.{◌≡◌, ◌<◌, ◌≤◌, ◌+◌, ◌++◌, ◌∷◌, [], length, true, false, Some, None, Option, option_map, IfOk, IfSome, OnOk, OnErr, IsOk, IsSome, vec_len, vec_capacity};
 ghost use Rattle.ld_cells.specs.Stored.{cells_of, held};
 ghost use Rattle.ld_model.specs.declared.unit.Unit.{Unit as Course};
 ghost use Rattle.ld_roles.specs.Kept.{persons_of};
@@ -34,8 +34,8 @@ use std::marker::Model;
 use std::rc::Rc;
 use std::sync::ledger::Ledger;
 
-/// The state of a run: its cells, its persons with the roles that they hold, and the notices that it
-/// has sent. Under a mark all changes can be taken back. (docs/MEANING.md, "The state of a run")
+/// The state of a run: its cells, its persons with the roles that they hold, and the notices that
+/// it has sent. Under a mark all changes can be taken back. (docs/MEANING.md, "The state of a run")
 #[derive(Drop)]
 pub struct State {
     slots: Rc<Slots>,
@@ -152,9 +152,9 @@ impl State {
     }
 
     /// The person joins, last of all, with new cells, and gets the next number. `from` is of the
-    /// run's unit, and `stored` has what the store holds of each global property for the person. The
-    /// slots of the new cells and that of `Roster` are told. A refusal, for want of memory, changes
-    /// nothing.
+    /// run's unit, and `stored` has what the store holds of each global property for the person.
+    /// The slots of the new cells and that of `Roster` are told. A refusal, for want of memory,
+    /// changes nothing.
     pub fn enrol(
         &mut self,
         alloc: Global,
@@ -194,8 +194,8 @@ impl State {
         Ok(number)
     }
 
-    /// The person holds the role from now on. The slots of the `Member` cells that change are told, in
-    /// the order of the roles. A refusal, for want of memory, changes nothing.
+    /// The person holds the role from now on. The slots of the `Member` cells that change are told,
+    /// in the order of the roles. A refusal, for want of memory, changes nothing.
     pub fn assign(
         &mut self,
         person: PersonNo,
@@ -227,9 +227,9 @@ impl State {
         Ok(())
     }
 
-    /// The person holds the role no longer. The slots of the `Member` cells that change are told, in
-    /// the order of the roles. A refusal, for want of memory, changes nothing. Whether a role would be
-    /// short of members is not asked here.
+    /// The person holds the role no longer. The slots of the `Member` cells that change are told,
+    /// in the order of the roles. A refusal, for want of memory, changes nothing. Whether a role
+    /// would be short of members is not asked here.
     pub fn drop_role(
         &mut self,
         person: PersonNo,

@@ -5,14 +5,14 @@ use Rattle.ld_base.specs.Outside.{piece_then, then_piece, AddsPrefix}
 use Rattle.ld_lines.specs.Answer.{Answer, WholeLine, OverLine, NoLine, Fault, TooLong, HandsOut}
 use Rattle.ld_lines.specs.Handed.{Handed}
 use Rattle.ld_lines.specs.Lines.{lines_of, ended_lines_of}
-use Rattle.ld_lines.specs.Reading.{Reading, IsEnd}
+use Rattle.ld_lines.specs.Reading.{LinesRead, IsEnd}
 use Rattle.ld_lines.proofs.Handed.{Handed-first, Handed-next}
 use Rattle.ld_lines.specs.declared.stop.LineStop.TheVariants.{ReadFault, InputTooLong}
 use Rattle.ld_world.specs.Answers.{AnswersLine, Leads, line_of}
 use Rattle.ld_world.specs.World.{WorldState}
 use Rattle.ld_top.specs.Answering.{AnswersWhat, Answered, AnsweredAll, AnsweredTaken, AnsweredCut, BeginsWithLines}
 
-pub record IsUnderWay (at_first : WorldState) (first : Option (List ℕ)) (before : Option (List ℕ)) (r : Reading) (left : Option (List ℕ)) (world : WorldState) (written : Option (List ℕ)) : Type 0 where
+pub record IsUnderWay (at_first : WorldState) (first : Option (List ℕ)) (before : Option (List ℕ)) (r : LinesRead) (left : Option (List ℕ)) (world : WorldState) (written : Option (List ℕ)) : Type 0 where
   pub bytes : List ℕ
   pub lines : List (List ℕ)
   pub text : List ℕ
@@ -28,7 +28,7 @@ then_both : (before : Option (List ℕ)) (a b : List ℕ) → then_piece (then_p
 then_both None a b = refl
 then_both (Some bytes) a b = ap Some (append_assoc bytes a b)
 
-pub IsUnderWay-first : (world : WorldState) (first before : Option (List ℕ)) (r : Reading) → r.held ≡ [] → r.taken ≡ 0 → r.ended ≡ false → IsUnderWay world first before r first world before
+pub IsUnderWay-first : (world : WorldState) (first before : Option (List ℕ)) (r : LinesRead) → r.held ≡ [] → r.taken ≡ 0 → r.ended ≡ false → IsUnderWay world first before r first world before
 IsUnderWay-first world first before r nothing zero going = record { bytes = []; lines = []; text = []; handed = Handed-first first r nothing zero going; led = (refl, refl); wrote = then_nothing before }
 
 -- One more line at the end.
@@ -40,7 +40,7 @@ line_of-long : (line : List ℕ) → 65536 < length line → line_of line ≡ No
 line_of-long line h = grind (arith, common_steps)
 
 -- One more line is handed out, answered, and its answer written.
-on : {at_first : WorldState} {first before : Option (List ℕ)} {old new : Reading} {left now : Option (List ℕ)} {world next : WorldState} {written after : Option (List ℕ)} (way : IsUnderWay at_first first before old left world written) (line text : List ℕ) → ((bytes : List ℕ) × Handed first bytes (way.lines ++ line ∷ []) new now) → AnswersLine world (line_of line) text next → after ≡ then_piece written text → IsUnderWay at_first first before new now next after
+on : {at_first : WorldState} {first before : Option (List ℕ)} {old new : LinesRead} {left now : Option (List ℕ)} {world next : WorldState} {written after : Option (List ℕ)} (way : IsUnderWay at_first first before old left world written) (line text : List ℕ) → ((bytes : List ℕ) × Handed first bytes (way.lines ++ line ∷ []) new now) → AnswersLine world (line_of line) text next → after ≡ then_piece written text → IsUnderWay at_first first before new now next after
 on way line text handed answers wrote = record {
   bytes = handed.0;
   lines = way.lines ++ line ∷ [];
@@ -50,7 +50,7 @@ on way line text handed answers wrote = record {
   wrote = wrote ∙ ap (λ w. then_piece w text) way.wrote ∙ then_both _ way.text text;
 }
 
-pub IsUnderWay-next : {at_first : WorldState} {first before : Option (List ℕ)} {old new : Reading} {left now : Option (List ℕ)} {world next : WorldState} {written after : Option (List ℕ)} (text : List ℕ) (way : IsUnderWay at_first first before old left world written) (answer : Answer) → HandsOut old left answer new now → AnswersWhat world answer (Ok true) text next → after ≡ then_piece written text → IsUnderWay at_first first before new now next after
+pub IsUnderWay-next : {at_first : WorldState} {first before : Option (List ℕ)} {old new : LinesRead} {left now : Option (List ℕ)} {world next : WorldState} {written after : Option (List ℕ)} (text : List ℕ) (way : IsUnderWay at_first first before old left world written) (answer : Answer) → HandsOut old left answer new now → AnswersWhat world answer (Ok true) text next → after ≡ then_piece written text → IsUnderWay at_first first before new now next after
 IsUnderWay-next text way (WholeLine line) out what wrote = on way line text (Handed-next (WholeLine line) way.handed out) what.1 wrote
 IsUnderWay-next {world = world} {next = next} text way OverLine out what wrote =
     let handed = Handed-next OverLine way.handed out in
@@ -60,7 +60,7 @@ IsUnderWay-next text way Fault out what wrote = absurd (cc what.0)
 IsUnderWay-next text way TooLong out what wrote = absurd (cc what.0)
 
 -- The bytes that are still to come get fewer with each line.
-pub falls : {old new : Reading} {left now : Option (List ℕ)} (world next : WorldState) (text : List ℕ) (answer : Answer) → HandsOut old left answer new now → AnswersWhat world answer (Ok true) text next → length new.held + old.taken < length old.held + new.taken
+pub falls : {old new : LinesRead} {left now : Option (List ℕ)} (world next : WorldState) (text : List ℕ) (answer : Answer) → HandsOut old left answer new now → AnswersWhat world answer (Ok true) text next → length new.held + old.taken < length old.held + new.taken
 falls world next text (WholeLine line) out what = out.progress
 falls world next text OverLine out what = out.progress
 falls world next text NoLine out what = absurd (cc what.0)
@@ -68,7 +68,7 @@ falls world next text Fault out what = absurd (cc what.0)
 falls world next text TooLong out what = absurd (cc what.0)
 
 -- A source that failed.
-pub stopped_by_fault : {at_first : WorldState} {first before : Option (List ℕ)} {old new : Reading} {left now : Option (List ℕ)} {world : WorldState} {written : Option (List ℕ)} (next : WorldState) (text : List ℕ) → IsUnderWay at_first first before old left world written → (answer : Answer) → HandsOut old left answer new now → AnswersWhat world answer (Err ReadFault) text next → AnsweredTaken (λ n. n < 2 ^ 40) at_first first now before written
+pub stopped_by_fault : {at_first : WorldState} {first before : Option (List ℕ)} {old new : LinesRead} {left now : Option (List ℕ)} {world : WorldState} {written : Option (List ℕ)} (next : WorldState) (text : List ℕ) → IsUnderWay at_first first before old left world written → (answer : Answer) → HandsOut old left answer new now → AnswersWhat world answer (Err ReadFault) text next → AnsweredTaken (λ n. n < 2 ^ 40) at_first first now before written
 stopped_by_fault next text way (WholeLine line) out what = absurd (cc what.0)
 stopped_by_fault next text way OverLine out what = absurd (cc what.0)
 stopped_by_fault next text way NoLine out what = absurd (cc what.0)
@@ -78,7 +78,7 @@ stopped_by_fault {at_first = at_first} {world = world} next text way Fault out w
 stopped_by_fault next text way TooLong out what = absurd (cc what.0)
 
 -- An input that is too long.
-pub stopped_by_length : {at_first : WorldState} {first before : Option (List ℕ)} {old new : Reading} {left now : Option (List ℕ)} {world : WorldState} {written : Option (List ℕ)} (next : WorldState) (text : List ℕ) → IsUnderWay at_first first before old left world written → (answer : Answer) → HandsOut old left answer new now → AnswersWhat world answer (Err InputTooLong) text next → AnsweredTaken (λ n. n ≡ 2 ^ 40) at_first first now before written
+pub stopped_by_length : {at_first : WorldState} {first before : Option (List ℕ)} {old new : LinesRead} {left now : Option (List ℕ)} {world : WorldState} {written : Option (List ℕ)} (next : WorldState) (text : List ℕ) → IsUnderWay at_first first before old left world written → (answer : Answer) → HandsOut old left answer new now → AnswersWhat world answer (Err InputTooLong) text next → AnsweredTaken (λ n. n ≡ 2 ^ 40) at_first first now before written
 stopped_by_length next text way (WholeLine line) out what = absurd (cc what.0)
 stopped_by_length next text way OverLine out what = absurd (cc what.0)
 stopped_by_length next text way NoLine out what = absurd (cc what.0)
@@ -99,7 +99,7 @@ told_end (Some all) at_first bytes now before written (inr e) below answered =
     (e.1, rw same below, subst (λ b. Answered at_first (lines_of b) before written) (sym same) answered)
 
 -- A source that told its end.
-pub ended_well : {at_first : WorldState} {first before : Option (List ℕ)} {old new : Reading} {left now : Option (List ℕ)} {world : WorldState} {written : Option (List ℕ)} (next : WorldState) (text : List ℕ) → IsUnderWay at_first first before old left world written → (answer : Answer) → HandsOut old left answer new now → AnswersWhat world answer (Ok false) text next → AnsweredAll at_first first now before written
+pub ended_well : {at_first : WorldState} {first before : Option (List ℕ)} {old new : LinesRead} {left now : Option (List ℕ)} {world : WorldState} {written : Option (List ℕ)} (next : WorldState) (text : List ℕ) → IsUnderWay at_first first before old left world written → (answer : Answer) → HandsOut old left answer new now → AnswersWhat world answer (Ok false) text next → AnsweredAll at_first first now before written
 ended_well next text way (WholeLine line) out what = absurd (cc what.0)
 ended_well next text way OverLine out what = absurd (cc what.0)
 ended_well {at_first = at_first} {first = first} {before = before} {now = now} {world = world} {written = written} next text way NoLine out what =
@@ -111,14 +111,14 @@ ended_well next text way Fault out what = absurd (cc what.0)
 ended_well next text way TooLong out what = absurd (cc what.0)
 
 -- The bytes that were taken begin with the lines that were handed out.
-first_lines : {first : Option (List ℕ)} {bytes : List ℕ} {lines : List (List ℕ)} {r : Reading} {now : Option (List ℕ)} → Handed first bytes lines r now → (ended : Bool) → r.ended ≡ ended → BeginsWithLines bytes now lines
+first_lines : {first : Option (List ℕ)} {bytes : List ℕ} {lines : List (List ℕ)} {r : LinesRead} {now : Option (List ℕ)} → Handed first bytes lines r now → (ended : Bool) → r.ended ≡ ended → BeginsWithLines bytes now lines
 first_lines {bytes = bytes} {lines = lines} {r = r} handed false going =
     (ended_lines_of r.held, inl (rw (append-nil bytes, append-nil r.held) at (handed.leaves.by_feed [] going)))
 first_lines {bytes = bytes} {lines = lines} {r = r} handed true told =
     (lines_of r.held, inr (handed.knows_end told, rw (append-nil bytes, append-nil r.held) at (handed.leaves.every [] (λ _. refl))))
 
 -- One more line was handed out, and its answer was begun.
-begun : {at_first : WorldState} {first before : Option (List ℕ)} {old new : Reading} {left now : Option (List ℕ)} {world : WorldState} {written after : Option (List ℕ)} (next : WorldState) (way : IsUnderWay at_first first before old left world written) (line text : List ℕ) → ((bytes : List ℕ) × Handed first bytes (way.lines ++ line ∷ []) new now) → new.taken ≤ 2 ^ 40 → AnswersLine world (line_of line) text next → AddsPrefix written text after → AnsweredCut at_first first now before after
+begun : {at_first : WorldState} {first before : Option (List ℕ)} {old new : LinesRead} {left now : Option (List ℕ)} {world : WorldState} {written after : Option (List ℕ)} (next : WorldState) (way : IsUnderWay at_first first before old left world written) (line text : List ℕ) → ((bytes : List ℕ) × Handed first bytes (way.lines ++ line ∷ []) new now) → new.taken ≤ 2 ^ 40 → AnswersLine world (line_of line) text next → AddsPrefix written text after → AnsweredCut at_first first now before after
 begun {new = new} {world = world} {after = after} next way line text handed limit answers adds = (
   handed.0,
   handed.1.left,
@@ -130,7 +130,7 @@ begun {new = new} {world = world} {after = after} next way line text handed limi
 )
 
 -- A sink that failed.
-pub stopped_by_sink : {at_first : WorldState} {first before : Option (List ℕ)} {old new : Reading} {left now : Option (List ℕ)} {world : WorldState} {written after : Option (List ℕ)} (next : WorldState) (text : List ℕ) → IsUnderWay at_first first before old left world written → (answer : Answer) → HandsOut old left answer new now → AnswersWhat world answer (Ok true) text next → AddsPrefix written text after → AnsweredCut at_first first now before after
+pub stopped_by_sink : {at_first : WorldState} {first before : Option (List ℕ)} {old new : LinesRead} {left now : Option (List ℕ)} {world : WorldState} {written after : Option (List ℕ)} (next : WorldState) (text : List ℕ) → IsUnderWay at_first first before old left world written → (answer : Answer) → HandsOut old left answer new now → AnswersWhat world answer (Ok true) text next → AddsPrefix written text after → AnsweredCut at_first first now before after
 stopped_by_sink next text way (WholeLine line) out what adds = begun next way line text (Handed-next (WholeLine line) way.handed out) out.limit what.1 adds
 stopped_by_sink {world = world} next text way OverLine out what adds =
     let handed = Handed-next OverLine way.handed out in

@@ -4,6 +4,7 @@ use Rattle.std.specs.List.{list_any}
 use Rattle.ld_top.specs.declared.ending.Ending.{Ending}
 use Rattle.ld_top.specs.declared.ending.Ending.TheVariants.{Done, BadWords, ShelfFault, UnitRefused, ReadFault, WriteFault, NoMemory, InputTooLong}
 
+-- The status of each ending.
 abbrev pub number_of : Ending → ℕ
 number_of Done = 0
 number_of BadWords = 2
@@ -14,6 +15,7 @@ number_of WriteFault = 6
 number_of NoMemory = 7
 number_of InputTooLong = 8
 
+-- The word that is written on standard error; none where the input was read to its end.
 abbrev pub ending_word : Ending → List ℕ
 ending_word Done = []
 ending_word BadWords = codes "bad-words"
@@ -24,6 +26,7 @@ ending_word WriteFault = codes "write-fault"
 ending_word NoMemory = codes "no-memory"
 ending_word InputTooLong = codes "input-too-long"
 
+-- The number is one of these.
 abbrev pub IsOneOf : List ℕ → ℕ → Type 0
 IsOneOf numbers n = IsTrue (list_any (λ m. m == n) numbers)
 

@@ -46,23 +46,28 @@ file_fault code file = record { file = file; place = []; code = code }
 
 -- ---- they are there and not too big
 
+-- A file that each unit has is not there, or a file has more than 4,194,304 bytes.
 abbrev pub presence_fault : FileNo → Option (List ℕ) → List Told
 presence_fault file None = if is_required file then file_fault Absent file ∷ [] else []
 presence_fault file (Some bytes) = if nat_lt 4194304 (length bytes) then file_fault TooBig file ∷ [] else []
 
+-- Such faults of the six files, in their order.
 unfoldable pub presence_faults : Held → List Told
 presence_faults held = flat_map (λ file. presence_fault file (held file)) all_files
 
 -- ---- they are JSON
 
+-- The file is not JSON, where no JSON value was read from its bytes.
 abbrev pub tree_fault : FileNo → Option Data → List Told
 tree_fault file None = file_fault NotJson file ∷ []
 tree_fault file (Some _) = []
 
+-- The file is there, and is not JSON.
 abbrev pub json_fault : FileNo → Option (List ℕ) → List Told
 json_fault file None = []
 json_fault file (Some bytes) = tree_fault file (json_of bytes)
 
+-- Such faults of the six files, in their order.
 unfoldable pub json_faults : Held → List Told
 json_faults held = flat_map (λ file. json_fault file (held file)) all_files
 
@@ -80,10 +85,12 @@ shape_faults docs = (unit.reading docs).faults
 unfoldable pub unit_of : Docs → Option Course
 unit_of docs = (unit.reading docs).value
 
+-- What the checks find in the unit, if there is one.
 abbrev pub faults_of_unit : Option Course → List Told
 faults_of_unit None = []
 faults_of_unit (Some unit) = check_faults unit
 
+-- The faults of the documents' shapes, and then what the checks find in the unit for which they stand.
 unfoldable pub document_faults : Docs → List Told
 document_faults docs = shape_faults docs ++ faults_of_unit (unit_of docs)
 
@@ -96,6 +103,6 @@ folder_faults files folder =
     ++ (json_faults (held_by_folder files folder)
     ++ document_faults (docs_in (held_by_folder files folder)))
 
--- The unit of the folder, where it has no fault.
+-- The unit for which the documents of the folder stand, if they stand for one.
 unfoldable pub unit_of_folder : Files → List ℕ → Option Course
 unit_of_folder files folder = unit_of (docs_in (held_by_folder files folder))

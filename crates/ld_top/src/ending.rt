@@ -1,5 +1,5 @@
 //! How a call of the program ends.
-ghost use Rattle.std.specs.Prelude.{◌≡◌, codes};
+ghost use Rattle.std.specs.Prelude.{◌≡◌};
 ghost use Rattle.ld_top.specs.Endings.{IsStatus, number_of, ending_word};
 
 /// How a call ends. Each ending has a number, which is the exit status of the program, and a word,
@@ -57,7 +57,8 @@ impl Ending {
         }
     }
 
-    /// The ending of this number. Any number that is none of an ending's is taken as that of `Done`.
+    /// The ending of this number. Any number that is none of an ending's is taken as that of
+    /// `Done`.
     pub fn numbered(number: u8) -> Ending
         ensures status { IsStatus number → number_of result ≡ number }
         ensures other { (IsStatus number → ⊥) → result ≡ Ending.Done }

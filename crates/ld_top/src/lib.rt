@@ -1,8 +1,8 @@
-//! All that the program `ld` does, over any shelf, source and sink: it reads the documents of units from
-//! folders and publishes the units, and answers lines of commands.
+//! All that the program `ld` does, over any shelf, source and sink: it reads the documents of units
+//! from folders and publishes the units, and answers lines of commands.
 //!
-//! The promise is the contract of `ld_main` (`top.rt`). What the lines of a world of units are answered
-//! stands in `ld_world`, below.
+//! The promise is the contract of `ld_main` (`top.rt`). What the lines of a world of units are
+//! answered stands in `ld_world`, below.
 #![tactic(auto)]
 
 pub mod ending;

@@ -26,12 +26,12 @@ pub enum PublishStop {
     NoMemory,
 }
 
-/// The world of the folders' units. The folders are read and their units published in their order, and no
-/// folder is read behind one that is refused. (docs/FORMATS.md, "Order of faults")
+/// The world of the folders' units. The folders are read and their units published in their order,
+/// and no folder is read behind one that is refused. (docs/FORMATS.md, "Order of faults")
 ///
 /// # Errors
-/// `Refused` with the number of the first folder that is refused and its fault, `ShelfFault` only where
-/// the shelf's count of faults rose, and `NoMemory`.
+/// `Refused` with the number of the first folder that is refused and its fault, `ShelfFault` only
+/// where the shelf's count of faults rose, and `NoMemory`.
 pub fn publish_folders<H: Shelf>(
     alloc: Global,
     shelf: &mut H,
@@ -63,8 +63,8 @@ pub fn publish_folders<H: Shelf>(
 /// Publishes the unit of the folder beside those that are published.
 ///
 /// # Errors
-/// As `read_folder`; the fault of `Refused` is the folder's first, or, where it has none, the first of its
-/// unit beside the others. The world is left as it was.
+/// As `read_folder`; the fault of `Refused` is the folder's first, or, where it has none, the first
+/// of its unit beside the others. The world is left as it was.
 fn publish_folder<H: Shelf>(
     alloc: Global,
     shelf: &mut H,
@@ -91,13 +91,15 @@ fn publish_folder<H: Shelf>(
     }
 }
 
-/// The room that is taken once before folders are read, in bytes: more than their files mostly take.
+/// The room that is taken once before folders are read, in bytes: more than their files mostly
+/// take.
 const FIRST_ROOM: usize = 32_000_000;
 
-/// Takes this room and gives it back at once, where there is so much. The C library's allocator hands
-/// a large block back to the system as soon as it is free, until it has seen that blocks of its size
-/// come and go: behind this it keeps what files give back, and uses it again for what is made of
-/// them. Fewer pages are asked for so; where memory is limited, some 2 MB more may be held at once.
+/// Takes this room and gives it back at once, where there is so much. The C library's allocator
+/// hands a large block back to the system as soon as it is free, until it has seen that blocks of
+/// its size come and go: behind this it keeps what files give back, and uses it again for what is
+/// made of them. Fewer pages are asked for so; where memory is limited, some 2 MB more may be held
+/// at once.
 fn accustom_allocator(alloc: Global) {
     let room: Result<Vec<u8>, AllocError> = Vec::with_capacity(alloc, FIRST_ROOM);
     drop(room);

@@ -1,6 +1,6 @@
 //! Answering the lines of a source, one after the other.
-ghost use Rattle.std.specs.Prelude.{◌≡◌, ◌≤◌, ◌<◌, ℕ, [], ◌∷◌, false, true, Err, Ok, Option, List, None, ◌^◌};
-ghost use Rattle.ld_base.specs.Outside.{Rose, then_piece};
+ghost use Rattle.std.specs.Prelude.{◌≡◌, ◌≤◌, ◌<◌, [], false, true, Err, Ok, ◌^◌};
+ghost use Rattle.ld_base.specs.Outside.{Rose};
 ghost use Rattle.ld_base.specs.Roomy.{room_of};
 ghost use Rattle.ld_lines.specs.Answer.{Answer, HandsOut};
 ghost use Rattle.ld_top.specs.Answering.{AnswersWhat, AnsweredAll, AnsweredTaken, AnsweredCut, IsEndOfLines};
@@ -53,8 +53,8 @@ fn answer_next<S: Source, L: Ledger>(
     }
 }
 
-/// Answers the lines of the source, from its first byte on, until it ends or something fails. Where the
-/// sink failed a beginning of the last reply was written.
+/// Answers the lines of the source, from its first byte on, until it ends or something fails. Where
+/// the sink failed a beginning of the last reply was written.
 fn answer_lines<S: Source, K: Sink, L: Ledger>(
     alloc: Global,
     lines: &mut Lines,
@@ -98,8 +98,9 @@ fn answer_lines<S: Source, K: Sink, L: Ledger>(
     }
 }
 
-/// Answers the lines of the source, before any of which the world has units alone. Where memory is wanting
-/// nothing was taken and nothing was written.
+/// Answers the lines of the source, before any of which the world has units alone. Where memory is
+/// wanting nothing was taken and nothing was written. Else the world is not given back: it is
+/// forgotten, since the process ends behind this.
 pub fn replay<S: Source, K: Sink, L: Ledger>(
     alloc: Global,
     world: World,

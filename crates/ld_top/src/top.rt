@@ -1,13 +1,11 @@
 //! The top call: all that the program does.
-ghost use Rattle.std.specs.Prelude.{◌≡◌, ◌≤◌, ◌<◌, ◌^◌, ◌↔◌, ◌∷◌, [], None, Some, IfOk};
+ghost use Rattle.std.specs.Prelude.{◌≡◌, ◌≤◌, ◌<◌, ◌^◌, ◌↔◌, None, Some, IfOk};
 ghost use Rattle.ld_base.specs.Outside.{Rose, then_piece, AddsPrefix};
 ghost use Rattle.ld_json.specs.Fault.{told_by};
-ghost use Rattle.ld_top.specs.Answering.{AnsweredAll, AnsweredTaken, IsEndOfLines};
-ghost use Rattle.ld_top.specs.Endings.{IsStatus, IsRefusalEnding, IsReplayEnding, number_of, NothingWritten, NothingTaken};
+ghost use Rattle.ld_top.specs.Endings.{IsStatus, IsRefusalEnding, NothingWritten, NothingTaken};
 ghost use Rattle.ld_top.specs.Replay.{ReplayedAll, ReplayedTaken, Refused, CutShort};
 ghost use Rattle.ld_top.specs.Words.{words_of, folders_in};
 ghost use Rattle.ld_world.specs.Published.{refused_line};
-ghost use Rattle.ld_world.specs.World.{first_world};
 
 use crate::ending::Ending;
 use crate::publish::{PublishStop, publish_folders};
@@ -85,8 +83,8 @@ pub fn ld_main<H: Shelf, S: Source, K: Sink, L: Ledger>(
     Status(replay(alloc, world, input, output, steps).number())
 }
 
-/// Writes the line that tells which folder is refused, by its number, and for what. Where memory is wanting
-/// for it nothing is written, and where the sink fails a beginning of it.
+/// Writes the line that tells which folder is refused, by its number, and for what. Where memory is
+/// wanting for it nothing is written, and where the sink fails a beginning of it.
 fn refuse<K: Sink>(alloc: Global, number: usize, fault: &Fault, output: &mut K) -> Ending
     ensures endings { IsRefusalEnding result }
     ensures written { result ≡ Ending.UnitRefused → K.written output.new
@@ -109,8 +107,8 @@ fn refuse<K: Sink>(alloc: Global, number: usize, fault: &Fault, output: &mut K) 
     }
 }
 
-/// The line that tells which folder is refused: its number, and the file, the place and the code of the
-/// fault.
+/// The line that tells which folder is refused: its number, and the file, the place and the code of
+/// the fault.
 fn line_of_refusal(alloc: Global, number: usize, fault: &Fault) -> Result<Text, NoMemory>
     ensures { IfOk result (λ line. line.bytes
         ≡ refused_line (record { folder = number; fault = told_by fault.now })) }

@@ -1,7 +1,7 @@
 //! The words of a call.
 #![tactic(auto, unfolding(crate::specs::Words::folders_in))]
 
-ghost use Rattle.std.specs.Prelude.{◌≡◌, option_map, codes};
+ghost use Rattle.std.specs.Prelude.{◌≡◌, option_map};
 ghost use Rattle.std.specs.List.{list_all};
 ghost use Rattle.ld_top.specs.Words.{words_of, are_folders, folders_in, is_plain_word as plain_word};
 
@@ -12,8 +12,8 @@ use std::{env, io};
 /// The most folders that a call names.
 pub const FOLDERS_MOST: usize = 64;
 
-/// The folders of `replay FOLDER..`, or `None` where the words have no form of the program. No word of
-/// a form is empty or begins with `-`. (docs/COMMANDS.md, "Words")
+/// The folders of `replay FOLDER..`, or `None` where the words have no form of the program. No word
+/// of a form is empty or begins with `-`. (docs/COMMANDS.md, "Words")
 pub fn folders_of(words: &[String]) -> Option<&[String]>
     ensures { option_map (λ folders.
         words_of folders.now) result ≡ folders_in (words_of words.now) }
@@ -60,8 +60,8 @@ fn is_plain(word: &str) -> bool
     }
 }
 
-/// The words behind the program's name, or the ending where they could not be had: memory was wanting, or
-/// a word is not UTF-8 and so the words have no form.
+/// The words behind the program's name, or the ending where they could not be had: memory was
+/// wanting, or a word is not UTF-8 and so the words have no form.
 pub fn given_words(rt: &HostRuntime) -> Result<Vec<String>, Ending> {
     match words_behind_the_name(rt) {
         Ok(words) => Ok(words),

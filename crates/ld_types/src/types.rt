@@ -1,7 +1,6 @@
 //! The types of values, and what operations make of them.
 ghost use Rattle.std.specs.Prelude.{◌≡◌};
 ghost use Rattle.std.specs.List.{list_all};
-ghost use Rattle.ld_model.specs.Expressions.{adding, multiplying, subtracting, dividing};
 ghost use Rattle.ld_walk.specs.ExpressionParts.{comparison_word, list_operator_word, pair_operator_word};
 ghost use Rattle.ld_types.specs.Operators.{checked_comparison_of, checked_list_operator_of, checked_pair_operator_of};
 ghost use Rattle.ld_types.specs.TermFaults.{are_comparable};

@@ -1,7 +1,7 @@
 //! The types that places want.
 #![tactic(auto, unfolding(crate::specs::Typing::change_faults), using(ld_json::proofs::First::first_of_both))]
 
-ghost use Rattle.std.specs.Prelude.{◌≡◌, [], IfErr, OnOk, option_copied, option_map};
+ghost use Rattle.std.specs.Prelude.{◌≡◌, [], IfErr, OnOk, option_copied};
 ghost use Rattle.ld_json.specs.Fault.{SaysFirst};
 ghost use Rattle.ld_model.specs.Properties.{is_personal};
 ghost use Rattle.ld_walk.specs.PartView.{typed_of};

@@ -5,6 +5,7 @@ use Rattle.ld_model.specs.declared.property.Property.{Property}
 use Rattle.ld_globals.specs.Declarations.{Declaration}
 use Rattle.ld_sharing.specs.StoreView.{declaration_by}
 
+-- The uri with the declaration, if there is a uri.
 abbrev pub pairs_with : Option (List ℕ) → Declaration → List (List ℕ × Declaration)
 pairs_with None declaration = []
 pairs_with (Some uri) declaration = (uri, declaration) ∷ []

@@ -30,6 +30,7 @@ world_with units store runs = record {
   runs = map run_named_so runs;
 }
 
+-- The world for which the published units, the store and the runs of the code stand.
 abbrev pub world_of : WorldView → WorldState
 world_of w = world_with w.units w.store w.runs
 

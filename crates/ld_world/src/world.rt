@@ -96,8 +96,8 @@ impl World {
     }
 
     /// Publishes the unit beside those that are published. It is refused where one of them has its
-    /// identifier, or declares the uri of one of its properties with other contents. A refusal drops
-    /// the unit and leaves the world as it was. (docs/FORMATS.md, "Order of faults")
+    /// identifier, or declares the uri of one of its properties with other contents. A refusal
+    /// drops the unit and leaves the world as it was. (docs/FORMATS.md, "Order of faults")
     pub fn publish(&mut self, alloc: Global, unit: Checked) -> Result<(), ReadFault>
         requires first { world_of self.old ≡ first_world self.old.units }
         ensures ok { OnOk result (world_of self.new

@@ -1,5 +1,5 @@
 //! A run and the store take each other's values.
-ghost use Rattle.std.specs.Prelude.{◌≡◌, OnOk};
+ghost use Rattle.std.specs.Prelude.{OnOk};
 ghost use Rattle.ld_firing.specs.RunSystem.{IsSoundRun};
 ghost use Rattle.ld_model.specs.declared.unit.Unit.{Unit as Course};
 ghost use Rattle.ld_sharing.specs.Fitting.{HasFittingGlobals};

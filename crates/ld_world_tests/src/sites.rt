@@ -1,5 +1,5 @@
 //! The sites of a run: what one reads and does, and how all settle.
-ghost use Rattle.std.specs.Prelude.{◌≡◌, IfSome, OnOk, length, Contains};
+ghost use Rattle.std.specs.Prelude.{IfSome, OnOk, length, Contains};
 ghost use Rattle.ld_firing.specs.RunSystem.{IsSoundRun};
 ghost use Rattle.ld_names.specs.Rules.{sites_of};
 ghost use Rattle.ld_rules.specs.SiteView.{site_of};

@@ -1,6 +1,6 @@
 //! A view of one cell.
 ghost use Rattle.std.specs.Prelude.{◌≡◌, ◌<◌};
-ghost use Rattle.ld_value.specs.Datum.{datum_of, truth_datum};
+ghost use Rattle.ld_value.specs.Datum.{datum_of};
 ghost use Rattle.ld_model.specs.Cells.{same_cell};
 ghost use Rattle.ld_model.specs.declared.cell.CellName.TheVariants as names;
 

@@ -1,7 +1,7 @@
 //! The check that no environment and no structure leads to itself by its references.
 #![tactic(auto, unfolding(crate::specs::Reaching::cycle_faults), using(ld_json::proofs::First::first_of_both))]
 
-ghost use Rattle.std.specs.Prelude.{◌≡◌, [], IfErr, IfOk, OnOk, codes, map, option_map};
+ghost use Rattle.std.specs.Prelude.{◌≡◌, [], IfErr, IfOk, OnOk};
 ghost use Rattle.ld_json.specs.Fault.{SaysFirst};
 ghost use Rattle.ld_refs.specs.Edges.{edges_of};
 ghost use Rattle.ld_refs.specs.Reaching.{cycle_faults, environment_graph, graph_faults, node_number, numbers_among, structure_graph};

@@ -1,7 +1,7 @@
 //! The check of sizes: what the role-parts of a unit and the unit expand to.
 #![tactic(auto, unfolding(crate::specs::Extents::size_faults), using(ld_json::proofs::First::first_of_both))]
 
-ghost use Rattle.std.specs.Prelude.{◌≡◌, [], IfErr, OnOk, min, option_map, option_copied};
+ghost use Rattle.std.specs.Prelude.{◌≡◌, [], IfErr, OnOk, min, option_copied};
 ghost use Rattle.ld_json.specs.Fault.{SaysFirst};
 ghost use Rattle.ld_walk.specs.PartView.{what_of};
 ghost use Rattle.ld_refs.specs.Edges.{edges_of};

@@ -18,8 +18,8 @@ use std::alloc::Global;
 /// The bytes of the six files of the folder, in their order; None where one is not there.
 ///
 /// # Errors
-/// The first file that is too big or is wanting, `ShelfFault` only where the shelf's count of faults
-/// rose, and `NoMemory`. The files behind that are not asked for.
+/// The first file that is too big or is wanting, `ShelfFault` only where the shelf's count of
+/// faults rose, and `NoMemory`. The files behind that are not asked for.
 pub(super) fn read_files<H: Shelf>(
     alloc: Global,
     shelf: &mut H,

@@ -19,8 +19,8 @@ use std::alloc::Global;
 /// then they are taken as JSON, then read for their shapes, and then checked together.
 ///
 /// # Errors
-/// `Refused` with the folder's first fault, `ShelfFault` only where the shelf's count of faults rose,
-/// and `NoMemory`.
+/// `Refused` with the folder's first fault, `ShelfFault` only where the shelf's count of faults
+/// rose, and `NoMemory`.
 pub fn read_folder<H: Shelf>(
     alloc: Global,
     shelf: &mut H,

@@ -16,5 +16,5 @@ pub returns : goal.returns
 returns c =
     let declared = c.args.declared.now.entries in
     let k : KeyNumber = record { uri = c.args.number; person = c.in_ok-person.person } in
-    let number : IsNumberOf declared c.args.persons.now.keys (key_at c.args.uri.now.bytes (option_copied c.args.person)) k = record { entry = c.requires.declared.entry; there = c.requires.declared.there; same = c.requires.declared.same; person = c.in_ok-person.ensures.some } in
+    let number : IsNumberOf declared c.args.persons.now.keys (key_at c.args.uri.now.bytes (option_copied c.args.person)) k = record { uri = c.requires.declared; person = c.in_ok-person.ensures.some } in
     copied write_of c.get.result ∙ ap (option_map write_of) c.get.ensures.value ∙ sym (written-found declared c.args.persons.now.keys c.requires.numbers eq-value.it (λ a b. refl) (key_at c.args.uri.now.bytes (option_copied c.args.person)) k c.args.cells.now.entries number c.requires.cells)

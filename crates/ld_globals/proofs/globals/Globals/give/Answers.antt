@@ -53,7 +53,7 @@ invariant_of-self-2 c =
     let cell : Cell = record { value = c.args.value; number = c.next_number-number.result } in
     let d = c.requires.writable.declaration in
     let at : declared_in (map uri_and_declaration declared) c.args.uri.now.bytes ≡ Some d = ap (λ store. declared_at store c.args.uri.now.bytes) c.self.view_is ∙ c.requires.writable.declared in
-    let number : IsNumberOf declared now key k = record { entry = (c.in-Some.field-0-1.now, c.in-Some.field-0-2.now); there = c.in-Some.ensures.entry; same = lookup_key_passes (λ q. bytes_eq c.args.uri.now.bytes q.bytes) declared c.in-Some.field-0-1.now (sym c.in-Some.ensures.key); person = c.in_ok-person.ensures.number } in
+    let number : IsNumberOf declared now key k = record { uri = record { entry = (c.in-Some.field-0-1.now, c.in-Some.field-0-2.now); there = c.in-Some.ensures.entry; same = lookup_key_passes (λ q. bytes_eq c.args.uri.now.bytes q.bytes) declared c.in-Some.field-0-1.now (sym c.in-Some.ensures.key) }; person = c.in_ok-person.ensures.number } in
     let declares = declaration-is declared c.args.uri.now.bytes d c.in-Some.field-0-2.now at (sym c.in-Some.ensures.value) in
     let new = new-cell declared now key k number cell d declares c.requires.writable.suited c.requires.writable.fitting in
     let next = c.next_number-number.ensures in
@@ -87,7 +87,7 @@ returns-clause-ok c =
     let value = option_map datum_of c.args.value in
     let k : KeyNumber = record { uri = c.in-Some.uri; person = c.in_ok-person.person } in
     let cell : Cell = record { value = c.args.value; number = c.next_number-number.result } in
-    let number : IsNumberOf declared now key k = record { entry = (c.in-Some.field-0-1.now, c.in-Some.field-0-2.now); there = c.in-Some.ensures.entry; same = lookup_key_passes (λ q. bytes_eq c.args.uri.now.bytes q.bytes) declared c.in-Some.field-0-1.now (sym c.in-Some.ensures.key); person = c.in_ok-person.ensures.number } in
+    let number : IsNumberOf declared now key k = record { uri = record { entry = (c.in-Some.field-0-1.now, c.in-Some.field-0-2.now); there = c.in-Some.ensures.entry; same = lookup_key_passes (λ q. bytes_eq c.args.uri.now.bytes q.bytes) declared c.in-Some.field-0-1.now (sym c.in-Some.ensures.key) }; person = c.in_ok-person.ensures.number } in
     let distinct : IsNumbering declared now = (c.self.invariant.0.0, c.number_person.ensures.unique c.self.invariant.0.1) in
     let after = written-after declared persons added cells key k cell (subst (IsNumbering declared) is distinct) (subst (λ ps. IsNumberOf declared ps key k) is number) c.self.invariant.2 in
     let written : map (written_of declared now) c.write_cell-slot.new.cells.entries ≡ insert_entry same_key (map (written_of declared persons) cells) key (write_of cell) = subst (λ ps. map (written_of declared ps) c.write_cell-slot.new.cells.entries ≡ insert_entry same_key (map (written_of declared persons) cells) key (write_of cell)) (sym is) (ap (map (written_of declared (persons ++ added))) c.write_cell-slot.ensures.entries ∙ after) in
