@@ -1,6 +1,6 @@
-use Rattle.std.proofs.Common.{◌≡◌, ◌≢◌, ℕ, ◌+◌, ◌*◌, ◌/◌, ◌^◌, ◌<◌, ◌≤◌, inl, inr, Bool, true, false, List, [], ◌∷◌, length, get_or, set, replicate, refl, sym, ◌∙◌, ap, subst, arith}
+use Rattle.std.proofs.Common.{◌≡◌, ◌≢◌, ℕ, ◌+◌, ◌*◌, ◌/◌, ◌^◌, ◌<◌, ◌≤◌, ◌⊎◌, inl, inr, Bool, true, false, List, [], ◌∷◌, length, get_or, set, replicate, refl, sym, ◌∙◌, ap, subst, arith}
 use Rattle.std.proofs.lemmas.Bool.{cases_eq, cases_lt, false_from_ne_true}
-use Rattle.std.proofs.lemmas.List.{get_or-set_same, get_or-set_other, length-set, get_or_past, ext_get_or, length-replicate, get_or-replicate}
+use Rattle.std.proofs.lemmas.List.{get_or-set_same, get_or-set_other, length-set, get_or_past, ext_get_or, nil_from_length, length-replicate, get_or-replicate}
 use Rattle.std.proofs.lemmas.List.FromFn.{get_or-map-range_with_len, length-map-range_with_len}
 use Rattle.ld_graph.specs.Words.{bit, bits_of, Marks, AreLevels, IsTable, lowest}
 use Rattle.ld_graph.specs.Table.{has}
@@ -66,6 +66,11 @@ marks_same m covers low up = record {
   marked = λ n is. up (n / 64) ∙ m.marked n (sym (low n) ∙ is);
   full = λ w is. let was = m.full w (sym (up w) ∙ is) in (was.0, was.1, low was.0 ∙ was.2);
 }
+
+-- the row above got longer
+pub marks_more : {lower upper upper' : List ℕ} → Marks lower upper → length upper ≤ length upper'
+    → ((n : ℕ) → bit upper' n ≡ bit upper n) → Marks lower upper'
+marks_more m more up = marks_same m (let a = m.covers in omega arith) (λ _. refl) up
 
 -- no bit is set in a word that is not marked
 pub unmarked : {lower upper : List ℕ} → Marks lower upper → (k : ℕ) → bit upper (k / 64) ≡ false → bit lower k ≡ false
@@ -152,6 +157,29 @@ no_marks = record {
   marked = λ n is. absurd (apart [] n n is (no_bit n) refl);
   full = λ w is. absurd (apart [] w w is (no_bit w) refl);
 }
+
+-- a row is marked by the row above it, which has words, or neither has any
+pub marks_before : {lower upper : List ℕ} → (0 < length upper → Marks lower upper)
+    → (0 < length upper) ⊎ ((length lower ≡ 0) × (length upper ≡ 0)) → Marks lower upper
+marks_before marks (inl some) = marks some
+marks_before {lower} {upper} marks (inr none) =
+    rw (nil_from_length lower none.0, nil_from_length upper none.1) no_marks
+
+-- where the first of the levels has words there is one
+pub some_levels : (levels : List (List ℕ)) → 0 < length (lowest levels) → 0 < length levels
+some_levels [] some = some
+some_levels (level ∷ above) some = omega arith
+
+-- no bit of a row of one word is set where none of its first word is
+pub one_word : (words : List ℕ) (at : ℕ) → length words ≡ 1 → at / 64 < length words
+    → ((n : ℕ) → n / 64 ≡ at / 64 → bit words n ≡ false) → (n : ℕ) → bit words n ≡ false
+one_word words at one within none n = elim (cases_lt (n / 64) 1) [
+  | inl lt ↦ none n (omega arith)
+  | inr le ↦ bit_beyond words n (omega arith)
+]
+
+pub no_bits : (n : ℕ) → bit [] n ≡ false
+no_bits n = no_bit n
 
 pub empty_table : IsTable ([] ∷ [] ∷ [] ∷ [] ∷ []) 0
 empty_table = record {

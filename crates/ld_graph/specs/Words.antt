@@ -16,11 +16,11 @@ pub record Marks (lower upper : List ℕ) : Type 0 where
 abbrev pub lowest : List (List ℕ) → List ℕ
 lowest levels = get_or levels 0 []
 
--- each level marks the words of the one before it
+-- each level that has words marks those of the one before it
 abbrev pub AreLevels : List (List ℕ) → Type 0
 AreLevels [] = Unit {0}
 AreLevels (lower ∷ above) =
-    (length lower ≤ 2 ^ 32) × (0 < length above → Marks lower (lowest above)) × AreLevels above
+    (length lower ≤ 2 ^ 32) × (0 < length (lowest above) → Marks lower (lowest above)) × AreLevels above
 
 -- the first bits of a row, so many of them
 abbrev pub bits_of : List ℕ → ℕ → List Bool

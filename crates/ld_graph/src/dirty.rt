@@ -8,8 +8,8 @@ use ld_base::memory::NoMemory;
 use std::alloc::Global;
 use std::marker::Model;
 
-// Each level has a bit for each word of 64 bits of the one below it. For 4,000,000 sites the
-// highest level has one word, and for as many as a u32 can count it has 256.
+// Each level that has words has a bit for each word of 64 bits of the one below it. For 4,000,000
+// sites the highest level has one word, and for as many as a u32 can count it has 256.
 const LEVELS: usize = 4;
 
 /// A set of sites below a number, its range, seen by contracts as a table with one entry for each
@@ -18,22 +18,26 @@ const LEVELS: usize = 4;
 /// The bits of the sites stand in words of 64. Above them stand smaller levels, in which a bit says
 /// that a word of the level below is not zero. So `next_from` passes over the empty words below the
 /// top level without a look at them; the top level, where a word stands for 2^24 sites, is walked
-/// word by word.
+/// word by word. Levels above one of a single word take no memory: a set that first comes into
+/// range with few sites has few levels, and keeps to them. Where it is known that no site is in the
+/// set, none of them is looked at.
 #[derive(Drop)]
 pub struct Dirty {
     levels: [Level; LEVELS],
     range: u32,
+    may_have_some: bool,
 }
 
 impl Model for Dirty {
     ghost use Rattle.std.specs.Prelude.{◌≡◌, ℕ, ◌^◌, ◌<◌, ◌≤◌, List, Bool, false, length};
-    ghost use Rattle.ld_graph.specs.Words.{bits_of, lowest, IsTable};
+    ghost use Rattle.ld_graph.specs.Words.{bit, bits_of, lowest, IsTable};
 
     ghost Value = { List Bool };
 
     ghost view = { λ d. bits_of (lowest d.levels) d.range };
 
-    ghost invariant = { λ d. IsTable d.levels d.range };
+    ghost invariant = { λ d. IsTable d.levels d.range
+        × (d.may_have_some ≡ false → (n : ℕ) → bit (lowest d.levels) n ≡ false) };
 }
 
 impl Dirty {
@@ -50,6 +54,7 @@ impl Dirty {
                 Level::new(alloc),
             ],
             range: 0,
+            may_have_some: false,
         };
         dirty.grow(sites)?;
         Ok(dirty)
@@ -61,6 +66,7 @@ impl Dirty {
         ensures { self.new ≡ slice_set self.old site true }
     {
         set_at(&mut self.levels, site as usize);
+        self.may_have_some = true;
     }
 
     /// Takes a site of the range out of the set.
@@ -68,7 +74,9 @@ impl Dirty {
         requires { site < length self.old }
         ensures { self.new ≡ slice_set self.old site false }
     {
-        clear_at(&mut self.levels, site as usize);
+        if clear_at(&mut self.levels, site as usize) {
+            self.may_have_some = false;
+        }
     }
 
     /// The least site of the set that is at least this one, which may be out of range.
@@ -79,6 +87,9 @@ impl Dirty {
         ensures none { IfNone result ((k : ℕ) → site ≤ k → has self.now k ≡ false) }
         ensures fits { length self.now < 2 ^ 32 }
     {
+        if !self.may_have_some {
+            return None;
+        }
         let Some(next) = next_at(&self.levels, site as usize) else {
             return None;
         };

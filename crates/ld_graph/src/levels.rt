@@ -1,5 +1,6 @@
-//! Rows of bits above one another: a bit of the next row says that a word of this one is not zero.
-ghost use Rattle.std.specs.Prelude.{◌≡◌, ◌≢◌, ℕ, ◌+◌, ◌*◌, ◌/◌, ◌^◌, ◌<◌, ◌≤◌, true, false, length, IfOk, IfSome, IfNone};
+//! Rows of bits above one another: a bit of the next row, where it has words, says that a word of
+//! this one is not zero.
+ghost use Rattle.std.specs.Prelude.{◌≡◌, ◌≢◌, ℕ, ◌+◌, ◌*◌, ◌/◌, ◌^◌, ◌<◌, ◌≤◌, ◌⊎◌, true, false, length, IfOk, IfSome, IfNone};
 ghost use Rattle.ld_graph.specs.Words.{bit, lowest, AreLevels};
 
 use crate::level::Level;
@@ -19,13 +20,13 @@ pub(crate) fn set_at(levels: &mut [Level], at: usize)
         return;
     };
     lower.set(at);
-    if !above.is_empty() {
+    if are_in_use(above) {
         set_at(above, at / 64);
     }
 }
 
-/// Clears a bit of the lowest level.
-pub(crate) fn clear_at(levels: &mut [Level], at: usize)
+/// Clears a bit of the lowest level. True says that none is left there.
+pub(crate) fn clear_at(levels: &mut [Level], at: usize) -> bool
     requires levels { AreLevels levels.old }
     requires within { at / 64 < length (lowest levels.old) }
     ensures levels { AreLevels levels.new }
@@ -33,17 +34,43 @@ pub(crate) fn clear_at(levels: &mut [Level], at: usize)
     ensures len { length (lowest levels.new) ≡ length (lowest levels.old) }
     ensures own { bit (lowest levels.new) at ≡ false }
     ensures others { (n : ℕ) → n ≢ at → bit (lowest levels.new) n ≡ bit (lowest levels.old) n }
+    ensures none { result ≡ true → (n : ℕ) → bit (lowest levels.new) n ≡ false }
 {
     let Some((lower, above)) = levels.split_first_mut() else {
-        return;
+        return false;
     };
     let zero = lower.clear(at);
     if !zero {
-        return;
+        return false;
     }
-    if !above.is_empty() {
-        clear_at(above, at / 64);
+    if are_in_use(above) {
+        return clear_at(above, at / 64);
     }
+    lower.len() == 1
+}
+
+/// Whether the first of the levels has words.
+fn are_in_use(levels: &[Level]) -> bool
+    ensures used { result ≡ true → 0 < length (lowest levels.now) }
+    ensures unused { result ≡ false → length (lowest levels.now) ≡ 0 }
+{
+    let Some(level) = levels.first() else {
+        return false;
+    };
+    level.len() > 0
+}
+
+/// Whether the levels above are to mark so many words of this one: they do already, or it has no
+/// word yet and one of them would say too little.
+fn are_to_mark(lower: &Level, above: &[Level], words: usize) -> bool
+    ensures yes { result ≡ true → (0 < length (lowest above.now))
+        ⊎ ((length lower.now ≡ 0) × (length (lowest above.now) ≡ 0)) }
+    ensures no { result ≡ false → length (lowest above.now) ≡ 0 }
+{
+    if are_in_use(above) {
+        return true;
+    }
+    lower.len() == 0 && words > 1
 }
 
 /// Brings at least so many words into the lowest level, and what marks them into those above. Where
@@ -60,7 +87,7 @@ pub(crate) fn grow(levels: &mut [Level], words: usize) -> Result<(), NoMemory>
     let Some((lower, above)) = levels.split_first_mut() else {
         return Ok(());
     };
-    if !above.is_empty() {
+    if are_to_mark(lower, above, words) {
         grow(above, words / 64 + 1)?;
     }
     lower.grow(words)
@@ -83,7 +110,7 @@ pub(crate) fn next_at(levels: &[Level], from: usize) -> Option<usize>
     if let Some(n) = lower.first_in_word(from) {
         return Some(n);
     }
-    if above.is_empty() {
+    if !are_in_use(above) {
         return next_in(lower, from / 64 + 1);
     }
     let word = next_at(above, from / 64 + 1)?;

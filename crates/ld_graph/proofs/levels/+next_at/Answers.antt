@@ -15,7 +15,7 @@ returns-then-from-len-clause-none t c k le =
     let first : c.args.levels.now ≡ c.in-Some.lower.now ∷ c.in-Some.above.now = search rules in
     rw first (bit_beyond c.in-Some.lower.now k (let e = c.len.ensures in omega arith))
 
-within : (levels above : List (List ℕ)) (lower : List ℕ) → levels ≡ lower ∷ above → AreLevels levels → 0 < length above
+within : (levels above : List (List ℕ)) (lower : List ℕ) → levels ≡ lower ∷ above → AreLevels levels → 0 < length (lowest above)
     → (word : ℕ) → bit (lowest above) word ≡ true → (word < length lower) × (length lower ≤ 2 ^ 32)
 within levels above lower e are some word is =
     let here : AreLevels (lower ∷ above) = subst AreLevels e are in

@@ -18,7 +18,7 @@ grown {levels} levels' t sites lt same table is n =
 
 pub returns-in_ok-grow-clause-same : goal.returns-in_ok-grow-clause-same
 returns-in_ok-grow-clause-same c n =
-    grown c.grow.new.levels c.self.invariant c.args.sites c.if-sites-self.true c.grow.ensures.same c.args.self.now c.self.view_is n
+    grown c.grow.new.levels c.self.invariant.0 c.args.sites c.if-sites-self.true c.grow.ensures.same c.args.self.now c.self.view_is n
 
 pub returns-else-sites-self-clause-ok : goal.returns-else-sites-self-clause-ok
 returns-else-sites-self-clause-ok c =

@@ -6,12 +6,14 @@ use Rattle.ld_graph.proofs.dirty.Dirty.set.Goals as goal
 pub set_at-requires-clause-within : goal.set_at-requires-clause-within
 set_at-requires-clause-within c =
     let l = table_length c.self.inside.levels c.self.inside.range c.args.self.now c.self.view_is in
-    word_within c.self.invariant c.args.site (omega arith)
+    word_within c.self.invariant.0 c.args.site (omega arith)
 
 pub invariant_of-self : goal.invariant_of-self
 invariant_of-self c =
-    let l = table_length c.self.inside.levels c.self.inside.range c.args.self.now c.self.view_is in
-    table_changed c.self.invariant c.args.site (omega arith) c.set_at.ensures.levels c.set_at.ensures.count c.set_at.ensures.len c.set_at.ensures.others
+    let l = table_length c.self.inside.levels c.self.inside.range c.args.self.now c.self.view_is in (
+      table_changed c.self.invariant.0 c.args.site (omega arith) c.set_at.ensures.levels c.set_at.ensures.count c.set_at.ensures.len c.set_at.ensures.others,
+      λ no. absurd (cc no),
+    )
 
 pub returns : goal.returns
 returns c =
