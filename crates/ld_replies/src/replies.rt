@@ -114,6 +114,10 @@ fn push_sums(totals: Settled, out: &mut Text) -> Result<(), NoMemory>
         ≡ out.old.bytes ++ sums_text totals.turns (sums_in totals)) }
     ensures room { KeepsRoom out.old out.new }
 {
+    // As after most commands.
+    if totals.turns == 0 && totals.fired == 0 && totals.rejected == 0 && totals.sent == 0 {
+        return out.push(" turns=0 fired=0 rejected=0 sent=0");
+    }
     push_named(" turns=", u64::from(totals.turns), out)?;
     push_named(" fired=", totals.fired, out)?;
     push_named(" rejected=", totals.rejected, out)?;
