@@ -108,8 +108,8 @@ impl Names {
     }
 
     /// What the identifier names; None exactly where the unit has no such identifier. What it names
-    /// has just this identifier. It takes no memory. The identifier is searched for only where it is
-    /// not the one at its hint: so of one that is kept, once.
+    /// has just this identifier. It takes no memory. The identifier is searched for only where it
+    /// is not the one at its hint: so of one that is kept, once.
     pub fn number(&self, id: &Id) -> Option<Named>
         ensures named { result ≡ named_by self.now id.now }
         ensures part { IfSome result (HasPart self.now) }
@@ -202,8 +202,8 @@ impl Names {
         &self.limits[property.0 as usize]
     }
 
-    /// The value with which the property begins; None exactly where it begins with none. It takes no
-    /// memory.
+    /// The value with which the property begins; None exactly where it begins with none. It takes
+    /// no memory.
     pub fn initial(&self, property: PropNo) -> Option<&Value>
         requires { HasPart self.now (Named.Prop property) }
         ensures { Some (option_map (λ value. datum_of value.now) result)

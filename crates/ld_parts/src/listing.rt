@@ -18,7 +18,8 @@ use ld_walk::walk::Walk;
 use std::alloc::Global;
 use std::marker::Model;
 
-/// All that stands in the documents of a unit, in document order, seen by contracts as a list of parts.
+/// All that stands in the documents of a unit, in document order, seen by contracts as a list of
+/// parts.
 #[derive(Drop)]
 pub struct Listing<'a> {
     places: Places,
@@ -82,7 +83,8 @@ impl<'a> Listing<'a> {
         Spot::listed(&self.places, self.parts[index].at)
     }
 
-    /// The refusal that the part at an index counted from 0 has the fault of this code, or `NoMemory`.
+    /// The refusal that the part at an index counted from 0 has the fault of this code, or
+    /// `NoMemory`.
     pub fn fault(&self, alloc: Global, index: usize, code: Code) -> ReadFault
         requires { index < length self.now }
         ensures { (part : Part) → slice_get self.now index ≡ Some part
@@ -92,8 +94,9 @@ impl<'a> Listing<'a> {
     }
 }
 
-/// About as many parts as the unit has, so that its listing seldom grows: a guess, of which no contract
-/// speaks. Most have a place of their own.
+/// Two parts for each role at the top, property, activity and structure, and one for each item of
+/// an activity: a guess at how many there are, so that a listing seldom grows. No contract speaks of
+/// it.
 fn likely_parts(unit: &Unit) -> usize {
     let mut objects = unit.roles.len();
     objects = objects.saturating_add(unit.properties.len());

@@ -33,8 +33,8 @@ pub(crate) fn check_texts(alloc: Global, listing: &Listing<'_>) -> Result<(), Re
     Ok(())
 }
 
-/// That references name what they should, that nothing reaches itself, levels, what is left out, types;
-/// the graphs of the unit.
+/// That references name what they should, that nothing reaches itself, levels, what is left out,
+/// types; the graphs of the unit.
 pub(crate) fn check_meaning(
     alloc: Global,
     unit: &Unit,

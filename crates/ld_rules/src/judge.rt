@@ -25,8 +25,8 @@ use ld_names::rule::Rule;
 use std::sync::ledger::Ledger;
 
 /// Whether the site's test holds in what the view shows: what its rule asks of the run or the
-/// person, or has once said yes to for good. It takes no memory, and at most a step for each cell at
-/// which the rule asks to look. (docs/MEANING.md, "Rules and sites")
+/// person, or has once said yes to for good. It takes no memory, and at most a step for each cell
+/// at which the rule asks to look. (docs/MEANING.md, "Rules and sites")
 pub fn judge<V: View, L: Ledger>(
     unit: &Unit,
     names: &Names,

@@ -27,8 +27,8 @@ use ld_names::rule::Rule;
 use ld_walk::place::Place;
 use std::sync::ledger::Ledger;
 
-/// What the rule asks of the run; of a rule for persons, nothing holds. (docs/MEANING.md, "Rules and
-/// sites")
+/// What the rule asks of the run; of a rule for persons, nothing holds. (docs/MEANING.md, "Rules
+/// and sites")
 pub(crate) fn judge_for_run<V: View, L: Ledger>(
     unit: &Unit,
     names: &Names,

@@ -85,8 +85,8 @@ impl Model for PreparedUnit {
 }
 
 impl PreparedUnit {
-    /// The checked unit, with what is made of it. The only error is want of memory. It takes time and
-    /// memory as the size of the unit, and as what `Reach::of` takes.
+    /// The checked unit, with what is made of it. The only error is want of memory. It takes time
+    /// and memory as the size of the unit, and as what `Reach::of` takes.
     pub fn new(alloc: Global, checked: Checked) -> Result<PreparedUnit, NoMemory>
         ensures { IfOk result (λ prepared. prepared ≡ checked.unit) }
     {

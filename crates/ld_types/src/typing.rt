@@ -26,7 +26,8 @@ use ld_walk::part::Typed;
 use ld_walk::spot::Spot;
 use std::alloc::Global;
 
-/// What the properties of a unit are, which has these names: so terms, tests and changes have types.
+/// What the properties of a unit are, which has these names: so terms, tests and changes have
+/// types.
 #[derive(Clone, Copy)]
 pub struct Typing<'a> {
     pub unit: &'a Unit,
@@ -34,8 +35,8 @@ pub struct Typing<'a> {
 }
 
 impl<'a> Typing<'a> {
-    /// That what stands at the place has the right types: the first place that breaks a rule is named
-    /// `bad-type`. (docs/FORMATS.md, "Types")
+    /// That what stands at the place has the right types: the first place that breaks a rule is
+    /// named `bad-type`. (docs/FORMATS.md, "Types")
     pub fn check_typed(
         &self,
         alloc: Global,

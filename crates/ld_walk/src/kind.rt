@@ -27,8 +27,8 @@ pub enum Wanted {
     /// A role-part of the act of this number in the play of this number.
     PartOf(u32, u32),
     Play,
-    /// What is shown and hidden: a play, an activity, a structure, an environment, a learning object,
-    /// a service or an item.
+    /// What is shown and hidden: a play, an activity, a structure, an environment, a learning
+    /// object, a service or an item.
     Shown,
     /// What can be done: an activity, a structure, a role-part, an act, a play or the unit.
     Completable,

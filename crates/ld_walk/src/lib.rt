@@ -1,5 +1,5 @@
-//! A walk through the documents of a unit: places, what stands there, and the listing of what several
-//! objects have in common: items, references, terms, tests, changes and notices.
+//! A walk through the documents of a unit: places, what stands there, and the listing of what
+//! several objects have in common: items, references, terms, tests, changes and notices.
 #![tactic(auto)]
 
 pub mod changes;

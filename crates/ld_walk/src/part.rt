@@ -23,7 +23,8 @@ pub enum Typed<'a> {
 /// What stands at a place.
 #[derive(Clone, Copy)]
 pub enum What<'a> {
-    /// An object with an identifier, and whether it is visible at first, where it is shown and hidden.
+    /// An object with an identifier, and whether it is visible at first, where it is shown and
+    /// hidden.
     Declares(Kind, &'a Id, Option<bool>),
     /// A reference.
     Refers(Wanted, &'a Id),

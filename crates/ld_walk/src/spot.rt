@@ -22,7 +22,8 @@ pub struct Spot<'a> {
     step: Step<'a>,
 }
 
-/// How a place is reached: it is a whole document, or by its number in a list, or from the one above it.
+/// How a place is reached: it is a whole document, or by its number in a list, or from the one
+/// above it.
 #[cycle(spot)]
 #[derive(Drop)]
 enum Step<'a> {

@@ -86,8 +86,8 @@ fn list_clock<'a>(walk: &mut Walk<'a>, of_members: bool, clock: bool) -> Result<
     walk.put(Level::A, What::LeftOut)
 }
 
-/// Lists a term: whether it is asked of each member of a role, and whether it may be the moment of the
-/// command.
+/// Lists a term: whether it is asked of each member of a role, and whether it may be the moment of
+/// the command.
 #[cycle(terms)]
 pub fn list_term<'a>(
     walk: &mut Walk<'a>,

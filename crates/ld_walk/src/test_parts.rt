@@ -111,8 +111,8 @@ fn list_nth_test<'a>(
     Ok(())
 }
 
-/// Lists a test of the members of a role. It is left out where it is itself asked of each member of a
-/// role.
+/// Lists a test of the members of a role. It is left out where it is itself asked of each member of
+/// a role.
 #[cycle(tests)]
 fn list_users<'a>(
     walk: &mut Walk<'a>,

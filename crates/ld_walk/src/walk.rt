@@ -15,8 +15,8 @@ use ld_model::unit::Level;
 use std::alloc::Global;
 use std::marker::Model;
 
-/// A walk through the documents: the place where it stands, the places to which it goes back, and the
-/// parts that it listed.
+/// A walk through the documents: the place where it stands, the places to which it goes back, and
+/// the parts that it listed.
 #[derive(Drop)]
 pub struct Walk<'a> {
     places: Places,

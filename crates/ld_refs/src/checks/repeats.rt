@@ -1,5 +1,5 @@
-//! The checks that identifiers differ, and the references within a list; and that the names of what all
-//! runs share differ.
+//! The checks that identifiers differ, and the references within a list; and that the names of what
+//! all runs share differ.
 ghost use Rattle.std.specs.Prelude.{◌≡◌, ◌∷◌, ◌++◌, [], ℕ, List, IfErr, OnOk};
 ghost use Rattle.ld_json.specs.Fault.{SaysFirst};
 ghost use Rattle.ld_model.specs.Counting.{each_numbered};
