@@ -5,6 +5,6 @@
 #[cfg(test)]
 mod base;
 #[cfg(test)]
-mod json;
+mod documents;
 #[cfg(test)]
 mod value;

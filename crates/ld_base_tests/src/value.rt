@@ -1,5 +1,6 @@
-//! Values that were worked out outside this program, by Python's `datetime`, `re` and whole numbers.
-//! More of them are in tests/moments.py and tests/first_faults/texts.py, which the program reads.
+//! Values that were worked out outside this program, by Python's `datetime`, `re` and whole
+//! numbers. More of them are in tests/moments.py and tests/first_faults/texts.py, which the program
+//! reads.
 mod tables;
 
 use ld_base::text::Text;

@@ -23,7 +23,7 @@ impl Reads for ChangeShape {
 
     ghost shape = { change };
 
-    fn read(alloc: Global, node: &Node<'_>) -> Result<Change, ReadFault> {
+    fn read(alloc: Global, node: &Node<'_, '_>) -> Result<Change, ReadFault> {
         node.only(alloc, &["property", "value"])?;
         Ok(Change {
             property: needed_at::<Identifier>(alloc, node, "property")?,
@@ -40,7 +40,7 @@ impl Reads for NoticeShape {
 
     ghost shape = { notice };
 
-    fn read(alloc: Global, node: &Node<'_>) -> Result<Notice, ReadFault> {
+    fn read(alloc: Global, node: &Node<'_, '_>) -> Result<Notice, ReadFault> {
         node.only(alloc, &["roles", "subject", "activity"])?;
         Ok(Notice {
             roles: needed_at::<ListOf<Identifier, 1>>(alloc, node, "roles")?,
@@ -58,7 +58,7 @@ impl Reads for Follows {
 
     ghost shape = { on_completion };
 
-    fn read(alloc: Global, node: &Node<'_>) -> Result<OnCompletion, ReadFault> {
+    fn read(alloc: Global, node: &Node<'_, '_>) -> Result<OnCompletion, ReadFault> {
         node.only(alloc, &["feedback", "change", "notify"])?;
         Ok(OnCompletion {
             feedback: list_at::<ItemShape>(alloc, node, "feedback")?,
@@ -69,7 +69,7 @@ impl Reads for Follows {
 }
 
 /// What follows a completion, as the node says, or its first fault. (docs/FORMATS.md, "Documents")
-pub fn read_on_completion(alloc: Global, node: &Node<'_>) -> Result<OnCompletion, ReadFault>
+pub fn read_on_completion(alloc: Global, node: &Node<'_, '_>) -> Result<OnCompletion, ReadFault>
     ensures { GivesOrSays (on_completion.reading node.now) result }
 {
     Follows::read(alloc, node)

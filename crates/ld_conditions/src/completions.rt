@@ -1,4 +1,5 @@
-//! When an activity is completed, and what an activity, an act, a play and the unit have in common there.
+//! When an activity is completed, and what an activity, an act, a play and the unit have in common
+//! there.
 #![tactic(auto, unfolding(ld_formats::specs::Completions::activity_completion, ld_formats::specs::Completions::common_cases, ld_formats::specs::Completions::value_set), using(ld_json::proofs::First::says_more))]
 
 ghost use Rattle.ld_formats.specs.Cases.{value_text};
@@ -27,7 +28,7 @@ impl Reads for ValueText {
 
     ghost shape = { value_text };
 
-    fn read(alloc: Global, node: &Node<'_>) -> Result<PlainText, ReadFault> {
+    fn read(alloc: Global, node: &Node<'_, '_>) -> Result<PlainText, ReadFault> {
         let text = node.text(alloc)?;
         let own = PlainText::of(alloc, text)?;
         Ok(own)
@@ -42,7 +43,7 @@ impl Reads for ValueSet {
 
     ghost shape = { value_set };
 
-    fn read(alloc: Global, node: &Node<'_>) -> Result<(Id, Option<PlainText>), ReadFault> {
+    fn read(alloc: Global, node: &Node<'_, '_>) -> Result<(Id, Option<PlainText>), ReadFault> {
         node.only(alloc, &["property", "value"])?;
         let property = needed_at::<Identifier>(alloc, node, "property")?;
         let value = optional_at::<ValueText>(alloc, node, "value")?;
@@ -58,7 +59,7 @@ impl Reads for ActivityCompletion {
 
     ghost shape = { activity_completion };
 
-    fn read(alloc: Global, node: &Node<'_>) -> Result<Completion, ReadFault> {
+    fn read(alloc: Global, node: &Node<'_, '_>) -> Result<Completion, ReadFault> {
         match node.sole(alloc)? {
             "user-choice" => {
                 needed_at::<True>(alloc, node, "user-choice")?;
@@ -71,7 +72,7 @@ impl Reads for ActivityCompletion {
 
 /// When a thing is completed, of whose object the only member has this name, if it is one that all
 /// things may have.
-pub fn read_common(alloc: Global, node: &Node<'_>, name: &str) -> Result<Completion, ReadFault>
+pub fn read_common(alloc: Global, node: &Node<'_, '_>, name: &str) -> Result<Completion, ReadFault>
     requires { IsObject node.now }
     ensures { GivesOrSays (chosen common_cases node.now name.now) result }
 {

@@ -23,7 +23,7 @@ impl Reads for ActionShape {
 
     ghost shape = { action };
 
-    fn read(alloc: Global, node: &Node<'_>) -> Result<Action, ReadFault> {
+    fn read(alloc: Global, node: &Node<'_, '_>) -> Result<Action, ReadFault> {
         match node.sole(alloc)? {
             "show" => {
                 let things = needed_at::<ListOf<Identifier, 1>>(alloc, node, "show")?;
@@ -54,7 +54,7 @@ impl Reads for ConditionShape {
 
     ghost shape = { condition };
 
-    fn read(alloc: Global, node: &Node<'_>) -> Result<Condition, ReadFault> {
+    fn read(alloc: Global, node: &Node<'_, '_>) -> Result<Condition, ReadFault> {
         node.only(alloc, &["if", "then", "else"])?;
         Ok(Condition {
             test: needed_at::<TestShape>(alloc, node, "if")?,
@@ -72,7 +72,7 @@ impl Reads for ConditionsDocument {
 
     ghost shape = { conditions_document };
 
-    fn read(alloc: Global, node: &Node<'_>) -> Result<ConditionList, ReadFault> {
+    fn read(alloc: Global, node: &Node<'_, '_>) -> Result<ConditionList, ReadFault> {
         node.only(alloc, &["conditions"])?;
         list_at::<ConditionShape>(alloc, node, "conditions")
     }

@@ -20,7 +20,7 @@ impl Reads for ItemShape {
 
     ghost shape = { item };
 
-    fn read(alloc: Global, node: &Node<'_>) -> Result<Item, ReadFault> {
+    fn read(alloc: Global, node: &Node<'_, '_>) -> Result<Item, ReadFault> {
         node.only(alloc, &["identifier", "href", "title", "visible"])?;
         Ok(Item {
             identifier: needed_at::<Identifier>(alloc, node, "identifier")?,

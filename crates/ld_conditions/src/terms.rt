@@ -31,14 +31,14 @@ impl Reads for TermShape {
 
     ghost shape = { term };
 
-    fn read(alloc: Global, node: &Node<'_>) -> Result<Term, ReadFault> {
+    fn read(alloc: Global, node: &Node<'_, '_>) -> Result<Term, ReadFault> {
         read_term(alloc, node)
     }
 }
 
 /// The term that the node stands for, or its first fault. (docs/FORMATS.md, "Documents")
 #[cycle(terms)]
-pub fn read_term(alloc: Global, node: &Node<'_>) -> Result<Term, ReadFault>
+pub fn read_term(alloc: Global, node: &Node<'_, '_>) -> Result<Term, ReadFault>
     ensures { GivesOrSays (term.reading node.now) result }
 {
     read_one(alloc, &*node)
@@ -46,7 +46,7 @@ pub fn read_term(alloc: Global, node: &Node<'_>) -> Result<Term, ReadFault>
 
 /// A term, made of terms or of none.
 #[cycle(terms)]
-fn read_one(alloc: Global, node: &Node<'_>) -> Result<Term, ReadFault>
+fn read_one(alloc: Global, node: &Node<'_, '_>) -> Result<Term, ReadFault>
     ensures { GivesOrSays ((sole (term_cases term)).reading node.now) result }
 {
     match node.sole(alloc)? {
@@ -60,7 +60,7 @@ fn read_one(alloc: Global, node: &Node<'_>) -> Result<Term, ReadFault>
 
 /// The sum at the member of that name.
 #[cycle(terms)]
-fn sum_at(alloc: Global, node: &Node<'_>) -> Result<Term, ReadFault>
+fn sum_at(alloc: Global, node: &Node<'_, '_>) -> Result<Term, ReadFault>
     requires { IsObject node.now }
     ensures { GivesOrSays (mapped sum ((needed_in (codes "sum") (list_of 2 term)).reading node.now))
         result }
@@ -72,7 +72,7 @@ fn sum_at(alloc: Global, node: &Node<'_>) -> Result<Term, ReadFault>
 
 /// The product at the member `multiply`.
 #[cycle(terms)]
-fn product_at(alloc: Global, node: &Node<'_>) -> Result<Term, ReadFault>
+fn product_at(alloc: Global, node: &Node<'_, '_>) -> Result<Term, ReadFault>
     requires { IsObject node.now }
     ensures { GivesOrSays
         (mapped product ((needed_in (codes "multiply") (list_of 2 term)).reading node.now)) result }
@@ -84,7 +84,7 @@ fn product_at(alloc: Global, node: &Node<'_>) -> Result<Term, ReadFault>
 
 /// The difference at the member `subtract`.
 #[cycle(terms)]
-fn difference_at(alloc: Global, node: &Node<'_>) -> Result<Term, ReadFault>
+fn difference_at(alloc: Global, node: &Node<'_, '_>) -> Result<Term, ReadFault>
     requires { IsObject node.now }
     ensures { GivesOrSays
         (mapped difference ((needed_in (codes "subtract") (pair_of term)).reading node.now))
@@ -97,7 +97,7 @@ fn difference_at(alloc: Global, node: &Node<'_>) -> Result<Term, ReadFault>
 
 /// The quotient at the member `divide`.
 #[cycle(terms)]
-fn quotient_at(alloc: Global, node: &Node<'_>) -> Result<Term, ReadFault>
+fn quotient_at(alloc: Global, node: &Node<'_, '_>) -> Result<Term, ReadFault>
     requires { IsObject node.now }
     ensures { GivesOrSays
         (mapped quotient ((needed_in (codes "divide") (pair_of term)).reading node.now)) result }
@@ -109,7 +109,7 @@ fn quotient_at(alloc: Global, node: &Node<'_>) -> Result<Term, ReadFault>
 
 /// The terms at the member of this name, which are two or more.
 #[cycle(terms)]
-fn terms_at(alloc: Global, node: &Node<'_>, name: &str) -> Result<Vec<Term>, ReadFault>
+fn terms_at(alloc: Global, node: &Node<'_, '_>, name: &str) -> Result<Vec<Term>, ReadFault>
     requires { IsObject node.now }
     ensures value { IfOk result
         (λ terms. Gives ((needed_in name.now (list_of 2 term)).reading node.now) terms.items) }
@@ -122,7 +122,7 @@ fn terms_at(alloc: Global, node: &Node<'_>, name: &str) -> Result<Vec<Term>, Rea
 
 /// The terms of an array of two or more.
 #[cycle(terms)]
-fn read_terms(alloc: Global, node: &Node<'_>) -> Result<Vec<Term>, ReadFault>
+fn read_terms(alloc: Global, node: &Node<'_, '_>) -> Result<Vec<Term>, ReadFault>
     ensures value { IfOk result (λ terms. Gives ((list_of 2 term).reading node.now) terms.items) }
     ensures first { IfErr result (SaysFirst ((list_of 2 term).reading node.now).faults) }
 {
@@ -133,7 +133,7 @@ fn read_terms(alloc: Global, node: &Node<'_>) -> Result<Vec<Term>, ReadFault>
 
 /// The terms of the elements of an array, which are so many.
 #[cycle(terms)]
-fn read_each(alloc: Global, node: &Node<'_>, count: usize) -> Result<Vec<Term>, ReadFault>
+fn read_each(alloc: Global, node: &Node<'_, '_>, count: usize) -> Result<Vec<Term>, ReadFault>
     requires array { IsArray node.now }
     requires whole { count ≡ length (item_nodes node.now) }
     ensures value { IfOk result (λ terms. Gives (each term (item_nodes node.now)) terms.items) }
@@ -149,7 +149,7 @@ fn read_each(alloc: Global, node: &Node<'_>, count: usize) -> Result<Vec<Term>, 
 
 /// The two terms at the member of this name.
 #[cycle(terms)]
-fn pair_at(alloc: Global, node: &Node<'_>, name: &str) -> Result<(Term, Term), ReadFault>
+fn pair_at(alloc: Global, node: &Node<'_, '_>, name: &str) -> Result<(Term, Term), ReadFault>
     requires { IsObject node.now }
     ensures { GivesOrSays ((needed_in name.now (pair_of term)).reading node.now) result }
 {
@@ -159,7 +159,7 @@ fn pair_at(alloc: Global, node: &Node<'_>, name: &str) -> Result<(Term, Term), R
 
 /// The two terms of an array.
 #[cycle(terms)]
-fn read_pair(alloc: Global, node: &Node<'_>) -> Result<(Term, Term), ReadFault>
+fn read_pair(alloc: Global, node: &Node<'_, '_>) -> Result<(Term, Term), ReadFault>
     ensures { GivesOrSays ((pair_of term).reading node.now) result }
 {
     count_two(alloc, node)?;
@@ -169,7 +169,7 @@ fn read_pair(alloc: Global, node: &Node<'_>) -> Result<(Term, Term), ReadFault>
 }
 
 /// A term that is made of no others, by the name of its member.
-fn read_plain_term(alloc: Global, node: &Node<'_>, name: &str) -> Result<Term, ReadFault>
+fn read_plain_term(alloc: Global, node: &Node<'_, '_>, name: &str) -> Result<Term, ReadFault>
     requires { IsObject node.now }
     ensures { GivesOrSays (chosen plain_term_cases node.now name.now) result }
 {
@@ -194,7 +194,7 @@ fn read_plain_term(alloc: Global, node: &Node<'_>, name: &str) -> Result<Term, R
 }
 
 /// A literal, by the name of its member, which tells the datatype.
-fn read_literal(alloc: Global, node: &Node<'_>, name: &str) -> Result<Term, ReadFault>
+fn read_literal(alloc: Global, node: &Node<'_, '_>, name: &str) -> Result<Term, ReadFault>
     requires { IsObject node.now }
     ensures { GivesOrSays (chosen literal_cases node.now name.now) result }
 {

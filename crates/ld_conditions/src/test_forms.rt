@@ -32,7 +32,7 @@ impl Reads for TestShape {
 
     ghost shape = { test };
 
-    fn read(alloc: Global, node: &Node<'_>) -> Result<Test, ReadFault> {
+    fn read(alloc: Global, node: &Node<'_, '_>) -> Result<Test, ReadFault> {
         read_test(alloc, node)
     }
 }
@@ -45,7 +45,7 @@ impl Reads for MembersTest {
 
     ghost shape = { of_members test };
 
-    fn read(alloc: Global, node: &Node<'_>) -> Result<(Id, Test), ReadFault> {
+    fn read(alloc: Global, node: &Node<'_, '_>) -> Result<(Id, Test), ReadFault> {
         read_of_members(alloc, node)
     }
 }
@@ -60,7 +60,7 @@ fn test_of_form(alloc: Global, form: TestForm) -> Result<Test, ReadFault>
 }
 
 /// The test of an object whose only member has this name, if it is made of no tests.
-fn read_plain(alloc: Global, node: &Node<'_>, name: &str) -> Result<Test, ReadFault>
+fn read_plain(alloc: Global, node: &Node<'_, '_>, name: &str) -> Result<Test, ReadFault>
     requires { IsObject node.now }
     ensures { GivesOrSays (chosen plain_test_cases node.now name.now) result }
 {
@@ -99,7 +99,7 @@ fn read_plain(alloc: Global, node: &Node<'_>, name: &str) -> Result<Test, ReadFa
 
 /// A test.
 #[cycle(tests)]
-fn read_test(alloc: Global, node: &Node<'_>) -> Result<Test, ReadFault>
+fn read_test(alloc: Global, node: &Node<'_, '_>) -> Result<Test, ReadFault>
     ensures { GivesOrSays (test.reading node.now) result }
 {
     read_one(alloc, &*node)
@@ -107,7 +107,7 @@ fn read_test(alloc: Global, node: &Node<'_>) -> Result<Test, ReadFault>
 
 /// A test, made of tests or of none.
 #[cycle(tests)]
-fn read_one(alloc: Global, node: &Node<'_>) -> Result<Test, ReadFault>
+fn read_one(alloc: Global, node: &Node<'_, '_>) -> Result<Test, ReadFault>
     ensures { GivesOrSays ((sole (test_cases test)).reading node.now) result }
 {
     match node.sole(alloc)? {
@@ -133,7 +133,7 @@ fn read_one(alloc: Global, node: &Node<'_>) -> Result<Test, ReadFault>
 
 /// A role, and what is tested of each of its members.
 #[cycle(tests)]
-fn read_of_members(alloc: Global, node: &Node<'_>) -> Result<(Id, Test), ReadFault>
+fn read_of_members(alloc: Global, node: &Node<'_, '_>) -> Result<(Id, Test), ReadFault>
     ensures { GivesOrSays ((of_members test).reading node.now) result }
 {
     node.only(alloc, &["role", "expression"])?;
@@ -144,7 +144,7 @@ fn read_of_members(alloc: Global, node: &Node<'_>) -> Result<(Id, Test), ReadFau
 
 /// The test at the member `expression`, which has to be there.
 #[cycle(tests)]
-fn expression_at(alloc: Global, node: &Node<'_>) -> Result<Test, ReadFault>
+fn expression_at(alloc: Global, node: &Node<'_, '_>) -> Result<Test, ReadFault>
     requires { IsObject node.now }
     ensures { GivesOrSays ((needed_in (codes "expression") test).reading node.now) result }
 {
@@ -153,7 +153,7 @@ fn expression_at(alloc: Global, node: &Node<'_>) -> Result<Test, ReadFault>
 
 /// The tests of an array, two or more.
 #[cycle(tests)]
-fn read_tests(alloc: Global, node: &Node<'_>) -> Result<Items<Test>, ReadFault>
+fn read_tests(alloc: Global, node: &Node<'_, '_>) -> Result<Items<Test>, ReadFault>
     ensures { GivesOrSays ((list_of 2 test).reading node.now) result }
 {
     let count = count_from(alloc, node, 2)?;

@@ -1,7 +1,8 @@
 //! The documents of the tests. Together they have each member of each object that may be there.
+use json::Scratch;
 use ld_base::plain_text::PlainText;
 use ld_json::doc::{Doc, document};
-use ld_json::docs::Docs;
+use ld_json::docs::{Docs, Scratches};
 use ld_json::fault::ReadFault;
 use ld_method::parts::read_parts;
 use ld_method::whole::read_method;
@@ -72,15 +73,23 @@ pub(crate) const SMALL_UNIT: &str =
 pub(crate) const SMALL_ROLES: &str = r#"{"roles":[{"kind":"staff","identifier":"r"}]}"#;
 
 /// The document of this text; the empty text stands for a file that is not there.
-fn doc_of(alloc: Global, text: &str) -> Result<Option<Doc>, Fail> {
+fn doc_of<'a>(
+    alloc: Global,
+    text: &'a str,
+    scratch: &'a mut Scratch,
+) -> Result<Option<Doc<'a>>, Fail> {
     if text.is_empty() {
         return Ok(None);
     }
-    Ok(Some(document(alloc, text.as_bytes())?))
+    Ok(Some(document(alloc, text.as_bytes(), scratch)?))
 }
 
 /// The documents of these texts, in the order of the files.
-fn docs_of(alloc: Global, texts: [&str; 6]) -> Result<Docs, Fail> {
+fn docs_of<'a>(
+    alloc: Global,
+    texts: [&'static str; 6],
+    scratches: &'a mut Scratches,
+) -> Result<Docs<'a>, Fail> {
     let [
         roles,
         properties,
@@ -89,25 +98,38 @@ fn docs_of(alloc: Global, texts: [&str; 6]) -> Result<Docs, Fail> {
         unit,
         conditions,
     ] = texts;
+    let roles = doc_of(alloc, roles, &mut scratches.roles)?;
+    let properties = doc_of(alloc, properties, &mut scratches.properties)?;
+    let environments = doc_of(alloc, environments, &mut scratches.environments)?;
+    let activities = doc_of(alloc, activities, &mut scratches.activities)?;
+    let unit = doc_of(alloc, unit, &mut scratches.unit)?;
+    let conditions = doc_of(alloc, conditions, &mut scratches.conditions)?;
     Ok(Docs {
-        of: [
-            doc_of(alloc, roles)?,
-            doc_of(alloc, properties)?,
-            doc_of(alloc, environments)?,
-            doc_of(alloc, activities)?,
-            doc_of(alloc, unit)?,
-            doc_of(alloc, conditions)?,
-        ],
+        roles,
+        properties,
+        environments,
+        activities,
+        unit,
+        conditions,
     })
 }
 
+/// The unit of the documents, or its first fault.
+fn unit_of(alloc: Global, docs: &Docs<'_>) -> Result<Unit, ReadFault> {
+    let parts = read_parts(alloc, docs)?;
+    read_method(alloc, docs, parts)
+}
+
 /// The unit of the documents of these texts, or its first fault.
-pub(crate) fn outcome_of(alloc: Global, texts: [&str; 6]) -> Result<Result<Unit, ReadFault>, Fail> {
-    let docs = docs_of(alloc, texts)?;
-    match read_parts(alloc, &docs) {
-        Err(fault) => Ok(Err(fault)),
-        Ok(parts) => Ok(read_method(alloc, &docs, parts)),
-    }
+pub(crate) fn outcome_of(
+    alloc: Global,
+    texts: [&'static str; 6],
+) -> Result<Result<Unit, ReadFault>, Fail> {
+    let mut scratches = Scratches::new(alloc);
+    let docs = docs_of(alloc, texts, &mut scratches)?;
+    let outcome = unit_of(alloc, &docs);
+    drop(docs);
+    Ok(outcome)
 }
 
 /// The unit that has each member.
@@ -124,7 +146,7 @@ pub(crate) fn full_unit(alloc: Global) -> Result<Unit, Fail> {
 }
 
 /// The first fault of the documents of these texts: its file, place and code, or a dash.
-pub(crate) fn first_fault(alloc: Global, texts: [&str; 6]) -> Result<String, Fail> {
+pub(crate) fn first_fault(alloc: Global, texts: [&'static str; 6]) -> Result<String, Fail> {
     match outcome_of(alloc, texts)?.err() {
         None => Ok(String::from_str(alloc, "-")?),
         Some(ReadFault::NoMemory) => Err(Fail::from("no memory")),

@@ -1,5 +1,6 @@
 //! The roles, environments, activities and structures of documents, and single values.
 use crate::documents::{SMALL_UNIT, are, first_fault, full_unit, is_feedback, is_item, is_text};
+use json::Scratch;
 use ld_conditions::changes::read_on_completion;
 use ld_conditions::completions::ActivityCompletion;
 use ld_conditions::terms::read_term;
@@ -195,10 +196,12 @@ fn the_first_fault_is_told(rt: HostRuntime) -> Result<(), Fail> {
 /// Completions by themselves, and what follows where nothing is said of it.
 #[test]
 fn completions_are_read(rt: HostRuntime) -> Result<(), Fail> {
-    let doc = document(rt.alloc(), b"{\"time-limit\":\"PT0S\"}")?;
+    let mut scratch = Scratch::new(rt.alloc());
+    let doc = document(rt.alloc(), b"{\"time-limit\":\"PT0S\"}", &mut scratch)?;
     let complete = ActivityCompletion::read(rt.alloc(), &doc.root(FileNo::Activities))?;
     assert!(rt; matches!(complete, Completion::TimeLimit(0)));
-    let doc = document(rt.alloc(), b"{}")?;
+    let mut scratch = Scratch::new(rt.alloc());
+    let doc = document(rt.alloc(), b"{}", &mut scratch)?;
     let follows = read_on_completion(rt.alloc(), &doc.root(FileNo::Unit))?;
     assert!(rt;
         follows.feedback.is_empty() && follows.change.is_empty() && follows.notify.is_empty()
@@ -209,9 +212,11 @@ fn completions_are_read(rt: HostRuntime) -> Result<(), Fail> {
 /// A term by itself.
 #[test]
 fn a_term_is_read(rt: HostRuntime) -> Result<(), Fail> {
+    let mut scratch = Scratch::new(rt.alloc());
     let doc = document(
         rt.alloc(),
         b"{\"sum\":[{\"property\":\"n\"},{\"integer\":\"1\"}]}",
+        &mut scratch,
     )?;
     let term = read_term(rt.alloc(), &doc.root(FileNo::Conditions))?;
     let TermForm::Sum(terms) = &*term.form else {

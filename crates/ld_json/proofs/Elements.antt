@@ -1,21 +1,23 @@
 -- The nodes of an array's elements, one by one.
-use Rattle.std.proofs.Common.{◌≡◌, ℕ, zero, suc, ◌+◌, ◌<◌, List, [], ◌∷◌, length, drop, get_or, slice_get, Option, Some, None, IsSome, option_map, map, refl, sym, ap, ◌∙◌, add-zero, add-one, arith}
+use Rattle.std.proofs.Common.{◌≡◌, ℕ, zero, suc, ◌+◌, ◌<◌, List, [], ◌∷◌, length, drop, get_or, slice_get, Option, Some, None, IsSome, option_map, refl, sym, ap, ◌∙◌, add-zero, add-one, arith}
 use Rattle.std.proofs.lemmas.Option.{slice_get-get_or}
-use Rattle.std.proofs.lemmas.List.{length-map}
 use Rattle.serde_json.specs.Data.{Data, null, boolean, number, string, array, object, Items, no_items, item}
 use Rattle.serde_json.specs.Find.{as_array, at, get_item}
-use Rattle.serde_json.specs.View.{view, items_of, items_view}
-use Rattle.serde_json.specs.declared.value.Value.{Value}
+use Rattle.serde_json.specs.Events.{items_len}
 use Rattle.ld_json.specs.Access.{nodes_from, nodes_of, item_nodes}
 use Rattle.ld_json.specs.Node.{Placed, item_node}
 
-length-nodes_from : (node : Placed) (start : ℕ) (elements : List Data) → length (nodes_from node start (items_of elements)) ≡ length elements
-length-nodes_from node start [] = refl
-length-nodes_from node start (tree ∷ rest) = ap (λ n. suc n) (length-nodes_from node (start + 1) rest)
+length-nodes_from : (node : Placed) (start : ℕ) (elements : Items) → items_len elements ≡ length (nodes_from node start elements)
+length-nodes_from node start no_items = refl
+length-nodes_from node start (item tree rest) = ap (λ n. suc n) (length-nodes_from node (start + 1) rest)
+
+count_nodes_of : (node : Placed) (count : ℕ) (elements : Option Items) → Some count ≡ option_map items_len elements → count ≡ length (nodes_of node elements)
+count_nodes_of node count None is = cc
+count_nodes_of node count (Some elements) is = let same : count ≡ items_len elements = cc in same ∙ length-nodes_from node 0 elements
 
 -- An array has as many nodes as elements.
-pub count_nodes : (node : Placed) (elements : List Value) → as_array node.tree ≡ Some (items_view elements) → length (item_nodes node) ≡ length elements
-count_nodes node elements is = rw is (length-nodes_from node 0 (map view elements) ∙ length-map elements view)
+pub count_nodes : (node : Placed) (count : ℕ) → Some count ≡ option_map items_len (as_array node.tree) → count ≡ length (item_nodes node)
+count_nodes node count is = count_nodes_of node count (as_array node.tree) is
 
 get-nodes_from : (node : Placed) (start index : ℕ) (elements : Items) → slice_get (nodes_from node start elements) index ≡ option_map (item_node node (start + index)) (get_item index elements)
 get-nodes_from node start index no_items = refl

@@ -4,4 +4,6 @@ pub mod First
 pub mod Listed
 pub mod Pointers
 pub mod Sole
+pub mod Trees
+pub mod Signed
 pub mod Json

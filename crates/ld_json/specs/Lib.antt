@@ -1,5 +1,6 @@
 pub mod Access
 pub mod Codes
+pub mod Docs
 pub mod Fault
 pub mod Files
 pub mod Node
@@ -9,4 +10,5 @@ pub mod Print
 pub mod Reads
 pub mod Steps
 pub mod TreeCode
+pub mod Trees
 pub mod Json

@@ -1,7 +1,7 @@
 -- How a node keeps its place: by the step that leads to it from the node above.
 use Rattle.std.specs.Prelude.{ℕ, List, []}
-use Rattle.serde_json.specs.View.{view}
 use Rattle.ld_json.specs.Node.{Placed}
+use Rattle.ld_json.specs.Trees.{seen_tree}
 use Rattle.ld_json.specs.Places.{member_place, item_place}
 use Rattle.ld_json.specs.declared.node.Node.TheInside.{Inside}
 use Rattle.ld_json.specs.declared.node.Step.{Step}
@@ -15,4 +15,4 @@ place_of (Item parent index) = item_place parent.now.place index
 
 -- What the fields of a node stand for.
 abbrev pub placed_of : Inside → Placed
-placed_of n = record { file = n.file; place = place_of n.step; tree = view n.tree.now }
+placed_of n = record { file = n.file; place = place_of n.step; tree = seen_tree n.tree }

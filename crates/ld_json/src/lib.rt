@@ -1,7 +1,8 @@
 //! Documents in JSON whose parts know their places, and the faults that stand at these places.
 //!
 //! ```
-//! let doc = document(alloc, bytes)?;
+//! let mut scratch = Scratch::new(alloc);
+//! let doc = document(alloc, bytes, &mut scratch)?;
 //! let root = doc.root(FileNo::Roles);
 //! root.only(alloc, &["roles"])?;
 //! let roles = root.member(alloc, "roles")?;
@@ -18,11 +19,16 @@
 //! (a refusal is the first of its list, or want of memory).
 #![tactic(auto)]
 
+mod built;
 pub mod code;
 pub mod doc;
 pub mod docs;
 pub mod fault;
 pub mod file;
+mod names;
 pub mod node;
+mod numbers;
 pub mod place;
 pub mod print;
+mod read;
+mod tree;

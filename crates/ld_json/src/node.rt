@@ -1,24 +1,22 @@
 //! A part of a document that knows its place.
-#![tactic(auto, using(crate::proofs::Elements::at_within, crate::proofs::Elements::count_nodes, crate::proofs::Elements::get_item_nodes, crate::proofs::Listed::list_any_map, crate::proofs::Pointers::item_is_at, crate::proofs::Pointers::member_is_at, crate::proofs::Sole::get_sole))]
+#![tactic(auto, using(crate::proofs::Elements::at_within, crate::proofs::Elements::count_nodes, crate::proofs::Elements::get_item_nodes, crate::proofs::Pointers::item_is_at, crate::proofs::Pointers::member_is_at, crate::proofs::Sole::get_sole))]
 
 ghost use Rattle.std.specs.Prelude.{◌≡◌, ◌<◌, ◌++◌, List, [], Some, None, OnOk, IfOk, IfErr, IfSome, IfNone, IsSome, is_some, option_map, slice_get, length, map};
 ghost use Rattle.serde_json.specs.Data.{Data};
 ghost use Rattle.serde_json.specs.Find.{get, at, as_str, as_bool, as_object};
-ghost use Rattle.serde_json.specs.View.{view, members_view};
-ghost use Rattle.std.specs.List.{list_any};
-ghost use Rattle.std.specs.Str.{bytes_eq};
-ghost use Rattle.ld_json.specs.Access.{IsObject, IsArray, whole_of, sole_of, only_name, all_listed, missing_at, not_text_faults, whole_faults, flag_faults, list_faults, sole_faults, only_faults, member_faults, item_nodes};
+ghost use Rattle.ld_json.specs.Access.{IsObject, IsArray, whole_of, sole_of, missing_at, not_text_faults, whole_faults, flag_faults, list_faults, sole_faults, only_faults, member_faults, item_nodes};
 ghost use Rattle.ld_json.specs.Fault.{Says, SaysFault, SaysFirst};
 ghost use Rattle.ld_json.specs.Pointers.{IsAt};
 ghost use Rattle.ld_json.specs.Node.{Placed, member_node, item_node};
+ghost use Rattle.ld_json.specs.Trees.{kept_tree};
 
 use crate::code::Code;
 use crate::fault::{Fault, ReadFault};
 use crate::file::FileNo;
 use crate::place::{push_item, push_member};
+use crate::tree::{OwnedTree, Tree};
 use ld_base::memory::NoMemory;
 use ld_base::text::Text;
-use serde_json::{Map, Value};
 use std::alloc::Global;
 use std::marker::Model;
 
@@ -26,22 +24,22 @@ use std::marker::Model;
 /// that it was reached from, and its place is written out only where a fault stands at it.
 #[cycle(node)]
 #[derive(Drop)]
-pub struct Node<'a> {
+pub struct Node<'a, 't> {
     file: FileNo,
-    tree: &'a Value,
-    step: Step<'a>,
+    tree: Tree<'a, 't>,
+    step: Step<'a, 't>,
 }
 
 /// How a node is reached from the node above it.
 #[cycle(node)]
 #[derive(Drop)]
-enum Step<'a> {
+enum Step<'a, 't> {
     Whole,
-    Member(&'a Node<'a>, &'a str),
-    Item(&'a Node<'a>, usize),
+    Member(&'a Node<'a, 't>, &'a str),
+    Item(&'a Node<'a, 't>, usize),
 }
 
-impl<'a> Model for Node<'a> {
+impl<'a, 't> Model for Node<'a, 't> {
     ghost use Rattle.std.specs.Prelude.{length};
     ghost use Rattle.std.proofs.Common.{arith, length-append};
     ghost use Rattle.ld_json.specs.Node.{Placed, placed_code};
@@ -59,14 +57,14 @@ impl<'a> Model for Node<'a> {
     ghost size_decreases = { λ a h. Prim.grind (arith, length-append) };
 }
 
-impl<'a> Node<'a> {
+impl<'a, 't> Node<'a, 't> {
     /// The node of a whole document.
-    pub(crate) fn of_document(tree: &'a Value, file: FileNo) -> Node<'a>
-        ensures { result ≡ record { file = file; place = []; tree = view tree.now } }
+    pub(crate) fn of_document(tree: &'a OwnedTree<'t>, file: FileNo) -> Node<'a, 't>
+        ensures { result ≡ record { file = file; place = []; tree = kept_tree tree.now } }
     {
         Node {
             file,
-            tree,
+            tree: tree.seen(),
             step: Step::Whole,
         }
     }
@@ -109,7 +107,7 @@ impl<'a> Node<'a> {
         ensures faultless { OnOk result (not_text_faults self.now ≡ []) }
         ensures first { IfErr result (SaysFirst (not_text_faults self.now)) }
     {
-        match self.tree.as_str() {
+        match self.tree.text() {
             Some(text) => Ok(text),
             None => Err(self.fault(alloc, Code::WrongShape)),
         }
@@ -122,7 +120,7 @@ impl<'a> Node<'a> {
         ensures faultless { OnOk result (whole_faults self.now ≡ []) }
         ensures first { IfErr result (SaysFirst (whole_faults self.now)) }
     {
-        match self.tree.as_u64() {
+        match self.tree.whole() {
             Some(number) => Ok(number),
             None => Err(self.fault(alloc, Code::WrongShape)),
         }
@@ -134,7 +132,7 @@ impl<'a> Node<'a> {
         ensures faultless { OnOk result (flag_faults self.now ≡ []) }
         ensures first { IfErr result (SaysFirst (flag_faults self.now)) }
     {
-        match self.tree.as_bool() {
+        match self.tree.flag() {
             Some(flag) => Ok(flag),
             None => Err(self.fault(alloc, Code::WrongShape)),
         }
@@ -144,7 +142,7 @@ impl<'a> Node<'a> {
     pub fn is_object(&self) -> bool
         ensures { result ≡ is_some (as_object self.now.tree) }
     {
-        self.tree.as_object().is_some()
+        self.tree.is_object()
     }
 
     /// The name of the only member. `wrong-shape` exactly where the node is no object, or has not
@@ -156,10 +154,7 @@ impl<'a> Node<'a> {
         ensures faultless { OnOk result (sole_faults self.now ≡ []) }
         ensures first { IfErr result (SaysFirst (sole_faults self.now)) }
     {
-        let Some(members) = self.tree.as_object() else {
-            return Err(self.fault(alloc, Code::WrongShape));
-        };
-        match only_key(members) {
+        match self.tree.sole() {
             Some(name) => Ok(name),
             None => Err(self.fault(alloc, Code::WrongShape)),
         }
@@ -174,18 +169,16 @@ impl<'a> Node<'a> {
         ensures first { IfErr result
             (SaysFirst (only_faults (map (λ name. name.now) names.now) self.now)) }
     {
-        let Some(members) = self.tree.as_object() else {
-            return Err(self.fault(alloc, Code::WrongShape));
-        };
-        if !are_listed(members, names) {
-            return Err(self.fault(alloc, Code::UnknownMember));
+        match self.tree.has_only(names) {
+            Some(true) => Ok(()),
+            Some(false) => Err(self.fault(alloc, Code::UnknownMember)),
+            None => Err(self.fault(alloc, Code::WrongShape)),
         }
-        Ok(())
     }
 
     /// The member of this name of an object. `missing` exactly where there is none, at the place
     /// that it would have.
-    pub fn member<'b>(&'b self, alloc: Global, name: &'b str) -> Result<Node<'b>, ReadFault>
+    pub fn member<'b>(&'b self, alloc: Global, name: &'b str) -> Result<Node<'b, 't>, ReadFault>
         requires { IsObject self.now }
         ensures tree { IfOk result (λ node. get name.now self.now.tree ≡ Some node.tree) }
         ensures node { IfOk result (λ node. node ≡ member_node self.now name.now node.tree) }
@@ -200,13 +193,13 @@ impl<'a> Node<'a> {
     }
 
     /// The member of this name of an object, if there is one. It takes no memory.
-    pub fn optional<'b>(&'b self, name: &'b str) -> Option<Node<'b>>
+    pub fn optional<'b>(&'b self, name: &'b str) -> Option<Node<'b, 't>>
         requires { IsObject self.now }
         ensures node { result
             ≡ option_map (member_node self.now name.now) (get name.now self.now.tree) }
         ensures pointer { (whole : Data) → IsAt whole self.now → IfSome result (IsAt whole) }
     {
-        let tree = self.tree.get(name)?;
+        let tree = self.tree.member(name)?;
         Some(Node {
             file: self.file,
             tree,
@@ -239,14 +232,14 @@ impl<'a> Node<'a> {
         ensures faultless { OnOk result (list_faults self.now ≡ []) }
         ensures first { IfErr result (SaysFirst (list_faults self.now)) }
     {
-        match self.tree.as_array() {
-            Some(elements) => Ok(elements.len()),
+        match self.tree.count() {
+            Some(count) => Ok(count),
             None => Err(self.fault(alloc, Code::WrongShape)),
         }
     }
 
     /// The element of an array at an index counted from 0. It takes no memory.
-    pub fn item(&self, index: usize) -> Node<'_>
+    pub fn item(&self, index: usize) -> Node<'_, 't>
         requires array { IsArray self.now }
         requires within { index < length (item_nodes self.now) }
         ensures tree { at index self.now.tree ≡ Some result.tree }
@@ -254,42 +247,13 @@ impl<'a> Node<'a> {
         ensures item { slice_get (item_nodes self.now) index ≡ Some result }
         ensures pointer { (whole : Data) → IsAt whole self.now → IsAt whole result }
     {
+        let Some(tree) = self.tree.element(index) else {
+            unreachable!()
+        };
         Node {
             file: self.file,
-            tree: &self.tree[index],
+            tree,
             step: Step::Item(self, index),
         }
     }
-}
-
-/// The name of the only member.
-fn only_key(members: &Map<String, Value>) -> Option<&str>
-    ensures { option_map (λ name. name.now) result ≡ only_name (members_view members.now.entries) }
-{
-    let mut entries = members.iter();
-    let (name, _) = entries.next()?;
-    if let Some(_) = entries.next() {
-        return None;
-    }
-    Some(name.as_str())
-}
-
-/// Whether each member has one of the names.
-fn are_listed(members: &Map<String, Value>, names: &[&str]) -> bool
-    ensures { result ≡ all_listed (map (λ name. name.now) names.now)
-        (members_view members.now.entries) }
-{
-    for (name, _) in members {
-        if !is_listed(name.as_str(), names) {
-            return false;
-        }
-    }
-    true
-}
-
-/// Whether the name is one of the names.
-fn is_listed(name: &str, names: &[&str]) -> bool
-    ensures { result ≡ list_any (λ listed. bytes_eq name.now listed.now) names.now }
-{
-    names.iter().any(|listed| name == *listed)
 }

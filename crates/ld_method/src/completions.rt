@@ -26,7 +26,7 @@ impl Reads for ActCompletion {
 
     ghost shape = { act_completion };
 
-    fn read(alloc: Global, node: &Node<'_>) -> Result<Completion, ReadFault> {
+    fn read(alloc: Global, node: &Node<'_, '_>) -> Result<Completion, ReadFault> {
         match node.sole(alloc)? {
             "when-role-part-completed" => {
                 let parts = needed_at::<ListOf<Identifier, 1>>(
@@ -53,7 +53,7 @@ impl Reads for PlayCompletion {
 
     ghost shape = { play_completion };
 
-    fn read(alloc: Global, node: &Node<'_>) -> Result<Completion, ReadFault> {
+    fn read(alloc: Global, node: &Node<'_, '_>) -> Result<Completion, ReadFault> {
         match node.sole(alloc)? {
             "when-last-act-completed" => {
                 needed_at::<True>(alloc, node, "when-last-act-completed")?;
@@ -72,7 +72,7 @@ impl Reads for UnitCompletion {
 
     ghost shape = { unit_completion };
 
-    fn read(alloc: Global, node: &Node<'_>) -> Result<Completion, ReadFault> {
+    fn read(alloc: Global, node: &Node<'_, '_>) -> Result<Completion, ReadFault> {
         match node.sole(alloc)? {
             "when-play-completed" => {
                 let plays = needed_at::<ListOf<Identifier, 1>>(alloc, node, "when-play-completed")?;
@@ -86,7 +86,7 @@ impl Reads for UnitCompletion {
 /// When the thing is completed, as `C` reads it, and what follows; both may be absent.
 pub fn ending_at<C: Reads<Value = Completion>>(
     alloc: Global,
-    node: &Node<'_>,
+    node: &Node<'_, '_>,
 ) -> Result<(Option<Completion>, Option<OnCompletion>), ReadFault>
     requires { IsObject node.now }
     ensures { GivesOrSays ((ending C.shape).shape.reading node.now) result }

@@ -22,7 +22,7 @@ impl Reads for RolePartShape {
 
     ghost shape = { part_in_act };
 
-    fn read(alloc: Global, node: &Node<'_>) -> Result<RolePart, ReadFault> {
+    fn read(alloc: Global, node: &Node<'_, '_>) -> Result<RolePart, ReadFault> {
         node.only(
             alloc,
             &[
@@ -55,7 +55,7 @@ impl Reads for ActShape {
 
     ghost shape = { act };
 
-    fn read(alloc: Global, node: &Node<'_>) -> Result<Act, ReadFault> {
+    fn read(alloc: Global, node: &Node<'_, '_>) -> Result<Act, ReadFault> {
         node.only(
             alloc,
             &[
@@ -88,7 +88,7 @@ impl Reads for PlayShape {
 
     ghost shape = { play };
 
-    fn read(alloc: Global, node: &Node<'_>) -> Result<Play, ReadFault> {
+    fn read(alloc: Global, node: &Node<'_, '_>) -> Result<Play, ReadFault> {
         node.only(
             alloc,
             &[
@@ -124,7 +124,7 @@ impl Reads for MethodShape {
 
     ghost shape = { method };
 
-    fn read(alloc: Global, node: &Node<'_>) -> Result<Method, ReadFault> {
+    fn read(alloc: Global, node: &Node<'_, '_>) -> Result<Method, ReadFault> {
         node.only(alloc, &["plays", "complete", "on-completion"])?;
         let plays = needed_at::<ListOf<PlayShape, 1>>(alloc, node, "plays")?;
         let (complete, on_completion) = ending_at::<UnitCompletion>(alloc, node)?;

@@ -39,7 +39,7 @@ impl Reads for RolesDocument {
 
     ghost shape = { roles_document };
 
-    fn read(alloc: Global, node: &Node<'_>) -> Result<RoleList, ReadFault> {
+    fn read(alloc: Global, node: &Node<'_, '_>) -> Result<RoleList, ReadFault> {
         node.only(alloc, &["roles"])?;
         let roles = needed_at::<ListOf<RoleShape, 1>>(alloc, node, "roles")?;
         Ok(roles)
@@ -54,7 +54,7 @@ impl Reads for PropertiesDocument {
 
     ghost shape = { properties_document };
 
-    fn read(alloc: Global, node: &Node<'_>) -> Result<PropertyList, ReadFault> {
+    fn read(alloc: Global, node: &Node<'_, '_>) -> Result<PropertyList, ReadFault> {
         node.only(alloc, &["properties"])?;
         let properties = list_at::<PropertyShape>(alloc, node, "properties")?;
         Ok(properties)
@@ -69,7 +69,7 @@ impl Reads for EnvironmentsDocument {
 
     ghost shape = { environments_document };
 
-    fn read(alloc: Global, node: &Node<'_>) -> Result<EnvironmentList, ReadFault> {
+    fn read(alloc: Global, node: &Node<'_, '_>) -> Result<EnvironmentList, ReadFault> {
         node.only(alloc, &["environments"])?;
         let environments = list_at::<EnvironmentShape>(alloc, node, "environments")?;
         Ok(environments)
@@ -84,7 +84,10 @@ impl Reads for ActivitiesDocument {
 
     ghost shape = { activities_document };
 
-    fn read(alloc: Global, node: &Node<'_>) -> Result<(ActivityList, StructureList), ReadFault> {
+    fn read(
+        alloc: Global,
+        node: &Node<'_, '_>,
+    ) -> Result<(ActivityList, StructureList), ReadFault> {
         node.only(alloc, &["activities", "structures"])?;
         let activities = list_at::<ActivityShape>(alloc, node, "activities")?;
         let structures = list_at::<StructureShape>(alloc, node, "structures")?;
@@ -97,7 +100,7 @@ impl Reads for ActivitiesDocument {
 ///
 /// # Errors
 /// The first fault of shape of these documents, in the order of the files, and `NoMemory`.
-pub fn read_parts(alloc: Global, docs: &Docs) -> Result<Parts, ReadFault>
+pub fn read_parts(alloc: Global, docs: &Docs<'_>) -> Result<Parts, ReadFault>
     ensures answer { GivesOrSays (parts.reading docs.now) result }
     ensures formed { IfOk result (λ read. parts.has_form read ≡ true) }
 {
@@ -106,7 +109,7 @@ pub fn read_parts(alloc: Global, docs: &Docs) -> Result<Parts, ReadFault>
 
 /// What the documents tell, document by document. Those of properties and of environments may be
 /// absent: then there are none.
-fn read_documents(alloc: Global, docs: &Docs) -> Result<Parts, ReadFault>
+fn read_documents(alloc: Global, docs: &Docs<'_>) -> Result<Parts, ReadFault>
     ensures { GivesOrSays (parts.reading docs.now) result }
 {
     let roles = read_required::<RolesDocument>(alloc, docs, FileNo::Roles)?;

@@ -73,7 +73,7 @@ impl Reads for Format {
 
     ghost shape = { format };
 
-    fn read(alloc: Global, node: &Node<'_>) -> Result<u32, ReadFault> {
+    fn read(alloc: Global, node: &Node<'_, '_>) -> Result<u32, ReadFault> {
         let format = node.whole(alloc)?;
         if format != 1 {
             return Err(node.fault(alloc, Code::NotInProfile));
@@ -90,7 +90,7 @@ impl Reads for LevelWord {
 
     ghost shape = { one_of level_words };
 
-    fn read(alloc: Global, node: &Node<'_>) -> Result<Level, ReadFault> {
+    fn read(alloc: Global, node: &Node<'_, '_>) -> Result<Level, ReadFault> {
         match node.text(alloc)? {
             "A" => Ok(Level::A),
             "B" => Ok(Level::B),
@@ -108,7 +108,7 @@ impl Reads for HeadShape {
 
     ghost shape = { head };
 
-    fn read(alloc: Global, node: &Node<'_>) -> Result<Head, ReadFault> {
+    fn read(alloc: Global, node: &Node<'_, '_>) -> Result<Head, ReadFault> {
         node.only(
             alloc,
             &[
@@ -145,7 +145,7 @@ impl Reads for HeadShape {
 /// What stands in the document behind the level.
 fn content_at(
     alloc: Global,
-    node: &Node<'_>,
+    node: &Node<'_, '_>,
 ) -> Result<
     (
         Option<PlainText>,

@@ -20,7 +20,7 @@ use std::mem::replace;
 
 /// The unit of these documents, with the parts that were read from them. On a refusal the parts are
 /// dropped. (docs/FORMATS.md, "Faults of shape")
-pub fn read_method(alloc: Global, docs: &Docs, parts: Parts) -> Result<Unit, ReadFault>
+pub fn read_method(alloc: Global, docs: &Docs<'_>, parts: Parts) -> Result<Unit, ReadFault>
     requires { (parts_shape.reading docs.now).value ≡ Some parts }
     ensures answer { GivesOrSays ((method_with parts).reading docs.now) result }
     ensures formed { IfOk result (λ unit. is_well_formed unit ≡ true) }
@@ -29,7 +29,7 @@ pub fn read_method(alloc: Global, docs: &Docs, parts: Parts) -> Result<Unit, Rea
 }
 
 /// The unit of these parts, and of what its own document and that of the conditions tell.
-fn read_with(alloc: Global, docs: &Docs, parts: Parts) -> Result<Unit, ReadFault>
+fn read_with(alloc: Global, docs: &Docs<'_>, parts: Parts) -> Result<Unit, ReadFault>
     ensures { GivesOrSays ((method_with parts).reading docs.now) result }
 {
     let head = read_required::<HeadShape>(alloc, docs, FileNo::Unit)?;
@@ -77,9 +77,9 @@ fn unit_with(alloc: Global, parts: Parts, head: Head, conditions: ConditionList)
     }
 }
 
-/// Documents without a fault of shape stand for a unit, which is well-formed. The body is empty: the
-/// law is about what the readers are held to, and holds for all documents.
-pub fn documents_without_a_fault_stand_for_a_unit(docs: &Docs)
+/// Documents without a fault of shape stand for a unit, which is well-formed. The body is empty:
+/// the law is about what the readers are held to, and holds for all documents.
+pub fn documents_without_a_fault_stand_for_a_unit(docs: &Docs<'_>)
     ensures { (unit_shape.reading docs.now).faults ≡ [] → (unit : Course)
         × ((unit_shape.reading docs.now).value ≡ Some unit) × (is_well_formed unit ≡ true) }
 {}

@@ -34,7 +34,7 @@ impl Reads for ActivityWord {
 
     ghost shape = { one_of activity_words };
 
-    fn read(alloc: Global, node: &Node<'_>) -> Result<ActivityKind, ReadFault> {
+    fn read(alloc: Global, node: &Node<'_, '_>) -> Result<ActivityKind, ReadFault> {
         match node.text(alloc)? {
             "learning" => Ok(ActivityKind::Learning),
             "support" => Ok(ActivityKind::Support),
@@ -51,7 +51,7 @@ impl Reads for ActivityShape {
 
     ghost shape = { activity };
 
-    fn read(alloc: Global, node: &Node<'_>) -> Result<Activity, ReadFault> {
+    fn read(alloc: Global, node: &Node<'_, '_>) -> Result<Activity, ReadFault> {
         let kind = kind_of(alloc, node)?;
         read_of_kind(alloc, node, kind)
     }
@@ -59,7 +59,7 @@ impl Reads for ActivityShape {
 
 /// The kind of the activity at the node: learning where none is given, support where what is given
 /// is none of the two.
-fn kind_of(alloc: Global, node: &Node<'_>) -> Result<ActivityKind, NoMemory>
+fn kind_of(alloc: Global, node: &Node<'_, '_>) -> Result<ActivityKind, NoMemory>
     ensures { IfOk result (λ kind. kind ≡ activity_kind node.now) }
 {
     if !node.is_object() {
@@ -70,7 +70,11 @@ fn kind_of(alloc: Global, node: &Node<'_>) -> Result<ActivityKind, NoMemory>
 }
 
 /// An activity of this kind.
-fn read_of_kind(alloc: Global, node: &Node<'_>, kind: ActivityKind) -> Result<Activity, ReadFault>
+fn read_of_kind(
+    alloc: Global,
+    node: &Node<'_, '_>,
+    kind: ActivityKind,
+) -> Result<Activity, ReadFault>
     ensures { GivesOrSays ((activity_by kind).reading node.now) result }
 {
     only_of_kind(alloc, node, kind)?;
@@ -96,7 +100,7 @@ fn read_of_kind(alloc: Global, node: &Node<'_>, kind: ActivityKind) -> Result<Ac
 }
 
 /// That the node is an object without members but those of an activity of this kind.
-fn only_of_kind(alloc: Global, node: &Node<'_>, kind: ActivityKind) -> Result<(), ReadFault>
+fn only_of_kind(alloc: Global, node: &Node<'_, '_>, kind: ActivityKind) -> Result<(), ReadFault>
     ensures object { OnOk result (IsObject node.now) }
     ensures only { GivesOrSays (only_members (activity_members kind) node.now) result }
 {
@@ -107,7 +111,7 @@ fn only_of_kind(alloc: Global, node: &Node<'_>, kind: ActivityKind) -> Result<()
 }
 
 /// That the node is an object without members but those of a learning activity.
-fn only_learning(alloc: Global, node: &Node<'_>) -> Result<(), ReadFault>
+fn only_learning(alloc: Global, node: &Node<'_, '_>) -> Result<(), ReadFault>
     ensures object { OnOk result (IsObject node.now) }
     ensures only { GivesOrSays
         (only_members (activity_members ActivityKind.Learning) node.now) result }
@@ -131,7 +135,7 @@ fn only_learning(alloc: Global, node: &Node<'_>) -> Result<(), ReadFault>
 }
 
 /// That the node is an object without members but those of a support activity.
-fn only_support(alloc: Global, node: &Node<'_>) -> Result<(), ReadFault>
+fn only_support(alloc: Global, node: &Node<'_, '_>) -> Result<(), ReadFault>
     ensures object { OnOk result (IsObject node.now) }
     ensures only { GivesOrSays
         (only_members (activity_members ActivityKind.Support) node.now) result }
@@ -158,14 +162,15 @@ fn only_support(alloc: Global, node: &Node<'_>) -> Result<(), ReadFault>
 /// What an activity has people do: its items, when it is completed, and what follows then.
 type Doing = (ItemList, (Option<Completion>, Option<OnCompletion>));
 
-/// What an activity holds: objectives, prerequisites, supported roles, environments, and what is done.
+/// What an activity holds: objectives, prerequisites, supported roles, environments, and what is
+/// done.
 type Content = (
     ItemList,
     (ItemList, (ReferenceList, (ReferenceList, Doing))),
 );
 
 /// What stands behind the members that say what is shown of an activity of this kind.
-fn content_at(alloc: Global, node: &Node<'_>, kind: ActivityKind) -> Result<Content, ReadFault>
+fn content_at(alloc: Global, node: &Node<'_, '_>, kind: ActivityKind) -> Result<Content, ReadFault>
     requires { IsObject node.now }
     ensures { GivesOrSays ((content_by kind).shape.reading node.now) result }
 {
@@ -181,7 +186,7 @@ fn content_at(alloc: Global, node: &Node<'_>, kind: ActivityKind) -> Result<Cont
 }
 
 /// What is done in an activity, when it is completed, and what follows then.
-fn doing_at(alloc: Global, node: &Node<'_>) -> Result<Doing, ReadFault>
+fn doing_at(alloc: Global, node: &Node<'_, '_>) -> Result<Doing, ReadFault>
     requires { IsObject node.now }
     ensures { GivesOrSays (doing.shape.reading node.now) result }
 {
@@ -194,7 +199,7 @@ fn doing_at(alloc: Global, node: &Node<'_>) -> Result<Doing, ReadFault>
 /// The roles that an activity of this kind supports; a learning activity supports nobody.
 fn supports_at(
     alloc: Global,
-    node: &Node<'_>,
+    node: &Node<'_, '_>,
     kind: ActivityKind,
 ) -> Result<ReferenceList, ReadFault>
     requires { IsObject node.now }

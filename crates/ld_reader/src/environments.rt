@@ -24,7 +24,7 @@ impl Reads for ObjectShape {
 
     ghost shape = { learning_object };
 
-    fn read(alloc: Global, node: &Node<'_>) -> Result<LearningObject, ReadFault> {
+    fn read(alloc: Global, node: &Node<'_, '_>) -> Result<LearningObject, ReadFault> {
         node.only(alloc, &["identifier", "title", "visible", "items"])?;
         Ok(LearningObject {
             identifier: needed_at::<Identifier>(alloc, node, "identifier")?,
@@ -43,7 +43,7 @@ impl Reads for ServiceWord {
 
     ghost shape = { one_of service_words };
 
-    fn read(alloc: Global, node: &Node<'_>) -> Result<ServiceKind, ReadFault> {
+    fn read(alloc: Global, node: &Node<'_, '_>) -> Result<ServiceKind, ReadFault> {
         match node.text(alloc)? {
             "send-mail" => Ok(ServiceKind::SendMail),
             "conference" => Ok(ServiceKind::Conference),
@@ -62,7 +62,7 @@ impl Reads for ServiceShape {
 
     ghost shape = { service };
 
-    fn read(alloc: Global, node: &Node<'_>) -> Result<Service, ReadFault> {
+    fn read(alloc: Global, node: &Node<'_, '_>) -> Result<Service, ReadFault> {
         node.only(alloc, &["identifier", "kind", "title", "visible"])?;
         Ok(Service {
             identifier: needed_at::<Identifier>(alloc, node, "identifier")?,
@@ -81,7 +81,7 @@ impl Reads for EnvironmentShape {
 
     ghost shape = { environment };
 
-    fn read(alloc: Global, node: &Node<'_>) -> Result<Environment, ReadFault> {
+    fn read(alloc: Global, node: &Node<'_, '_>) -> Result<Environment, ReadFault> {
         node.only(
             alloc,
             &[

@@ -1,5 +1,6 @@
-//! Readers of roles, properties, environments, activities and structures, by the descriptions of these
-//! objects (crate `ld_formats`): what a node stands for, or its first fault. (docs/FORMATS.md, "Documents")
+//! Readers of roles, properties, environments, activities and structures, by the descriptions of
+//! these objects (crate `ld_formats`): what a node stands for, or its first fault.
+//! (docs/FORMATS.md, "Documents")
 #![tactic(auto, using(ld_json::proofs::First::says_more))]
 
 pub mod activities;

@@ -33,7 +33,7 @@ impl Reads for PropertyWord {
 
     ghost shape = { one_of property_words };
 
-    fn read(alloc: Global, node: &Node<'_>) -> Result<PropertyKind, ReadFault> {
+    fn read(alloc: Global, node: &Node<'_, '_>) -> Result<PropertyKind, ReadFault> {
         match node.text(alloc)? {
             "loc" => Ok(PropertyKind::Loc),
             "locpers" => Ok(PropertyKind::LocPers),
@@ -53,7 +53,7 @@ impl Reads for DatatypeWord {
 
     ghost shape = { datatype };
 
-    fn read(alloc: Global, node: &Node<'_>) -> Result<Kind, ReadFault> {
+    fn read(alloc: Global, node: &Node<'_, '_>) -> Result<Kind, ReadFault> {
         match node.text(alloc)? {
             "string" => Ok(Kind::String),
             "text" => Ok(Kind::Text),
@@ -76,7 +76,7 @@ impl<R: Reads> Reads for Present<R> {
 
     ghost shape = { present R.shape };
 
-    fn read(alloc: Global, node: &Node<'_>) -> Result<Option<R::Value>, ReadFault> {
+    fn read(alloc: Global, node: &Node<'_, '_>) -> Result<Option<R::Value>, ReadFault> {
         let value = R::read(alloc, node)?;
         Ok(Some(value))
     }
@@ -90,14 +90,14 @@ impl Reads for PropertyShape {
 
     ghost shape = { property };
 
-    fn read(alloc: Global, node: &Node<'_>) -> Result<Property, ReadFault> {
+    fn read(alloc: Global, node: &Node<'_, '_>) -> Result<Property, ReadFault> {
         let kind = kind_of(alloc, node)?;
         read_property_of(alloc, node, kind)
     }
 }
 
 /// The kind of the property at the node, if it is one of the five.
-fn kind_of(alloc: Global, node: &Node<'_>) -> Result<Option<PropertyKind>, NoMemory>
+fn kind_of(alloc: Global, node: &Node<'_, '_>) -> Result<Option<PropertyKind>, NoMemory>
     ensures { IfOk result (λ kind. kind ≡ property_kind node.now) }
 {
     if !node.is_object() {
@@ -109,7 +109,7 @@ fn kind_of(alloc: Global, node: &Node<'_>) -> Result<Option<PropertyKind>, NoMem
 /// A property, whose members are those of this kind.
 fn read_property_of(
     alloc: Global,
-    node: &Node<'_>,
+    node: &Node<'_, '_>,
     kind: Option<PropertyKind>,
 ) -> Result<Property, ReadFault>
     ensures { GivesOrSays ((property_by kind).reading node.now) result }
@@ -133,7 +133,11 @@ fn read_property_of(
 }
 
 /// That the node is an object, and its members are those of a property of this kind.
-fn only_of_kind(alloc: Global, node: &Node<'_>, kind: Option<PropertyKind>) -> Result<(), ReadFault>
+fn only_of_kind(
+    alloc: Global,
+    node: &Node<'_, '_>,
+    kind: Option<PropertyKind>,
+) -> Result<(), ReadFault>
     ensures object { IfOk result (λ _. IsObject node.now) }
     ensures only { GivesOrSays (only_members (property_members kind) node.now) result }
 {
@@ -148,7 +152,7 @@ fn only_of_kind(alloc: Global, node: &Node<'_>, kind: Option<PropertyKind>) -> R
 }
 
 /// That the members are those of a property of any kind.
-fn only_unknown(alloc: Global, node: &Node<'_>) -> Result<(), ReadFault>
+fn only_unknown(alloc: Global, node: &Node<'_, '_>) -> Result<(), ReadFault>
     ensures object { IfOk result (λ _. IsObject node.now) }
     ensures only { GivesOrSays (only_members (property_members None) node.now) result }
 {
@@ -168,7 +172,7 @@ fn only_unknown(alloc: Global, node: &Node<'_>) -> Result<(), ReadFault>
 }
 
 /// That the members are those of a role's property.
-fn only_of_role(alloc: Global, node: &Node<'_>) -> Result<(), ReadFault>
+fn only_of_role(alloc: Global, node: &Node<'_, '_>) -> Result<(), ReadFault>
     ensures object { IfOk result (λ _. IsObject node.now) }
     ensures only { GivesOrSays (only_members (property_members (Some LocRole)) node.now) result }
 {
@@ -187,7 +191,7 @@ fn only_of_role(alloc: Global, node: &Node<'_>) -> Result<(), ReadFault>
 }
 
 /// That the members are those of a property of each run, or of each person in each run.
-fn only_of_runs(alloc: Global, node: &Node<'_>) -> Result<(), ReadFault>
+fn only_of_runs(alloc: Global, node: &Node<'_, '_>) -> Result<(), ReadFault>
     ensures object { IfOk result (λ _. IsObject node.now) }
     ensures only { GivesOrSays (only_members (property_members (Some Loc)) node.now) result }
 {
@@ -205,7 +209,7 @@ fn only_of_runs(alloc: Global, node: &Node<'_>) -> Result<(), ReadFault>
 }
 
 /// That the members are those of a property that all runs share.
-fn only_shared(alloc: Global, node: &Node<'_>) -> Result<(), ReadFault>
+fn only_shared(alloc: Global, node: &Node<'_, '_>) -> Result<(), ReadFault>
     ensures object { IfOk result (λ _. IsObject node.now) }
     ensures only { GivesOrSays (only_members (property_members (Some Glob)) node.now) result }
 {
@@ -226,7 +230,7 @@ fn only_shared(alloc: Global, node: &Node<'_>) -> Result<(), ReadFault>
 /// Whose the property is, how it begins, and what restricts it.
 fn owner_and_values_at(
     alloc: Global,
-    node: &Node<'_>,
+    node: &Node<'_, '_>,
     kind: Option<PropertyKind>,
 ) -> Result<
     (
@@ -248,7 +252,7 @@ fn owner_and_values_at(
 /// The role of a property of this kind.
 fn role_at(
     alloc: Global,
-    node: &Node<'_>,
+    node: &Node<'_, '_>,
     kind: Option<PropertyKind>,
 ) -> Result<Option<Id>, ReadFault>
     requires { IsObject node.now }
@@ -264,7 +268,7 @@ fn role_at(
 /// The name that a property of this kind has in all runs.
 fn uri_at(
     alloc: Global,
-    node: &Node<'_>,
+    node: &Node<'_, '_>,
     kind: Option<PropertyKind>,
 ) -> Result<Option<PlainText>, ReadFault>
     requires { IsObject node.now }

@@ -22,7 +22,7 @@ impl Reads for RestrictionsShape {
 
     ghost shape = { restrictions };
 
-    fn read(alloc: Global, node: &Node<'_>) -> Result<Restrictions, ReadFault> {
+    fn read(alloc: Global, node: &Node<'_, '_>) -> Result<Restrictions, ReadFault> {
         node.only(
             alloc,
             &[

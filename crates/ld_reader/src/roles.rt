@@ -31,7 +31,7 @@ impl Reads for KindWord {
 
     ghost shape = { one_of kind_words };
 
-    fn read(alloc: Global, node: &Node<'_>) -> Result<RoleKind, ReadFault> {
+    fn read(alloc: Global, node: &Node<'_, '_>) -> Result<RoleKind, ReadFault> {
         match node.text(alloc)? {
             "learner" => Ok(RoleKind::Learner),
             "staff" => Ok(RoleKind::Staff),
@@ -48,7 +48,7 @@ impl Reads for MatchWord {
 
     ghost shape = { one_of match_words };
 
-    fn read(alloc: Global, node: &Node<'_>) -> Result<MatchPersons, ReadFault> {
+    fn read(alloc: Global, node: &Node<'_, '_>) -> Result<MatchPersons, ReadFault> {
         match node.text(alloc)? {
             "exclusively-in-roles" => Ok(MatchPersons::ExclusivelyInRoles),
             "not-exclusively" => Ok(MatchPersons::NotExclusively),
@@ -65,7 +65,7 @@ impl Reads for CreationWord {
 
     ghost shape = { creation };
 
-    fn read(alloc: Global, node: &Node<'_>) -> Result<CreateNew, ReadFault> {
+    fn read(alloc: Global, node: &Node<'_, '_>) -> Result<CreateNew, ReadFault> {
         match node.text(alloc)? {
             "not-allowed" => Ok(CreateNew::NotAllowed),
             "allowed" => Err(node.fault(alloc, Code::NotInProfile)),
@@ -85,14 +85,14 @@ impl Reads for RoleShape {
 
     ghost shape = { role };
 
-    fn read(alloc: Global, node: &Node<'_>) -> Result<Role, ReadFault> {
+    fn read(alloc: Global, node: &Node<'_, '_>) -> Result<Role, ReadFault> {
         let kind = kind_of(alloc, node)?;
         read_role_of(alloc, node, kind)
     }
 }
 
 /// The kind of the role at the node; learner where the node tells none.
-fn kind_of(alloc: Global, node: &Node<'_>) -> Result<RoleKind, NoMemory>
+fn kind_of(alloc: Global, node: &Node<'_, '_>) -> Result<RoleKind, NoMemory>
     ensures { IfOk result (λ kind. kind ≡ role_kind node.now) }
 {
     if !node.is_object() {
@@ -103,7 +103,7 @@ fn kind_of(alloc: Global, node: &Node<'_>) -> Result<RoleKind, NoMemory>
 }
 
 /// A role at the top; the roles within it have this kind.
-fn read_role_of(alloc: Global, node: &Node<'_>, kind: RoleKind) -> Result<Role, ReadFault>
+fn read_role_of(alloc: Global, node: &Node<'_, '_>, kind: RoleKind) -> Result<Role, ReadFault>
     ensures { GivesOrSays ((role_of kind).reading node.now) result }
 {
     node.only(
@@ -146,7 +146,7 @@ fn read_role_of(alloc: Global, node: &Node<'_>, kind: RoleKind) -> Result<Role, 
 
 /// A role within one of this kind.
 #[cycle(roles)]
-fn read_inner(alloc: Global, node: &Node<'_>, kind: RoleKind) -> Result<Role, ReadFault>
+fn read_inner(alloc: Global, node: &Node<'_, '_>, kind: RoleKind) -> Result<Role, ReadFault>
     ensures { GivesOrSays ((inner_role kind).reading node.now) result }
 {
     read_one(alloc, &*node, kind)
@@ -154,7 +154,7 @@ fn read_inner(alloc: Global, node: &Node<'_>, kind: RoleKind) -> Result<Role, Re
 
 /// A role within one of this kind, made of roles within it.
 #[cycle(roles)]
-fn read_one(alloc: Global, node: &Node<'_>, kind: RoleKind) -> Result<Role, ReadFault>
+fn read_one(alloc: Global, node: &Node<'_, '_>, kind: RoleKind) -> Result<Role, ReadFault>
     ensures { GivesOrSays ((inner_step kind (inner_role kind)).reading node.now) result }
 {
     node.only(
@@ -195,7 +195,7 @@ fn read_one(alloc: Global, node: &Node<'_>, kind: RoleKind) -> Result<Role, Read
 
 /// The roles of this kind at the member `roles`; none where it is absent.
 #[cycle(roles)]
-fn roles_at(alloc: Global, node: &Node<'_>, kind: RoleKind) -> Result<Vec<Role>, ReadFault>
+fn roles_at(alloc: Global, node: &Node<'_, '_>, kind: RoleKind) -> Result<Vec<Role>, ReadFault>
     requires { IsObject node.now }
     ensures value { IfOk result
         (λ roles. Gives
@@ -213,7 +213,7 @@ fn roles_at(alloc: Global, node: &Node<'_>, kind: RoleKind) -> Result<Vec<Role>,
 
 /// The roles of this kind in an array.
 #[cycle(roles)]
-fn read_roles(alloc: Global, node: &Node<'_>, kind: RoleKind) -> Result<Vec<Role>, ReadFault>
+fn read_roles(alloc: Global, node: &Node<'_, '_>, kind: RoleKind) -> Result<Vec<Role>, ReadFault>
     ensures value { IfOk result
         (λ roles. Gives ((list_of 0 (shape_of (inner_role kind))).reading node.now) roles.items) }
     ensures first { IfErr result
@@ -228,7 +228,7 @@ fn read_roles(alloc: Global, node: &Node<'_>, kind: RoleKind) -> Result<Vec<Role
 #[cycle(roles)]
 fn read_each(
     alloc: Global,
-    node: &Node<'_>,
+    node: &Node<'_, '_>,
     count: usize,
     kind: RoleKind,
 ) -> Result<Vec<Role>, ReadFault>

@@ -30,7 +30,7 @@ impl Reads for StructureWord {
 
     ghost shape = { one_of structure_words };
 
-    fn read(alloc: Global, node: &Node<'_>) -> Result<StructureKind, ReadFault> {
+    fn read(alloc: Global, node: &Node<'_, '_>) -> Result<StructureKind, ReadFault> {
         match node.text(alloc)? {
             "sequence" => Ok(StructureKind::Sequence),
             "selection" => Ok(StructureKind::Selection),
@@ -47,7 +47,7 @@ impl Reads for StructureShape {
 
     ghost shape = { structure };
 
-    fn read(alloc: Global, node: &Node<'_>) -> Result<Structure, ReadFault> {
+    fn read(alloc: Global, node: &Node<'_, '_>) -> Result<Structure, ReadFault> {
         let key = key_of(alloc, node)?;
         read_of_key(alloc, node, key)
     }
@@ -59,7 +59,7 @@ type Key = (StructureKind, Option<usize>);
 
 /// What the node tells of its kind and its children. What is none of the two kinds counts as a
 /// selection.
-fn key_of(alloc: Global, node: &Node<'_>) -> Result<Key, NoMemory>
+fn key_of(alloc: Global, node: &Node<'_, '_>) -> Result<Key, NoMemory>
     ensures { IfOk result (λ key. key ≡ (structure_kind node.now, children_count node.now)) }
 {
     if !node.is_object() {
@@ -71,7 +71,7 @@ fn key_of(alloc: Global, node: &Node<'_>) -> Result<Key, NoMemory>
 }
 
 /// The number of children, if there is a list of them.
-fn count_children(alloc: Global, node: &Node<'_>) -> Result<Option<usize>, NoMemory>
+fn count_children(alloc: Global, node: &Node<'_, '_>) -> Result<Option<usize>, NoMemory>
     requires { IsObject node.now }
     ensures { IfOk result (λ count. count ≡ children_count node.now) }
 {
@@ -82,7 +82,7 @@ fn count_children(alloc: Global, node: &Node<'_>) -> Result<Option<usize>, NoMem
 }
 
 /// The number of elements, if the node is a list.
-fn count_if_list(alloc: Global, node: &Node<'_>) -> Result<Option<usize>, NoMemory>
+fn count_if_list(alloc: Global, node: &Node<'_, '_>) -> Result<Option<usize>, NoMemory>
     ensures { IfOk result (λ count. count ≡ count_of node.now) }
 {
     match node.count(alloc) {
@@ -93,7 +93,7 @@ fn count_if_list(alloc: Global, node: &Node<'_>) -> Result<Option<usize>, NoMemo
 }
 
 /// A structure of this kind, with so many children.
-fn read_of_key(alloc: Global, node: &Node<'_>, key: Key) -> Result<Structure, ReadFault>
+fn read_of_key(alloc: Global, node: &Node<'_, '_>, key: Key) -> Result<Structure, ReadFault>
     ensures { GivesOrSays ((structure_by key).reading node.now) result }
 {
     only_structure(alloc, node, key)?;
@@ -115,7 +115,7 @@ fn read_of_key(alloc: Global, node: &Node<'_>, key: Key) -> Result<Structure, Re
 
 /// That the node is an object without members but those of a structure, which are the same in all
 /// kinds.
-fn only_structure(alloc: Global, node: &Node<'_>, key: Key) -> Result<(), ReadFault>
+fn only_structure(alloc: Global, node: &Node<'_, '_>, key: Key) -> Result<(), ReadFault>
     ensures object { OnOk result (IsObject node.now) }
     ensures only { GivesOrSays (only_members (structure_members key) node.now) result }
 {
@@ -142,7 +142,7 @@ type Content = (Option<u32>, (ReferenceList, (ReferenceList, ((), ()))));
 
 /// What stands behind the members that say what is shown of a structure of this kind, with so many
 /// children.
-fn content_at(alloc: Global, node: &Node<'_>, key: Key) -> Result<Content, ReadFault>
+fn content_at(alloc: Global, node: &Node<'_, '_>, key: Key) -> Result<Content, ReadFault>
     requires { IsObject node.now }
     ensures { GivesOrSays ((content_by key).shape.reading node.now) result }
 {
@@ -156,7 +156,7 @@ fn content_at(alloc: Global, node: &Node<'_>, key: Key) -> Result<Content, ReadF
 
 /// The number of children to be done, from 1 to their number where there is a list of them. In a
 /// sequence it is `not-in-profile`, whatever it holds.
-fn selected_at(alloc: Global, node: &Node<'_>, key: Key) -> Result<Option<u32>, ReadFault>
+fn selected_at(alloc: Global, node: &Node<'_, '_>, key: Key) -> Result<Option<u32>, ReadFault>
     requires { IsObject node.now }
     ensures { GivesOrSays ((selected_by key).shape.reading node.now) result }
 {
@@ -174,7 +174,11 @@ fn selected_at(alloc: Global, node: &Node<'_>, key: Key) -> Result<Option<u32>, 
 }
 
 /// The number of children to be done, of so many.
-fn selected_among(alloc: Global, node: &Node<'_>, count: usize) -> Result<Option<u32>, ReadFault>
+fn selected_among(
+    alloc: Global,
+    node: &Node<'_, '_>,
+    count: usize,
+) -> Result<Option<u32>, ReadFault>
     requires { IsObject node.now }
     ensures { GivesOrSays ((some_selected (Some count)).shape.reading node.now) result }
 {
@@ -185,9 +189,9 @@ fn selected_among(alloc: Global, node: &Node<'_>, count: usize) -> Result<Option
     Ok(Some(number))
 }
 
-/// The whole number from 1 to `most` that the node is. One that doesn't fit 32 bits is want of memory:
-/// no machine holds so long a list.
-fn number_up_to(alloc: Global, node: &Node<'_>, most: usize) -> Result<u32, ReadFault>
+/// The whole number from 1 to `most` that the node is. One that doesn't fit 32 bits is want of
+/// memory: no machine holds so long a list.
+fn number_up_to(alloc: Global, node: &Node<'_, '_>, most: usize) -> Result<u32, ReadFault>
     ensures { GivesOrSays ((number 1 most).reading node.now) result }
 {
     let number = node.whole(alloc)?;
@@ -211,7 +215,7 @@ impl Reads for FromOne {
 
     ghost shape = { from_one };
 
-    fn read(alloc: Global, node: &Node<'_>) -> Result<u64, ReadFault> {
+    fn read(alloc: Global, node: &Node<'_, '_>) -> Result<u64, ReadFault> {
         let number = node.whole(alloc)?;
         if number < 1 {
             return Err(node.fault(alloc, Code::WrongShape));

@@ -1,5 +1,5 @@
-//! Tests of what no clause says of the floors of a run: that their calls succeed where there is memory,
-//! and what comes out of them, told by hand.
+//! Tests of what no clause says of the floors of a run: that their calls succeed where there is
+//! memory, and what comes out of them, told by hand.
 #![tactic(auto)]
 
 #[cfg(test)]

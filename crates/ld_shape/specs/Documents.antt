@@ -1,9 +1,8 @@
 -- The documents of a unit.
-use Rattle.std.specs.Prelude.{◌≡◌, [], Option, Some, None, true, slice_get}
+use Rattle.std.specs.Prelude.{◌≡◌, [], Option, Some, None, true}
 use Rattle.serde_json.specs.Data.{Data}
-use Rattle.ld_base.specs.Maybe.{◌>>=◌}
 use Rattle.ld_json.specs.Fault.{Told}
-use Rattle.ld_json.specs.Files.{file_index}
+use Rattle.ld_json.specs.Docs.{document_of}
 use Rattle.ld_json.specs.Node.{Placed}
 use Rattle.ld_json.specs.declared.code.Code.TheVariants.{Absent}
 use Rattle.ld_json.specs.declared.docs.Docs.{Docs}
@@ -16,10 +15,6 @@ use Rattle.ld_shape.specs.Shapes.{Described, Shape}
 abbrev pub UnitShape : Type 0 → Type 0
 UnitShape A = Described Docs A
 
--- The tree of the document, if the file is there.
-abbrev pub tree_of : Docs → FileNo → Option Data
-tree_of docs file = slice_get docs.of (file_index file) >>= λ tree. tree
-
 -- The node of a whole document.
 abbrev pub root_node : FileNo → Data → Placed
 root_node file tree = record { file = file; place = []; tree = tree }
@@ -31,12 +26,12 @@ absent_file file = record { file = file; place = []; code = Absent }
 -- What is read from the document of this file, which has to be there.
 abbrev pub required_reading : {A : Type 0} → FileNo → Shape A → Docs → Reading A
 required_reading file shape docs = part_or (faulty (absent_file file))
-    (λ tree. shape.reading (root_node file tree)) (tree_of docs file)
+    (λ tree. shape.reading (root_node file tree)) (document_of docs file)
 
 -- What is read from the document of this file, or the default where the file is not there.
 abbrev pub document_reading : {A : Type 0} → A → FileNo → Shape A → Docs → Reading A
 document_reading default file shape docs = part_or (found default)
-    (λ tree. shape.reading (root_node file tree)) (tree_of docs file)
+    (λ tree. shape.reading (root_node file tree)) (document_of docs file)
 
 -- The document of this file, which has to be there, as a shape.
 abbrev pub required_in : {A : Type 0} → FileNo → Shape A → UnitShape A
@@ -44,7 +39,7 @@ required_in file shape = record {
   reading = required_reading file shape;
   has_form = shape.has_form;
   formed = λ docs. part_keeps shape.has_form None (λ tree. (shape.reading (root_node file tree)).value) tt
-      (λ tree. shape.formed (root_node file tree)) (tree_of docs file);
+      (λ tree. shape.formed (root_node file tree)) (document_of docs file);
 }
 
 -- The document of this file, or the default where the file is not there, as a shape. The default has its form.
@@ -55,5 +50,5 @@ document_or default file shape is = record {
   has_form = shape.has_form;
   formed = λ docs. part_keeps shape.has_form (Some default)
       (λ tree. (shape.reading (root_node file tree)).value) is (λ tree. shape.formed (root_node file tree))
-      (tree_of docs file);
+      (document_of docs file);
 }

@@ -14,7 +14,7 @@ use std::alloc::Global;
 /// The document of this file, which has to be there.
 pub fn read_required<R: Reads>(
     alloc: Global,
-    docs: &Docs,
+    docs: &Docs<'_>,
     file: FileNo,
 ) -> Result<R::Value, ReadFault>
     ensures { GivesOrSays (required_reading file R.shape docs.now) result }
@@ -39,7 +39,7 @@ fn absent(alloc: Global, file: FileNo) -> ReadFault
 /// The document of this file, or the default where the file is not there.
 pub fn read_document_or<R: Reads>(
     alloc: Global,
-    docs: &Docs,
+    docs: &Docs<'_>,
     file: FileNo,
     default: R::Value,
 ) -> Result<R::Value, ReadFault>

@@ -26,7 +26,7 @@ impl<R: Reads, const LEAST: usize> Reads for ListOf<R, LEAST> {
 
     ghost shape = { list_of LEAST R.shape };
 
-    fn read(alloc: Global, node: &Node<'_>) -> Result<Items<R::Value>, ReadFault> {
+    fn read(alloc: Global, node: &Node<'_, '_>) -> Result<Items<R::Value>, ReadFault> {
         let count = count_from(alloc, node, LEAST)?;
         read_each::<R>(alloc, node, count)
     }
@@ -40,7 +40,7 @@ impl<R: Reads, const LEAST: usize, const MOST: usize> Reads for ListBetween<R, L
 
     ghost shape = { list_between LEAST MOST R.shape };
 
-    fn read(alloc: Global, node: &Node<'_>) -> Result<Items<R::Value>, ReadFault> {
+    fn read(alloc: Global, node: &Node<'_, '_>) -> Result<Items<R::Value>, ReadFault> {
         let count = count_between(alloc, node, LEAST, MOST)?;
         read_each::<R>(alloc, node, count)
     }
@@ -54,7 +54,7 @@ impl<R: Reads> Reads for PairOf<R> {
 
     ghost shape = { pair_of R.shape };
 
-    fn read(alloc: Global, node: &Node<'_>) -> Result<(R::Value, R::Value), ReadFault> {
+    fn read(alloc: Global, node: &Node<'_, '_>) -> Result<(R::Value, R::Value), ReadFault> {
         count_two(alloc, node)?;
         let first = R::read(alloc, &node.item(0))?;
         let second = R::read(alloc, &node.item(1))?;
@@ -62,9 +62,9 @@ impl<R: Reads> Reads for PairOf<R> {
     }
 }
 
-/// That an array has just two elements. `wrong-shape` exactly where the node is no array or has fewer
-/// or more.
-pub fn count_two(alloc: Global, node: &Node<'_>) -> Result<(), ReadFault>
+/// That an array has just two elements. `wrong-shape` exactly where the node is no array or has
+/// fewer or more.
+pub fn count_two(alloc: Global, node: &Node<'_, '_>) -> Result<(), ReadFault>
     ensures array { OnOk result (IsArray node.now) }
     ensures two { OnOk result (length (item_nodes node.now) ≡ 2) }
     ensures first { IfErr result (SaysFirst (two_faults node.now)) }
@@ -79,7 +79,7 @@ pub fn count_two(alloc: Global, node: &Node<'_>) -> Result<(), ReadFault>
 /// The list at the member of this name; an absent one is empty.
 pub fn list_at<R: Reads>(
     alloc: Global,
-    node: &Node<'_>,
+    node: &Node<'_, '_>,
     name: &str,
 ) -> Result<Items<R::Value>, ReadFault>
     requires { IsObject node.now }
@@ -91,7 +91,7 @@ pub fn list_at<R: Reads>(
 /// The values of the elements of an array, which are so many.
 fn read_each<R: Reads>(
     alloc: Global,
-    node: &Node<'_>,
+    node: &Node<'_, '_>,
     count: usize,
 ) -> Result<Items<R::Value>, ReadFault>
     requires array { IsArray node.now }
@@ -106,9 +106,9 @@ fn read_each<R: Reads>(
     Ok(Items::from_vec(values))
 }
 
-/// The number of elements of an array that has at least so many. `wrong-shape` exactly where the node
-/// is no array or has fewer.
-pub fn count_from(alloc: Global, node: &Node<'_>, least: usize) -> Result<usize, ReadFault>
+/// The number of elements of an array that has at least so many. `wrong-shape` exactly where the
+/// node is no array or has fewer.
+pub fn count_from(alloc: Global, node: &Node<'_, '_>, least: usize) -> Result<usize, ReadFault>
     ensures array { OnOk result (IsArray node.now) }
     ensures value { IfOk result (λ count. count ≡ length (item_nodes node.now)) }
     ensures faultless { OnOk result (HasNumber (nat_le least) node.now) }
@@ -125,7 +125,7 @@ pub fn count_from(alloc: Global, node: &Node<'_>, least: usize) -> Result<usize,
 /// where the node is no array or has fewer or more.
 pub fn count_between(
     alloc: Global,
-    node: &Node<'_>,
+    node: &Node<'_, '_>,
     least: usize,
     most: usize,
 ) -> Result<usize, ReadFault>

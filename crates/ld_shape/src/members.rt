@@ -16,7 +16,7 @@ use std::alloc::Global;
 /// The member of this name, which has to be there.
 pub fn needed_at<R: Reads>(
     alloc: Global,
-    node: &Node<'_>,
+    node: &Node<'_, '_>,
     name: &str,
 ) -> Result<R::Value, ReadFault>
     requires { IsObject node.now }
@@ -29,7 +29,7 @@ pub fn needed_at<R: Reads>(
 /// The member of this name, if it is there.
 pub fn optional_at<R: Reads>(
     alloc: Global,
-    node: &Node<'_>,
+    node: &Node<'_, '_>,
     name: &str,
 ) -> Result<Option<R::Value>, ReadFault>
     requires { IsObject node.now }
@@ -45,7 +45,7 @@ pub fn optional_at<R: Reads>(
 /// The member of this name, or the default where it is absent.
 pub fn default_at<R: Reads>(
     alloc: Global,
-    node: &Node<'_>,
+    node: &Node<'_, '_>,
     name: &str,
     default: R::Value,
 ) -> Result<R::Value, ReadFault>
@@ -59,7 +59,7 @@ pub fn default_at<R: Reads>(
 }
 
 /// That there is no member of this name, which this engine leaves out.
-pub fn absent_at(alloc: Global, node: &Node<'_>, name: &str) -> Result<(), ReadFault>
+pub fn absent_at(alloc: Global, node: &Node<'_, '_>, name: &str) -> Result<(), ReadFault>
     requires { IsObject node.now }
     ensures { GivesOrSays ((absent_in name.now).reading node.now) result }
 {
@@ -70,11 +70,11 @@ pub fn absent_at(alloc: Global, node: &Node<'_>, name: &str) -> Result<(), ReadF
 }
 
 /// What the member of this name is, or the default where it is absent; `Ok(None)` where it is
-/// something else. It names no fault, and is for looking ahead, as where the kind of an object says what else
-/// it may have.
+/// something else. It names no fault, and is for looking ahead, as where the kind of an object says
+/// what else it may have.
 pub fn known_or<R: Reads>(
     alloc: Global,
-    node: &Node<'_>,
+    node: &Node<'_, '_>,
     name: &str,
     default: R::Value,
 ) -> Result<Option<R::Value>, NoMemory>
@@ -90,7 +90,7 @@ pub fn known_or<R: Reads>(
 /// What the member of this name is; `Ok(None)` where it is absent or something else.
 pub fn known_at<R: Reads>(
     alloc: Global,
-    node: &Node<'_>,
+    node: &Node<'_, '_>,
     name: &str,
 ) -> Result<Option<R::Value>, NoMemory>
     requires { IsObject node.now }
@@ -103,7 +103,7 @@ pub fn known_at<R: Reads>(
 }
 
 /// What the node is; `Ok(None)` where it is something else. It names no fault.
-fn read_known<R: Reads>(alloc: Global, node: &Node<'_>) -> Result<Option<R::Value>, NoMemory>
+fn read_known<R: Reads>(alloc: Global, node: &Node<'_, '_>) -> Result<Option<R::Value>, NoMemory>
     ensures { IfOk result (λ known. known ≡ (R.shape.reading node.now).value) }
 {
     match R::read(alloc, node) {

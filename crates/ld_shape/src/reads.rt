@@ -13,6 +13,6 @@ pub trait Reads {
     ghost shape: { Shape Self.Value };
 
     /// What the node stands for, or its first fault.
-    fn read(alloc: Global, node: &Node<'_>) -> Result<Self::Value, ReadFault>
+    fn read(alloc: Global, node: &Node<'_, '_>) -> Result<Self::Value, ReadFault>
         ensures { GivesOrSays (shape.reading node.now) result };
 }

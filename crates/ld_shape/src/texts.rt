@@ -25,7 +25,7 @@ impl Reads for Identifier {
 
     ghost shape = { identifier };
 
-    fn read(alloc: Global, node: &Node<'_>) -> Result<Id, ReadFault> {
+    fn read(alloc: Global, node: &Node<'_, '_>) -> Result<Id, ReadFault> {
         let text = node.text(alloc)?;
         match Id::read(alloc, text.as_bytes())? {
             Some(identifier) => Ok(identifier),
@@ -37,7 +37,7 @@ impl Reads for Identifier {
 /// The text of `least` to `most` bytes that the node is.
 fn text_between<'a>(
     alloc: Global,
-    node: &Node<'a>,
+    node: &Node<'a, '_>,
     least: usize,
     most: usize,
 ) -> Result<&'a str, ReadFault>
@@ -64,7 +64,7 @@ impl<const LEAST: usize, const MOST: usize> Reads for Text<LEAST, MOST> {
 
     ghost shape = { text_shape LEAST MOST };
 
-    fn read(alloc: Global, node: &Node<'_>) -> Result<PlainText, ReadFault> {
+    fn read(alloc: Global, node: &Node<'_, '_>) -> Result<PlainText, ReadFault> {
         let text = text_between(alloc, node, LEAST, MOST)?;
         let own = PlainText::of(alloc, text)?;
         Ok(own)
@@ -79,13 +79,13 @@ impl Reads for Title {
 
     ghost shape = { title };
 
-    fn read(alloc: Global, node: &Node<'_>) -> Result<PlainText, ReadFault> {
+    fn read(alloc: Global, node: &Node<'_, '_>) -> Result<PlainText, ReadFault> {
         Text::<1, 256>::read(alloc, node)
     }
 }
 
 /// The text of 1 to `most` visible characters of ASCII that the node is.
-fn read_address(alloc: Global, node: &Node<'_>, most: usize) -> Result<PlainText, ReadFault>
+fn read_address(alloc: Global, node: &Node<'_, '_>, most: usize) -> Result<PlainText, ReadFault>
     ensures { GivesOrSays ((address most).reading node.now) result }
 {
     let text = text_between(alloc, node, 1, most)?;
@@ -116,7 +116,7 @@ impl Reads for Href {
 
     ghost shape = { href };
 
-    fn read(alloc: Global, node: &Node<'_>) -> Result<PlainText, ReadFault> {
+    fn read(alloc: Global, node: &Node<'_, '_>) -> Result<PlainText, ReadFault> {
         read_address(alloc, node, 1024)
     }
 }
@@ -129,7 +129,7 @@ impl Reads for Uri {
 
     ghost shape = { uri };
 
-    fn read(alloc: Global, node: &Node<'_>) -> Result<PlainText, ReadFault> {
+    fn read(alloc: Global, node: &Node<'_, '_>) -> Result<PlainText, ReadFault> {
         read_address(alloc, node, 4096)
     }
 }
@@ -142,7 +142,7 @@ impl Reads for Seconds {
 
     ghost shape = { seconds };
 
-    fn read(alloc: Global, node: &Node<'_>) -> Result<u64, ReadFault> {
+    fn read(alloc: Global, node: &Node<'_, '_>) -> Result<u64, ReadFault> {
         let text = node.text(alloc)?;
         match read_duration(text) {
             Some(seconds) => Ok(seconds),

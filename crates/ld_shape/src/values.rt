@@ -20,7 +20,7 @@ impl Reads for Flag {
 
     ghost shape = { flag };
 
-    fn read(alloc: Global, node: &Node<'_>) -> Result<bool, ReadFault> {
+    fn read(alloc: Global, node: &Node<'_, '_>) -> Result<bool, ReadFault> {
         node.flag(alloc)
     }
 }
@@ -33,7 +33,7 @@ impl Reads for True {
 
     ghost shape = { true_flag };
 
-    fn read(alloc: Global, node: &Node<'_>) -> Result<(), ReadFault> {
+    fn read(alloc: Global, node: &Node<'_, '_>) -> Result<(), ReadFault> {
         let flag = node.flag(alloc)?;
         if !flag {
             return Err(node.fault(alloc, Code::WrongShape));
@@ -43,7 +43,12 @@ impl Reads for True {
 }
 
 /// The whole number from `least` to `most` that the node is.
-pub fn read_number(alloc: Global, node: &Node<'_>, least: u32, most: u32) -> Result<u32, ReadFault>
+pub fn read_number(
+    alloc: Global,
+    node: &Node<'_, '_>,
+    least: u32,
+    most: u32,
+) -> Result<u32, ReadFault>
     ensures { GivesOrSays ((number least most).reading node.now) result }
 {
     let number = node.whole(alloc)?;
@@ -64,7 +69,7 @@ impl<const LEAST: u32, const MOST: u32> Reads for Number<LEAST, MOST> {
 
     ghost shape = { number LEAST MOST };
 
-    fn read(alloc: Global, node: &Node<'_>) -> Result<u32, ReadFault> {
+    fn read(alloc: Global, node: &Node<'_, '_>) -> Result<u32, ReadFault> {
         read_number(alloc, node, LEAST, MOST)
     }
 }
@@ -77,7 +82,7 @@ impl<T: Drop> Reads for LeftOut<T> {
 
     ghost shape = { left_out };
 
-    fn read(alloc: Global, node: &Node<'_>) -> Result<T, ReadFault> {
+    fn read(alloc: Global, node: &Node<'_, '_>) -> Result<T, ReadFault> {
         Err(node.fault(alloc, Code::NotInProfile))
     }
 }

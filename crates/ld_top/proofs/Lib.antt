@@ -1,3 +1,4 @@
+pub mod Behind
 pub mod FolderFiles
 pub mod Publishing
 pub mod Refusing

@@ -73,7 +73,14 @@ json_faults held = flat_map (λ file. json_fault file (held file)) all_files
 
 -- The documents in the files.
 unfoldable pub docs_in : Held → Docs
-docs_in held = record { of = map (λ file. held file >>= json_of) all_files }
+docs_in held = record {
+  roles = held Roles >>= json_of;
+  properties = held Properties >>= json_of;
+  environments = held Environments >>= json_of;
+  activities = held Activities >>= json_of;
+  unit = held Unit >>= json_of;
+  conditions = held Conditions >>= json_of;
+}
 
 -- ---- their shapes, and what they say
 

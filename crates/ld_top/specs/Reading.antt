@@ -12,7 +12,7 @@ use Rattle.ld_top.specs.declared.publish.PublishStop.{PublishStop}
 use Rattle.ld_top.specs.declared.publish.PublishStop.TheVariants.{ShelfFault as Unread, Refused as RefusedAt, NoMemory as Unstored}
 use Rattle.ld_top.specs.declared.reader.stop.FolderStop.{FolderStop}
 use Rattle.ld_top.specs.declared.reader.stop.FolderStop.TheVariants.{ShelfFault, Refused, NoMemory}
-use Rattle.ld_top.specs.Folder.{Held, docs_in, document_faults, json_fault, json_faults}
+use Rattle.ld_top.specs.Folder.{Held, docs_in, document_faults, json_fault, json_faults, shape_faults}
 use Rattle.ld_top.specs.InFolder.{IsReading}
 use Rattle.ld_top.specs.Replay.{Publishes}
 
@@ -23,6 +23,10 @@ held_by files file = slice_get files (file_index file) >>= λ found. found
 -- The faults of these files as JSON.
 unfoldable pub json_faults_of : List FileNo → Held → List Told
 json_faults_of files held = flat_map (λ file. json_fault file (held file)) files
+
+-- The faults of the files as JSON, and those of their documents' shapes.
+unfoldable pub form_faults : Held → List Told
+form_faults held = json_faults held ++ shape_faults (docs_in held)
 
 -- The faults of what the files hold.
 unfoldable pub content_faults : Held → List Told

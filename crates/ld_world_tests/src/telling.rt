@@ -39,9 +39,9 @@ pub(crate) fn tell(
 fn publish_both(alloc: Global, world: &mut World) -> Result<(), Fail>
     requires first { world_of world.old ≡ first_world world.old.units }
 {
-    publish(alloc, world, &COURSE)?;
-    publish(alloc, world, &SWING)?;
-    let again = checked(alloc, &COURSE)?;
+    publish(alloc, world, COURSE)?;
+    publish(alloc, world, SWING)?;
+    let again = checked(alloc, COURSE)?;
     let answer = world.publish(alloc, again);
     check(is_repeated(answer), "the same unit once more")
 }
@@ -52,7 +52,7 @@ fn is_repeated(answer: Result<(), ReadFault>) -> bool {
 }
 
 /// Publishes the unit of these documents.
-fn publish(alloc: Global, world: &mut World, texts: &[&str]) -> Result<(), Fail>
+fn publish(alloc: Global, world: &mut World, texts: [&'static str; 6]) -> Result<(), Fail>
     requires first { world_of world.old ≡ first_world world.old.units }
     ensures first { OnOk result (world_of world.new ≡ first_world world.new.units) }
 {

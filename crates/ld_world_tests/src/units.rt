@@ -1,7 +1,8 @@
 //! The units of the tests.
+use json::Scratch;
 use ld_base::id::Id;
 use ld_json::doc::{Doc, document};
-use ld_json::docs::Docs;
+use ld_json::docs::{Docs, Scratches};
 use ld_method::parts::read_parts;
 use ld_method::whole::read_method;
 use ld_refs::check::{Checked, check as check_unit};
@@ -70,35 +71,62 @@ pub(crate) const SMALL: [&str; 6] = [
 ];
 
 /// The document of this text; the empty text stands for a file that is not there.
-fn doc_of(alloc: Global, text: &str) -> Result<Option<Doc>, Fail> {
+fn doc_of<'a>(
+    alloc: Global,
+    text: &'a str,
+    scratch: &'a mut Scratch,
+) -> Result<Option<Doc<'a>>, Fail> {
     if text.is_empty() {
         return Ok(None);
     }
-    Ok(Some(document(alloc, text.as_bytes())?))
+    Ok(Some(document(alloc, text.as_bytes(), scratch)?))
 }
 
-/// Puts the documents of these texts, in the order of the files.
-fn put_docs(alloc: Global, docs: &mut [Option<Doc>], texts: &[&str]) -> Result<(), Fail> {
-    for (doc, text) in docs.iter_mut().zip(texts) {
-        *doc = doc_of(alloc, *text)?;
-    }
-    Ok(())
+/// The documents of these texts, in the order of the files.
+fn docs_of<'a>(
+    alloc: Global,
+    texts: [&'static str; 6],
+    scratches: &'a mut Scratches,
+) -> Result<Docs<'a>, Fail> {
+    let [
+        roles,
+        properties,
+        environments,
+        activities,
+        unit,
+        conditions,
+    ] = texts;
+    let roles = doc_of(alloc, roles, &mut scratches.roles)?;
+    let properties = doc_of(alloc, properties, &mut scratches.properties)?;
+    let environments = doc_of(alloc, environments, &mut scratches.environments)?;
+    let activities = doc_of(alloc, activities, &mut scratches.activities)?;
+    let unit = doc_of(alloc, unit, &mut scratches.unit)?;
+    let conditions = doc_of(alloc, conditions, &mut scratches.conditions)?;
+    Ok(Docs {
+        roles,
+        properties,
+        environments,
+        activities,
+        unit,
+        conditions,
+    })
 }
 
 /// The checked unit of the documents of these texts.
-pub(crate) fn checked(alloc: Global, texts: &[&str]) -> Result<Checked, Fail> {
-    let mut docs = Docs {
-        of: [None, None, None, None, None, None],
+pub(crate) fn checked(alloc: Global, texts: [&'static str; 6]) -> Result<Checked, Fail> {
+    let mut scratches = Scratches::new(alloc);
+    let docs = docs_of(alloc, texts, &mut scratches)?;
+    let unit = match read_parts(alloc, &docs) {
+        Ok(parts) => read_method(alloc, &docs, parts),
+        Err(fault) => Err(fault),
     };
-    put_docs(alloc, &mut docs.of, texts)?;
-    let parts = read_parts(alloc, &docs)?;
-    let unit = read_method(alloc, &docs, parts)?;
-    Ok(check_unit(alloc, unit)?)
+    drop(docs);
+    Ok(check_unit(alloc, unit?)?)
 }
 
 /// The prepared unit of the last documents.
 pub(crate) fn small(alloc: Global) -> Result<PreparedUnit, Fail> {
-    Ok(PreparedUnit::new(alloc, checked(alloc, &SMALL)?)?)
+    Ok(PreparedUnit::new(alloc, checked(alloc, SMALL)?)?)
 }
 
 /// The identifier of this text.

@@ -27,8 +27,8 @@ u2|unit.json|none
 u3|roles.json|none
 big|more|too-big";
 
-/// How many bytes are asked for, and what each call gives of `abcdefg` in pieces of three, where the
-/// second and the fifth call fail.
+/// How many bytes are asked for, and what each call gives of `abcdefg` in pieces of three, where
+/// the second and the fifth call fail.
 const TAKES: &str = "\
 8|abc
 8|failed
@@ -37,7 +37,8 @@ const TAKES: &str = "\
 8|failed
 8|";
 
-/// A piece, and what each call answers where there is room for five bytes and the second call fails.
+/// A piece, and what each call answers where there is room for five bytes and the second call
+/// fails.
 const PUTS: &str = "\
 ab|2
 |failed
@@ -185,8 +186,8 @@ impl Sink for FullSink {
     }
 }
 
-/// Whether just this is written of `abcde` to a sink with that room, of which one call fails: all of
-/// it, or a beginning and the call is said to fail.
+/// Whether just this is written of `abcde` to a sink with that room, of which one call fails: all
+/// of it, or a beginning and the call is said to fail.
 fn writes(alloc: Global, room: usize, failing: u64, written: &str) -> Result<bool, Fail> {
     let sink = MemorySink::new(alloc, room, calls_of(alloc, &[failing])?)?;
     let mut short = ShortSink { sink };

@@ -115,8 +115,8 @@ uri|urn: g
 uri|urn:ü
 uri|urn:\u{7f}";
 
-/// A datatype, the least and the greatest value, the least and the greatest length, two values of an
-/// enumeration (a dot for what is absent), a text, and whether its value fits.
+/// A datatype, the least and the greatest value, the least and the greatest length, two values of
+/// an enumeration (a dot for what is absent), a text, and whether its value fits.
 pub(super) const RESTRICTED: &str = "\
 integer|-5 7|. .|. .|-5|yes
 integer|-5 7|. .|. .|007|yes

@@ -1,5 +1,6 @@
-//! What serde_json reads and prints, byte by byte, and where the faults of a node stand. Which bytes
-//! are no JSON is shown by tests/first_faults/texts.py, where the program reads them.
+//! What serde_json reads and prints, byte by byte, and where the faults of a node stand. Which
+//! bytes are no JSON is shown by tests/first_faults/texts.py, where the program reads them.
+use json::Scratch;
 use ld_base::memory::NoMemory;
 use ld_base::text::Text;
 use ld_json::code::Code;
@@ -12,8 +13,8 @@ use serde_json::json;
 use std::alloc::Global;
 use std::test::Fail;
 
-/// A tree, and a letter for each access that it allows: text, whole, flag, count, sole, only `a`; and
-/// `u` where it has an unknown member.
+/// A tree, and a letter for each access that it allows: text, whole, flag, count, sole, only `a`;
+/// and `u` where it has an unknown member.
 const SHAPES: &str = "\
 null|
 true|f
@@ -33,7 +34,7 @@ true|f
 {}|o";
 
 /// Whether the tree of the text allows just these accesses.
-fn allows(alloc: Global, doc: &Doc, letters: &str) -> bool {
+fn allows(alloc: Global, doc: &Doc<'_>, letters: &str) -> bool {
     let node = doc.root(FileNo::Roles);
     let only = node.only(alloc, &["a"]);
     node.text(alloc).is_ok() == letters.contains('t')
@@ -57,14 +58,15 @@ fn is_refused<T: Drop>(outcome: Result<T, ReadFault>, code: Code, place: &str) -
 fn each_access_on_each_shape(rt: HostRuntime) -> Result<(), Fail> {
     for line in SHAPES.lines() {
         let (text, letters) = line.split_once('|').ok_or("a line without a bar")?;
-        let doc = document(rt.alloc(), text.as_bytes())?;
+        let mut scratch = Scratch::new(rt.alloc());
+        let doc = document(rt.alloc(), text.as_bytes(), &mut scratch)?;
         assert!(rt; allows(rt.alloc(), &doc, letters), "{line}");
     }
     Ok(())
 }
 
 /// Whether faults in this object stand at escaped places, and its text comes out as it went in.
-fn has_places(alloc: Global, last: &Node<'_>) -> Result<bool, ReadFault> {
+fn has_places(alloc: Global, last: &Node<'_, '_>) -> Result<bool, ReadFault> {
     let name = last.sole(alloc)?;
     let below = last.member(alloc, name)?;
     below.only(alloc, &["é"])?;
@@ -82,7 +84,7 @@ fn has_places(alloc: Global, last: &Node<'_>) -> Result<bool, ReadFault> {
 }
 
 /// Whether the list has eleven elements, the number 3 and, as its last, that object.
-fn has_elements(alloc: Global, list: &Node<'_>) -> Result<bool, ReadFault> {
+fn has_elements(alloc: Global, list: &Node<'_, '_>) -> Result<bool, ReadFault> {
     if list.count(alloc)? != 11 {
         return Ok(false);
     }
@@ -90,7 +92,7 @@ fn has_elements(alloc: Global, list: &Node<'_>) -> Result<bool, ReadFault> {
 }
 
 /// Whether the only member of the document, whose name is escaped in places, is that list.
-fn has_list(alloc: Global, doc: &Doc) -> Result<bool, ReadFault> {
+fn has_list(alloc: Global, doc: &Doc<'_>) -> Result<bool, ReadFault> {
     let root = doc.root(FileNo::Unit);
     root.only(alloc, &["x", "a~b/c"])?;
     let list = root.member(alloc, "a~b/c")?;
@@ -100,7 +102,8 @@ fn has_list(alloc: Global, doc: &Doc) -> Result<bool, ReadFault> {
 #[test]
 fn places(rt: HostRuntime) -> Result<(), Fail> {
     let text = "{\"a~b/c\":[0,1,2,3,4,5,6,7,8,9,{\"\":{\"é\":\"text\"}}]}";
-    let doc = document(rt.alloc(), text.as_bytes())?;
+    let mut scratch = Scratch::new(rt.alloc());
+    let doc = document(rt.alloc(), text.as_bytes(), &mut scratch)?;
     assert!(rt; has_list(rt.alloc(), &doc)?);
     Ok(())
 }
