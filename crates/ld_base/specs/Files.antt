@@ -6,6 +6,7 @@ use Rattle.ld_base.specs.Calls.{CallState}
 use Rattle.ld_base.specs.Outside.{Files}
 use Rattle.ld_base.specs.declared.file.File.{File}
 
+-- The files of a shelf, and the calls on it, of which some are to fail.
 pub record ShelfState : Type 0 where
   pub files : List File
   pub calls : CallState

@@ -2,6 +2,7 @@
 use Rattle.std.specs.Prelude.{Option, Some, None, Bool, true, false}
 
 infixl 10 ◌>>=◌
+-- What the next step gives for the value, where there is one.
 abbrev pub ◌>>=◌ : {A B : Type 0} → Option A → (A → Option B) → Option B
 None >>= next = None
 (Some x) >>= next = next x

@@ -1,6 +1,7 @@
 -- What contracts see of a text: its bytes, and how many more it takes without asking for memory.
 use Rattle.std.specs.Prelude.{ℕ, List, length, ◌+◌, ◌≤◌}
 
+-- The bytes of a text, and how many more have room in the memory that it has.
 pub record Roomy : Type 0 where
   pub bytes : List ℕ
   pub spare : ℕ

@@ -9,8 +9,8 @@ use std::io::{ErrorKind, Read};
 use std::marker::Model;
 use std::rt::Files;
 
-/// The folders of the machine, named by paths. It tells nothing of what they hold; contracts see the
-/// count of faults.
+/// The folders of the machine, named by paths. It tells nothing of what they hold; contracts see
+/// the count of faults.
 #[derive(Drop)]
 pub struct FolderShelf<'a, R: Files> {
     rt: &'a R,

@@ -16,8 +16,8 @@ use std::cell::Cell;
 use std::hash::{Hash, Hasher};
 use std::marker::Model;
 
-/// An identifier, seen by contracts as its bytes. It also keeps a number at which it may be found, of
-/// which no contract speaks: whoever uses it looks whether the identifier is there.
+/// An identifier, seen by contracts as its bytes. It also keeps a number at which it may be found,
+/// of which no contract speaks: whoever uses it looks whether the identifier is there.
 #[derive(Drop)]
 pub struct Id {
     text: String,
@@ -46,7 +46,8 @@ impl Id {
         }
     }
 
-    /// The identifier that the text is, if it is one. It takes no memory: the text is kept as it is.
+    /// The identifier that the text is, if it is one. It takes no memory: the text is kept as it
+    /// is.
     pub fn from_text(text: String) -> Option<Id>
         ensures { result ≡ provided (has_identifier_form (string_bytes text)) (string_bytes text) }
     {

@@ -1,7 +1,8 @@
 //! Want of memory, the one refusal that no contract ties to a cause.
 use std::alloc::{AllocError, AllocFailed};
 
-/// The allocator gave no memory. Whoever answers it has changed nothing that its contract speaks of.
+/// The allocator gave no memory. Whoever answers it has changed nothing that its contract speaks
+/// of.
 #[derive(Clone, Copy, Debug, PartialEq, Eq)]
 pub struct NoMemory;
 

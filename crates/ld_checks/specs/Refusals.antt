@@ -74,11 +74,13 @@ refusal_words refusal =
 
 -- ---- going on where nothing is refused
 
+-- What comes next of the value; a refusal stays, and nothing comes next.
 infixl 10 ◌unless_refused◌
 abbrev pub ◌unless_refused◌ : {A B : Type 0} → Result A Refusal → (A → Result B Refusal) → Result B Refusal
 (Ok x) unless_refused next = next x
 (Err refusal) unless_refused next = Err refusal
 
+-- The second where the first passes; a refusal of the first stays.
 infixl 10 ◌>>◌
 abbrev pub ◌>>◌ : {A B : Type 0} → Result A Refusal → Result B Refusal → Result B Refusal
 (Ok x) >> next = next

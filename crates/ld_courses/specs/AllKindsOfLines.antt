@@ -37,18 +37,23 @@ use Rattle.ld_lines.specs.declared.line.Line.TheVariants.{Create}
 use Rattle.ld_world.specs.World.{world_step, reply_block}
 use Rattle.ld_courses.specs.Courses.{a_role, learner, enclosing, tutor, choice, a_structure, a_part, an_act, the_play, course, a_moment, at, told}
 
+-- A visible item without a title.
 abbrev item : List ℕ → List ℕ → Item
 item id href = record { identifier = id; href = href; title = None; visible = true }
 
+-- What follows a completion: this one item is shown as feedback, and nothing else is done.
 abbrev with_feedback : Item → Option OnCompletion
 with_feedback shown = Some (record { feedback = shown ∷ []; change = []; notify = [] })
 
+-- A learning object of these items, without a title.
 abbrev object : List ℕ → Bool → List Item → LearningObject
 object id visible items = record { identifier = id; title = None; visible = visible; items = items }
 
+-- A visible service without a title.
 abbrev service : List ℕ → ServiceKind → Service
 service id kind = record { identifier = id; kind = kind; title = None; visible = true }
 
+-- A learning object that is visible and one that is not, a service, and a reference to `e2`.
 abbrev e1 : Environment
 e1 = record {
   identifier = codes "e1";
@@ -60,6 +65,7 @@ e1 = record {
   environments = codes "e2" ∷ [];
 }
 
+-- A service alone.
 abbrev e2 : Environment
 e2 = record {
   identifier = codes "e2";
@@ -70,6 +76,7 @@ e2 = record {
   environments = [];
 }
 
+-- A learning activity with an environment, an item, and another item as feedback.
 abbrev x : Activity
 x = record (choice (codes "x")) {
   title = Some (codes "X");
@@ -78,15 +85,18 @@ x = record (choice (codes "x")) {
   on_completion = with_feedback (item (codes "fx") (codes "fx.html"));
 }
 
+-- A support activity.
 abbrev y : Activity
 y = record (choice (codes "y")) { kind = Support }
 
+-- A part for learners and one for tutors; the act is done with the first of them, and has feedback.
 abbrev a1 : Act
 a1 = record (an_act (codes "a1") (a_part (codes "rp1") (codes "learner") (codes "seq")
     ∷ a_part (codes "rp2") (codes "tutor") (codes "y") ∷ [])
     (Some (WhenRolePartCompleted (codes "rp1"
     ∷ [])))) { on_completion = with_feedback (item (codes "fa") (codes "a.html")) }
 
+-- A play that is done with its act, and has feedback.
 abbrev p1 : Play
 p1 = record (the_play (a1 ∷ [])) {
   identifier = codes "p1";
@@ -94,14 +104,17 @@ p1 = record (the_play (a1 ∷ [])) {
   on_completion = with_feedback (item (codes "fp") (codes "p.html"));
 }
 
+-- A play that is hidden at first.
 abbrev p2 : Play
 p2 = record (the_play (an_act (codes "c1") (a_part (codes "rp4") (codes "tutor") (codes "y") ∷ []) None
     ∷ [])) { identifier = codes "p2"; visible = false }
 
+-- A play that shows learners an environment.
 abbrev p3 : Play
 p3 = record (the_play (an_act (codes "b1") (a_part (codes "rp3") (codes "learner") (codes "e2") ∷ []) None
     ∷ [])) { identifier = codes "p3" }
 
+-- A course of two environments, a selection within a sequence, and three plays; it is done when `p1` is.
 abbrev pub the_course : Course
 the_course = record (course (codes "t") (enclosing learner (a_role (codes "leader") Learner ∷ []) ∷ tutor
     ∷ [])
@@ -118,6 +131,7 @@ the_course = record (course (codes "t") (enclosing learner (a_role (codes "leade
       };
     }
 
+-- `bob`, a leader of learners, completes the sequence; `tim` is a tutor, and both look at their trees.
 abbrev pub the_lines : List Line
 the_lines =
     Create (a_moment 8 0) (codes "r") (codes "t")
@@ -136,6 +150,8 @@ the_lines =
     ∷ at 9 5 (Tree (codes "bob"))
     ∷ at 9 6 (Complete (codes "bob") (codes "z2")) ∷ []
 
+-- A child of the sequence is closed until those before it are done. At the end the unit,
+-- the play and the act are done and show their feedback, and no activity is open.
 pub all_kinds_of_lines : told 2 the_course the_lines ≡
     codes "ok create\n"
     ∷ codes "ok enrol turns=0 fired=0 rejected=0 sent=0\n"

@@ -27,12 +27,14 @@ use Rattle.ld_lines.specs.declared.line.Line.TheVariants.{Create}
 use Rattle.ld_world.specs.World.{world_step, reply_block}
 use Rattle.ld_courses.specs.Courses.{truth, is_equal, learner, choice, course, one_part, a_property, with_conditions, a_condition, a_moment, at, told}
 
+-- A condition shows `read` where the test holds, and hides it where it does not.
 abbrev pub the_course : TestOf → Course
 the_course everybody = with_conditions
     (a_property (codes "okay") LocPers BooleanKind None ∷ [])
     (a_condition everybody (Show (codes "read" ∷ []) ∷ []) (Hide (codes "read" ∷ []) ∷ []) ∷ [])
     (course (codes "u") (learner ∷ []) (choice (codes "read") ∷ []) [] (one_part (codes "read")))
 
+-- `ann`, the only learner, says that it is okay; then `bob` joins, becomes a learner, and is none again.
 abbrev pub the_lines : List Line
 the_lines =
     Create (a_moment 8 0) (codes "r") (codes "u")
@@ -49,6 +51,7 @@ the_lines =
 abbrev pub all_okay : TestOf
 all_okay = users_test (codes "learner") (is_equal (property_term (codes "okay")) (truth (codes "true")))
 
+-- The condition turns for both persons when `bob` becomes a learner, and back when `bob` is none.
 pub all_members : told 2 (the_course all_okay) the_lines ≡
     codes "ok create\n"
     ∷ codes "ok enrol turns=0 fired=0 rejected=0 sent=0\n"

@@ -29,14 +29,17 @@ use Rattle.ld_lines.specs.declared.line.Line.TheVariants.{Create}
 use Rattle.ld_world.specs.World.{world_step, reply_block}
 use Rattle.ld_courses.specs.Courses.{whole, is_equal, learner, choice, course, one_part, a_property, with_conditions, a_condition, a_moment, at, told}
 
+-- Where the first property is 1, the second becomes 1.
 abbrev follows : List ℕ → List ℕ → Condition
 follows a b =
     a_condition (is_equal (property_term a) (whole (codes "1")))
     (Change (record { property = b; value = whole (codes "1") }) ∷ []) []
 
+-- An integer of the run, without a value at first.
 abbrev number : List ℕ → PropertyOf
 number id = a_property id Loc IntegerKind None
 
+-- Four conditions in a chain, the last link first, so that each sweep fires one; the budget is 3.
 abbrev pub the_course : Course
 the_course = record (with_conditions (map number (codes "p0" ∷ codes "p1" ∷ codes "p2" ∷ codes "p3"
     ∷ codes "p4" ∷ []))
@@ -46,6 +49,7 @@ the_course = record (with_conditions (map number (codes "p0" ∷ codes "p1" ∷ 
     (course (codes "u") (learner ∷ []) (choice (codes "read")
     ∷ []) [] (one_part (codes "read")))) { turns = 3 }
 
+-- All conditions are judged at the start; then the first property is set to 1.
 abbrev pub the_lines : List Line
 the_lines =
     Create (a_moment 8 0) (codes "r") (codes "u")
@@ -54,6 +58,7 @@ the_lines =
     ∷ at 9 0 Start
     ∷ at 10 0 (Set (codes "ann") (codes "p0") (codes "1")) ∷ []
 
+-- The fourth sweep fires as well, and so the command is refused.
 pub budget_of_three : told 1 the_course the_lines ≡
     codes "ok create\n"
     ∷ codes "ok enrol turns=0 fired=0 rejected=0 sent=0\n"

@@ -33,6 +33,7 @@ use Rattle.ld_world.specs.World.{seated_world}
 
 -- ---- parts
 
+-- A role of this identifier and kind, with no bounds and no roles within it.
 abbrev pub a_role : List ℕ → RoleKind → List RoleRow
 a_role id kind = record {
   identifier = id;
@@ -45,6 +46,7 @@ a_role id kind = record {
   path = [];
 } ∷ []
 
+-- The role `learner`, of the kind of learners.
 abbrev pub learner : List RoleRow
 learner = a_role (codes "learner") Learner
 
@@ -52,9 +54,11 @@ learner = a_role (codes "learner") Learner
 abbrev pub enclosing : List RoleRow → List (List RoleRow) → List RoleRow
 enclosing outer inner = outer ++ rows_within inner
 
+-- The role `tutor`, of the kind of staff.
 abbrev pub tutor : List RoleRow
 tutor = a_role (codes "tutor") Staff
 
+-- A learning activity without items, visible at first or not, that is completed so.
 abbrev pub an_activity : List ℕ → Bool → Completion → Activity
 an_activity id visible complete = record {
   identifier =
@@ -75,6 +79,7 @@ an_activity id visible complete = record {
 abbrev pub choice : List ℕ → Activity
 choice id = an_activity id true UserChoice
 
+-- A sequence or a selection of these children, visible at first, with the number to select, if one is said.
 abbrev pub a_structure : List ℕ → StructureKind → Option ℕ → List (List ℕ) → Structure
 a_structure id kind number children = record {
   identifier = id;
@@ -86,13 +91,16 @@ a_structure id kind number children = record {
   children = children;
 }
 
+-- A role-part of this role, which refers to this.
 abbrev pub a_part : List ℕ → List ℕ → List ℕ → RolePart
 a_part id role target = record { identifier = id; title = None; role = role; target = target }
 
+-- An act of these role-parts, with when it is completed, if that is said.
 abbrev pub an_act : List ℕ → List RolePart → Option Completion → Act
 an_act id parts complete =
     record { identifier = id; title = None; role_parts = parts; complete = complete; on_completion = None }
 
+-- The play `p` of these acts, visible at first. It is not said when it is completed.
 abbrev pub the_play : List Act → Play
 the_play acts =
     record {
@@ -131,6 +139,7 @@ course id roles activities structures acts = record {
 abbrev pub one_part : List ℕ → List Act
 one_part target = an_act (codes "a") (a_part (codes "rp") (codes "learner") target ∷ []) None ∷ []
 
+-- A property of this kind and datatype, with its initial text, if it has one, and without restrictions.
 abbrev pub a_property : List ℕ → PropertyKind → Kind → Option (List ℕ) → Property
 a_property id kind datatype initial = record {
   identifier = id;
@@ -143,34 +152,43 @@ a_property id kind datatype initial = record {
   restrictions = None;
 }
 
+-- The integer that the text is, as a term.
 abbrev pub whole : List ℕ → TermOf
 whole text = literal_term kind.Integer text
 
+-- The truth value that the text is, as a term.
 abbrev pub truth : List ℕ → TermOf
 truth text = literal_term kind.Boolean text
 
+-- The duration that the text is, as a term.
 abbrev pub span : List ℕ → TermOf
 span text = literal_term kind.Duration text
 
--- The sum and the difference of two terms.
+-- The sum of two terms.
 abbrev pub sum_of_two : TermOf → TermOf → TermOf
 sum_of_two a b = list_term adding (term_and a (term_and b no_term))
 
+-- The difference of two terms: the first less the second.
 abbrev pub less_by : TermOf → TermOf → TermOf
 less_by a b = pair_term subtracting a b
 
+-- The test whether two terms have equal values.
 abbrev pub is_equal : TermOf → TermOf → TestOf
 is_equal a b = compare_test equal a b
 
+-- The test whether the first term's value is greater than the second's.
 abbrev pub is_greater : TermOf → TermOf → TestOf
 is_greater a b = compare_test greater a b
 
+-- The test whether both of these tests hold.
 abbrev pub are_both : TestOf → TestOf → TestOf
 are_both a b = all_test (test_and a (test_and b no_test))
 
+-- A condition: the test, what is done where it holds, and what is done where it does not.
 abbrev pub a_condition : TestOf → List Action → List Action → Condition
 a_condition holds then_do else_do = record { test = holds; yes = then_do; no = else_do }
 
+-- The course with these properties and conditions in place of its own.
 abbrev pub with_conditions : List Property → List Condition → Course → Course
 with_conditions properties conditions unit = record unit { properties = properties; conditions = conditions }
 
@@ -180,6 +198,7 @@ with_conditions properties conditions unit = record unit { properties = properti
 abbrev pub clock : ℕ → ℕ → ℤ
 clock hour minute = pos (1704067200 + 3600 * hour + 60 * minute)
 
+-- That time of 2024-01-01 as the moment of a line.
 abbrev pub a_moment : ℕ → ℕ → Moment
 a_moment hour minute = record { 0 = clock hour minute }
 

@@ -35,9 +35,11 @@ use Rattle.ld_lines.specs.declared.line.Line.TheVariants.{Create}
 use Rattle.ld_world.specs.World.{world_step, reply_block}
 use Rattle.ld_courses.specs.Courses.{whole, span, is_greater, sum_of_two, less_by, learner, an_activity, choice, a_part, an_act, course, a_property, with_conditions, a_condition, clock, a_moment, at, told}
 
+-- Each person's own integer, 0 at first.
 abbrev score : PropertyOf
 score = a_property (codes "score") LocPers IntegerKind (Some (codes "0"))
 
+-- An integer of the run, 4 at first and 5 at most.
 abbrev total : PropertyOf
 total = record (a_property (codes "total") Loc IntegerKind (Some (codes "4"))) {
   restrictions = Some (record {
@@ -49,18 +51,23 @@ total = record (a_property (codes "total") Loc IntegerKind (Some (codes "4"))) {
   });
 }
 
+-- The change that gives the property the term's value.
 abbrev set_to : List ℕ → TermOf → ChangeOf
 set_to id value = record { property = id; value = value }
 
+-- A notice to all learners, of this subject and about this activity, if it is about one.
 abbrev note : List ℕ → Option (List ℕ) → Notice
 note subject activity = record { roles = codes "learner" ∷ []; subject = Some subject; activity = activity }
 
+-- An activity by choice, which changes the person's own score when it is completed.
 abbrev x : TermOf → Activity
 x next = record (choice (codes "x")) {
   on_completion =
       Some (record { feedback = []; change = set_to (codes "score") next ∷ []; notify = [] });
 }
 
+-- An act that is done when each learner has a score above 0. Then the total and all scores are changed, and a
+-- notice is sent.
 abbrev a : TermOf → TermOf → Act
 a next_score next_total = record (an_act (codes "a")
     (a_part (codes "rp1") (codes "learner") (codes "x") ∷ a_part (codes "rp2") (codes "learner") (codes "w")
@@ -74,6 +81,7 @@ a next_score next_total = record (an_act (codes "a")
       });
     }
 
+-- One condition changes the total once more when the act is done; another sends a notice after an hour.
 abbrev pub the_course : TermOf → TermOf → TermOf → Course
 the_course next_score next_total elapsed = with_conditions (score ∷ total ∷ [])
     (a_condition (done_test (codes "a")) (Change (set_to (codes "total") next_total) ∷ []) []
@@ -83,6 +91,7 @@ the_course next_score next_total elapsed = with_conditions (score ∷ total ∷ 
     ∷ [])
     [] (a next_score next_total ∷ []))
 
+-- Both learners complete `x`; values and notices are looked at; an hour passes, and a minute more.
 abbrev pub the_lines : List Line
 the_lines =
     Create (a_moment 8 0) (codes "r") (codes "u")
@@ -103,9 +112,12 @@ the_lines =
 abbrev pub one_more_than : List ℕ → TermOf
 one_more_than id = sum_of_two (property_term id) (whole (codes "1"))
 
+-- How long ago the run was started.
 abbrev pub since_start : TermOf
 since_start = less_by now_term started_term
 
+-- The total stays at 5, so that the change by the condition is rejected for each person. With the full
+-- hour no notice is sent, and with a minute more one for each person.
 pub effects :
     told 2 (the_course (one_more_than (codes "score")) (one_more_than (codes "total")) since_start) the_lines ≡
     codes "ok create\n"

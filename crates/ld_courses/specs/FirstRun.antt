@@ -24,6 +24,7 @@ use Rattle.ld_lines.specs.declared.line.Line.TheVariants.{Create}
 use Rattle.ld_world.specs.World.{world_step, reply_block}
 use Rattle.ld_courses.specs.Courses.{learner, choice, course, one_part, a_moment, at, told}
 
+-- An activity by choice, with a title and an item.
 abbrev read : Activity
 read = record (choice (codes "read")) {
   title = Some (codes "Read");
@@ -35,10 +36,12 @@ read = record (choice (codes "read")) {
   } ∷ [];
 }
 
+-- A course of this one activity, with a title.
 abbrev pub the_course : Course
 the_course = record (course (codes "u") (learner ∷ []) (read
     ∷ []) [] (one_part (codes "read"))) { title = Some (codes "First") }
 
+-- `ann` completes `read`, looks at the tree, and completes `read` again.
 abbrev pub the_lines : List Line
 the_lines =
     Create (a_moment 8 0) (codes "r") (codes "u")
@@ -49,6 +52,7 @@ the_lines =
     ∷ at 9 11 (Tree (codes "ann"))
     ∷ at 9 11 (Complete (codes "ann") (codes "read")) ∷ []
 
+-- The tree shows the activity and its part as done, and the second completion is refused.
 pub first_run : told 1 the_course the_lines ≡
     codes "ok create\n"
     ∷ codes "ok enrol turns=0 fired=0 rejected=0 sent=0\n"

@@ -32,9 +32,11 @@ use Rattle.ld_world.specs.Answers.{line_of, replies}
 use Rattle.ld_world.specs.World.{seated_world, world_step, reply_block}
 use Rattle.ld_courses.specs.Courses.{learner, choice, course, one_part}
 
+-- A course of one activity.
 abbrev the_course : Course
 the_course = course (codes "u") (learner ∷ []) (choice (codes "read") ∷ []) [] (one_part (codes "read"))
 
+-- Eight lines: the third is blank, the sixth has no verb that there is, and the last has no line feed.
 abbrev the_bytes : List ℕ
 the_bytes =
     codes "[\"2024-01-01T08:00:00Z\",\"create\",\"r\",\"u\"]\n"
@@ -51,6 +53,7 @@ abbrev the_text : List ℕ
 the_text =
     flat_map (λ reply. reply) (replies (seated_world 1 (the_course ∷ [])) (map line_of (lines_of the_bytes)))
 
+-- Seven replies, since the blank line has none.
 pub from_bytes_to_text : the_text ≡
     codes "ok create\n"
     ++ codes "ok enrol turns=0 fired=0 rejected=0 sent=0\n"

@@ -29,6 +29,7 @@ use Rattle.ld_lines.specs.declared.line.Line.TheVariants.{Create, OfRun, GlobalS
 use Rattle.ld_world.specs.World.{world_step, reply_block}
 use Rattle.ld_courses.specs.Courses.{whole, is_greater, learner, choice, course, one_part, a_property, with_conditions, a_condition, clock, a_moment, at, told}
 
+-- A global property that all share, and a condition that sends a notice where it is greater than 0.
 abbrev pub the_course : Course
 the_course = with_conditions
     (record (a_property (codes "g") Glob IntegerKind (Some (codes "0"))) { uri = Some (codes "urn:g") } ∷ [])
@@ -37,9 +38,11 @@ the_course = with_conditions
     ∷ [])
     (course (codes "u") (learner ∷ []) (choice (codes "read") ∷ []) [] (one_part (codes "read")))
 
+-- A command of the run `s`.
 abbrev in_s : ℕ → ℕ → RunCommand → Line
 in_s hour minute command = OfRun (a_moment hour minute) (codes "s") command
 
+-- The value is set in the run `r`, met by the run `s`, and then asked and set by lines of no run.
 abbrev pub the_lines : List Line
 the_lines =
     Create (a_moment 8 0) (codes "r") (codes "u")
@@ -60,6 +63,8 @@ the_lines =
     ∷ GlobalSet (a_moment 8 0) (codes "urn:g") None (codes "0")
     ∷ at 11 6 Tick ∷ []
 
+-- Each run sends its notice at its own command, `s` an hour after `r`. Refused are a text that is no value, a
+-- person for a value that all share, and a uri that nobody declares.
 pub global_value : told 1 the_course the_lines ≡
     codes "ok create\n"
     ∷ codes "ok enrol turns=0 fired=0 rejected=0 sent=0\n"

@@ -25,12 +25,14 @@ use Rattle.ld_lines.specs.declared.line.Line.TheVariants.{Create}
 use Rattle.ld_world.specs.World.{world_step, reply_block}
 use Rattle.ld_courses.specs.Courses.{learner, an_activity, choice, a_structure, course, one_part, a_moment, at, told}
 
+-- A sequence of `x`, the hidden `y`, and `z`.
 abbrev pub the_course : Course
 the_course = course (codes "u") (learner ∷ []) (choice (codes "x") ∷ an_activity (codes "y") false UserChoice
     ∷ choice (codes "z") ∷ [])
     (a_structure (codes "s") Sequence None (codes "x" ∷ codes "y" ∷ codes "z" ∷ [])
     ∷ []) (one_part (codes "s"))
 
+-- `ann` says that `x`, `z` and the hidden `y` are completed; the tree is looked at after `x` and at the end.
 abbrev pub the_lines : List Line
 the_lines =
     Create (a_moment 8 0) (codes "r") (codes "u")
@@ -43,6 +45,7 @@ the_lines =
     ∷ at 10 0 (Complete (codes "ann") (codes "y"))
     ∷ at 10 0 (Tree (codes "ann")) ∷ []
 
+-- `z` is open once `x` is done, the hidden `y` cannot be completed, and so the sequence is never done.
 pub hidden_child : told 1 the_course the_lines ≡
     codes "ok create\n"
     ∷ codes "ok enrol turns=0 fired=0 rejected=0 sent=0\n"

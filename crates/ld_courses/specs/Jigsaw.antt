@@ -31,6 +31,7 @@ use Rattle.ld_lines.specs.declared.line.Line.TheVariants.{Create}
 use Rattle.ld_world.specs.World.{world_step, reply_block}
 use Rattle.ld_courses.specs.Courses.{learner, tutor, choice, a_structure, a_part, an_act, the_play, course, with_conditions, a_condition, clock, a_moment, at, told}
 
+-- Whoever has done the activity, the tutors get a notice of this subject.
 abbrev sends : List ℕ → List ℕ → Condition
 sends id subject = a_condition (done_test id) (Notify (record {
   roles = codes "tutor"
@@ -39,10 +40,12 @@ sends id subject = a_condition (done_test id) (Notify (record {
   activity = Some id;
 }) ∷ []) []
 
+-- An act of one part for learners and one for tutors, which is done when both of them are.
 abbrev both : List ℕ → List ℕ → List ℕ → List ℕ → List ℕ → Act
 both id p q s w = an_act id (a_part p (codes "learner") s ∷ a_part q (codes "tutor") w
     ∷ []) (Some (WhenRolePartCompleted (p ∷ q ∷ [])))
 
+-- Each learner selects one of two subjects, and each tutor has an activity; all is done with the one act.
 abbrev pub the_course : Course
 the_course = record (with_conditions [] (sends (codes "e01") (codes "Expert e01")
     ∷ sends (codes "e02") (codes "Expert e02") ∷ [])
@@ -58,6 +61,7 @@ the_course = record (with_conditions [] (sends (codes "e01") (codes "Expert e01"
       };
     }
 
+-- The learners each complete a subject, and the tutor in between the activity of tutors.
 abbrev pub the_lines : List Line
 the_lines =
     Create (a_moment 8 0) (codes "r") (codes "jigsaw")
@@ -76,6 +80,7 @@ the_lines =
     ∷ at 9 40 (Complete (codes "l02") (codes "e02"))
     ∷ at 9 41 (Tree (codes "l01")) ∷ []
 
+-- The tutor gets the notice of the first subject at once; with the second learner the whole unit is done.
 pub jigsaw : told 3 the_course the_lines ≡
     codes "ok create\n"
     ∷ codes "ok enrol turns=0 fired=0 rejected=0 sent=0\n"

@@ -24,9 +24,11 @@ use Rattle.ld_lines.specs.declared.line.Line.TheVariants.{Create, OfRun}
 use Rattle.ld_world.specs.World.{world_step, reply_block}
 use Rattle.ld_courses.specs.Courses.{after_1970, learner, choice, course, one_part, clock, a_moment, at, told}
 
+-- A course of one activity.
 abbrev pub the_course : Course
 the_course = course (codes "u") (learner ∷ []) (choice (codes "read") ∷ []) [] (one_part (codes "read"))
 
+-- A command of `r` comes a second too early, all those of `s` are earlier still, and one of `r` is in time.
 abbrev pub the_lines : List Line
 the_lines =
     Create (a_moment 8 0) (codes "r") (codes "u")
@@ -38,6 +40,7 @@ the_lines =
     ∷ OfRun (a_moment 7 0) (codes "s") (Enrol (codes "ann"))
     ∷ at 9 0 Tick ∷ []
 
+-- Only the first of these is refused, with the last moment of its run.
 pub last_moment_told : told 1 the_course the_lines ≡
     codes "ok create\n"
     ∷ codes "ok enrol turns=0 fired=0 rejected=0 sent=0\n"

@@ -28,6 +28,7 @@ use Rattle.ld_lines.specs.declared.line.Line.TheVariants.{Create}
 use Rattle.ld_world.specs.World.{world_step, reply_block}
 use Rattle.ld_courses.specs.Courses.{whole, is_greater, learner, choice, course, one_part, a_property, with_conditions, a_condition, clock, a_moment, at, told}
 
+-- A notice is sent to learners where `n`, which is 1 at first, is greater than 0; no test asks `m`.
 abbrev pub the_course : Course
 the_course = with_conditions
     (a_property (codes "n") Loc IntegerKind (Some (codes "1")) ∷ a_property (codes "m") Loc IntegerKind None
@@ -37,6 +38,7 @@ the_course = with_conditions
     ∷ [])
     (course (codes "u") (learner ∷ []) (choice (codes "read") ∷ []) [] (one_part (codes "read")))
 
+-- `m` is set, then `n` to 0 and to 2; the outbox is looked at after the first and at the end.
 abbrev pub the_lines : List Line
 the_lines =
     Create (a_moment 8 0) (codes "r") (codes "u")
@@ -49,6 +51,7 @@ the_lines =
     ∷ at 10 0 (Set (codes "ann") (codes "n") (codes "2"))
     ∷ at 10 0 (Outbox (codes "ann")) ∷ []
 
+-- A notice is sent at the start and one when `n` becomes 2, and none for `m` or for the 0.
 pub notice_each_time : told 1 the_course the_lines ≡
     codes "ok create\n"
     ∷ codes "ok enrol turns=0 fired=0 rejected=0 sent=0\n"

@@ -23,15 +23,18 @@ use Rattle.ld_lines.specs.declared.line.Line.TheVariants.{Create, OfRun}
 use Rattle.ld_world.specs.World.{world_step, reply_block}
 use Rattle.ld_courses.specs.Courses.{learner, choice, course, one_part, a_moment, at, told}
 
+-- A course of one activity.
 abbrev pub the_course : Course
 the_course = course (codes "u") (learner ∷ []) (choice (codes "read") ∷ []) [] (one_part (codes "read"))
 
+-- The tree of a person who is not enrolled, in a run that is not started and in one that there is not.
 abbrev pub the_lines : List Line
 the_lines =
     Create (a_moment 8 0) (codes "r") (codes "u")
     ∷ at 8 0 (Tree (codes "ann"))
     ∷ OfRun (a_moment 8 0) (codes "q") (Tree (codes "ann")) ∷ []
 
+-- Of several causes the first is told, and not the unknown person.
 pub order_of_refusals : told 1 the_course the_lines ≡
     codes "ok create\n"
     ∷ codes "no 6 not-started\n"

@@ -28,21 +28,26 @@ use Rattle.ld_lines.specs.declared.line.Line.TheVariants.{Create}
 use Rattle.ld_world.specs.World.{world_step, reply_block}
 use Rattle.ld_courses.specs.Courses.{learner, tutor, an_activity, choice, course, one_part, a_property, with_conditions, a_moment, at, told}
 
+-- An integer of the run.
 abbrev n : PropertyOf
 n = a_property (codes "n") Loc IntegerKind None
 
+-- A text of the role of tutors.
 abbrev team : PropertyOf
 team = record (a_property (codes "team") LocRole StringKind None) { role = Some (codes "tutor") }
 
+-- The role with one member at least.
 abbrev needed : RoleRow → RoleRow
 needed row = record row { min_persons = 1 }
 
+-- A course that needs a learner, with an activity by choice and one that is done a day after it is opened.
 abbrev pub the_course : Course
 the_course = with_conditions (n ∷ team ∷ []) []
     (course (codes "u") (map needed learner ∷ tutor ∷ [])
     (choice (codes "read") ∷ an_activity (codes "timed") true (TimeLimit 86400)
     ∷ []) [] (one_part (codes "read")))
 
+-- A line for each of many causes, and between them those that lead there.
 abbrev pub the_lines : List Line
 the_lines =
     Create (a_moment 8 0) (codes "q") (codes "nope")
@@ -67,6 +72,7 @@ the_lines =
     ∷ at 10 0 (Clear (codes "ann") (codes "n"))
     ∷ at 10 0 (Get (codes "ann") (codes "n")) ∷ []
 
+-- Each refusal is told by its number and its word; of a short role also its members and how many it needs.
 pub other_refusals : told 1 the_course the_lines ≡
     codes "no 2 unknown-unit\n"
     ∷ codes "ok create\n"

@@ -25,12 +25,14 @@ use Rattle.ld_lines.specs.declared.line.Line.TheVariants.{Create, GlobalSet, Glo
 use Rattle.ld_world.specs.World.{world_step, reply_block}
 use Rattle.ld_courses.specs.Courses.{learner, choice, course, one_part, a_property, with_conditions, a_moment, at, told}
 
+-- A global property of which each person has a value, 0 at first.
 abbrev pub the_course : Course
 the_course = with_conditions
     (record (a_property (codes "g") GlobPers IntegerKind (Some (codes "0"))) { uri = Some (codes "urn:g") } ∷ [])
     []
     (course (codes "u") (learner ∷ []) (choice (codes "read") ∷ []) [] (one_part (codes "read")))
 
+-- Values are set before a person joins, then in the run and by lines of no run, and asked in both ways.
 abbrev pub the_lines : List Line
 the_lines =
     Create (a_moment 8 0) (codes "r") (codes "u")
@@ -51,6 +53,8 @@ the_lines =
     ∷ GlobalSet (a_moment 8 0) (codes "urn:g") (Some (codes "ann")) (codes "7")
     ∷ at 9 3 (Get (codes "ann") (codes "g")) ∷ []
 
+-- `ann` joins with the 4 that was set, `bob` with the 0; what one side sets or clears the other sees. A line
+-- of no run has to name a person.
 pub own_global_values : told 2 the_course the_lines ≡
     codes "ok create\n"
     ∷ codes "ok global-set\n"

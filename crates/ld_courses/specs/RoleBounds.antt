@@ -26,6 +26,7 @@ use Rattle.ld_lines.specs.declared.line.Line.TheVariants.{Create}
 use Rattle.ld_world.specs.World.{world_step, reply_block}
 use Rattle.ld_courses.specs.Courses.{a_role, learner, enclosing, choice, course, one_part, a_moment, at, told}
 
+-- The role with at most two members, each in only one of the roles right within it.
 abbrev limited : RoleRow → RoleRow
 limited row = record row { max_persons = Some 2; match_persons = ExclusivelyInRoles }
 
@@ -34,10 +35,12 @@ abbrev group : List RoleRow
 group = enclosing (map limited (a_role (codes "group") Staff)) (a_role (codes "chair") Staff
     ∷ a_role (codes "scribe") Staff ∷ [])
 
+-- A course of one activity for learners, with the group beside them.
 abbrev pub the_course : Course
 the_course = course (codes "u") (learner ∷ group ∷ []) (choice (codes "read")
     ∷ []) [] (one_part (codes "read"))
 
+-- Three persons are assigned to the group and to roles within it, and one drops it.
 abbrev pub the_lines : List Line
 the_lines =
     Create (a_moment 8 0) (codes "r") (codes "u")
@@ -54,6 +57,7 @@ the_lines =
     ∷ at 8 0 (Drop (codes "bob") (codes "chair"))
     ∷ at 8 0 (Drop (codes "bob") (codes "group")) ∷ []
 
+-- With a chair and one more the group is full; the chair may hold the group, too, and not be its scribe.
 pub role_bounds_told : told 3 the_course the_lines ≡
     codes "ok create\n"
     ∷ codes "ok enrol turns=0 fired=0 rejected=0 sent=0\n"

@@ -10,6 +10,7 @@ use Rattle.ld_run.specs.RunStep.{run_step}
 use Rattle.ld_world.specs.World.{world_step, reply_block}
 use Rattle.ld_courses.specs.Courses.{learner, choice, course, one_part, a_moment, at, told}
 
+-- `ann` is enrolled twice, and then `bob`.
 abbrev the_lines : List Line
 the_lines =
     Create (a_moment 8 0) (codes "r") (codes "u")
@@ -17,6 +18,7 @@ the_lines =
     ∷ at 8 0 (Enrol (codes "ann"))
     ∷ at 8 0 (Enrol (codes "bob")) ∷ []
 
+-- A person who is enrolled is refused as such, also where no seat is left; any other has no seat.
 pub seats_taken : told 1 (course (codes "u") (learner ∷ []) (choice (codes "read")
     ∷ []) [] (one_part (codes "read"))) the_lines ≡
     codes "ok create\n"

@@ -27,6 +27,7 @@ use Rattle.ld_lines.specs.declared.line.Line.TheVariants.{Create}
 use Rattle.ld_world.specs.World.{world_step, reply_block}
 use Rattle.ld_courses.specs.Courses.{whole, truth, is_equal, sum_of_two, learner, choice, course, one_part, a_property, with_conditions, a_condition, a_moment, at, told}
 
+-- Where `go` turns true, `n`, which is the greatest integer, gets the value of the term.
 abbrev pub the_course : TermOf → Course
 the_course more = with_conditions
     (a_property (codes "n") Loc IntegerKind (Some (codes "9223372036854775807"))
@@ -35,6 +36,7 @@ the_course more = with_conditions
     (Change (record { property = codes "n"; value = more }) ∷ []) [] ∷ [])
     (course (codes "u") (learner ∷ []) (choice (codes "read") ∷ []) [] (one_part (codes "read")))
 
+-- `go` is set to true, and `n` is read.
 abbrev pub the_lines : List Line
 the_lines =
     Create (a_moment 8 0) (codes "r") (codes "u")
@@ -44,9 +46,11 @@ the_lines =
     ∷ at 10 0 (Set (codes "ann") (codes "go") (codes "true"))
     ∷ at 10 0 (Get (codes "ann") (codes "n")) ∷ []
 
+-- `n` and one more.
 abbrev pub n_and_one : TermOf
 n_and_one = sum_of_two (property_term (codes "n")) (whole (codes "1"))
 
+-- One change is counted as rejected, and `n` is what it was.
 pub sum_out_of_range : told 1 (the_course n_and_one) the_lines ≡
     codes "ok create\n"
     ∷ codes "ok enrol turns=0 fired=0 rejected=0 sent=0\n"

@@ -24,10 +24,12 @@ use Rattle.ld_lines.specs.declared.line.Line.TheVariants.{Create, OfRun}
 use Rattle.ld_world.specs.World.{world_step, reply_block}
 use Rattle.ld_courses.specs.Courses.{after_1970, learner, an_activity, course, one_part, a_moment, at, told}
 
+-- A course of one activity, which is done a day after it is opened.
 abbrev pub the_course : Course
 the_course = course (codes "u") (learner ∷ []) (an_activity (codes "read") true (TimeLimit 86400)
     ∷ []) [] (one_part (codes "read"))
 
+-- The activity is opened at nine; then come the last second of that day and the full day.
 abbrev pub the_lines : List Line
 the_lines =
     Create (a_moment 8 0) (codes "r") (codes "u")
@@ -38,6 +40,7 @@ the_lines =
     ∷ OfRun (after_1970 1704185999) (codes "r") Tick
     ∷ at 33 0 Tick ∷ []
 
+-- In the last second nothing fires; with the full day the activity is done, and its part with it.
 pub time_limits : told 1 the_course the_lines ≡
     codes "ok create\n"
     ∷ codes "ok enrol turns=0 fired=0 rejected=0 sent=0\n"

@@ -25,6 +25,7 @@ use Rattle.ld_lines.specs.declared.line.Line.TheVariants.{Create}
 use Rattle.ld_world.specs.World.{world_step, reply_block}
 use Rattle.ld_courses.specs.Courses.{learner, tutor, choice, a_part, an_act, course, clock, a_moment, at, told}
 
+-- Two acts; the first is done when both its parts are, that of learners and that of tutors.
 abbrev pub the_course : Course
 the_course = course (codes "u") (learner ∷ tutor ∷ []) (choice (codes "x") ∷ choice (codes "y")
     ∷ choice (codes "z") ∷ []) []
@@ -33,6 +34,7 @@ the_course = course (codes "u") (learner ∷ tutor ∷ []) (choice (codes "x") �
     (Some (WhenRolePartCompleted (codes "rp1" ∷ codes "rp2" ∷ [])))
     ∷ an_act (codes "a2") (a_part (codes "rp3") (codes "learner") (codes "z") ∷ []) None ∷ [])
 
+-- A learner and then a tutor complete their activities; the tree is looked at behind each.
 abbrev pub the_lines : List Line
 the_lines =
     Create (a_moment 8 0) (codes "r") (codes "u")
@@ -47,6 +49,7 @@ the_lines =
     ∷ at 9 20 (Tree (codes "ann"))
     ∷ at 9 20 Report ∷ []
 
+-- The second act opens with the command of the tutor, whose moment the report tells.
 pub two_acts : told 2 the_course the_lines ≡
     codes "ok create\n"
     ∷ codes "ok enrol turns=0 fired=0 rejected=0 sent=0\n"

@@ -25,12 +25,14 @@ use Rattle.ld_lines.specs.declared.line.Line.TheVariants.{Create}
 use Rattle.ld_world.specs.World.{world_step, reply_block}
 use Rattle.ld_courses.specs.Courses.{learner, an_activity, choice, a_structure, course, one_part, a_moment, at, told}
 
+-- Two of three activities are to be done.
 abbrev pub the_course : Course
 the_course = course (codes "u") (learner ∷ []) (choice (codes "x") ∷ an_activity (codes "y") true UserChoice
     ∷ choice (codes "z") ∷ [])
     (a_structure (codes "s") Selection (Some 2) (codes "x" ∷ codes "y" ∷ codes "z" ∷ [])
     ∷ []) (one_part (codes "s"))
 
+-- Two are completed, the tree is looked at, and the third is completed, too.
 abbrev pub the_lines : List Line
 the_lines =
     Create (a_moment 8 0) (codes "r") (codes "u")
@@ -42,6 +44,7 @@ the_lines =
     ∷ at 10 0 (Tree (codes "ann"))
     ∷ at 10 0 (Complete (codes "ann") (codes "z")) ∷ []
 
+-- With two of them the structure and its part are done, and the third can still be done.
 pub two_of_three : told 1 the_course the_lines ≡
     codes "ok create\n"
     ∷ codes "ok enrol turns=0 fired=0 rejected=0 sent=0\n"

@@ -28,12 +28,15 @@ use Rattle.ld_lines.specs.declared.line.Line.TheVariants.{Create}
 use Rattle.ld_world.specs.World.{world_step, reply_block}
 use Rattle.ld_courses.specs.Courses.{truth, is_equal, are_both, learner, choice, course, one_part, a_property, with_conditions, a_condition, a_moment, at, told}
 
+-- The property has this truth value.
 abbrev has_truth : List ℕ → List ℕ → TestOf
 has_truth property value = is_equal (property_term property) (truth value)
 
+-- The property gets this truth value.
 abbrev flips : List ℕ → List ℕ → Action
 flips property value = Change (record { property = property; value = truth value })
 
+-- `d` becomes whether the test holds, and then `b` becomes what `d` is; the budget is 4.
 abbrev pub the_course : TestOf → Course
 the_course both = record (with_conditions
     (a_property (codes "go") Loc BooleanKind (Some (codes "false"))
@@ -45,6 +48,7 @@ the_course both = record (with_conditions
     (course (codes "u") (learner ∷ []) (choice (codes "read")
     ∷ []) [] (one_part (codes "read")))) { turns = 4 }
 
+-- `go` is set to true at ten, and then read at half past nine.
 abbrev pub the_lines : List Line
 the_lines =
     Create (a_moment 8 0) (codes "r") (codes "u")
@@ -54,9 +58,11 @@ the_lines =
     ∷ at 10 0 (Set (codes "ann") (codes "go") (codes "true"))
     ∷ at 9 30 (Get (codes "ann") (codes "go")) ∷ []
 
+-- `go` is true, and `b` is false.
 abbrev pub goes_without_b : TestOf
 goes_without_b = are_both (has_truth (codes "go") (codes "true")) (has_truth (codes "b") (codes "false"))
 
+-- The command at ten is refused; `go` stays false, and half past nine is not before the last moment.
 pub undoing_conditions : told 1 (the_course goes_without_b) the_lines ≡
     codes "ok create\n"
     ∷ codes "ok enrol turns=0 fired=0 rejected=0 sent=0\n"

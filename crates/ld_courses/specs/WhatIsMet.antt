@@ -26,6 +26,7 @@ the_course = with_conditions
     []
     (course (codes "u") (learner ∷ []) (choice (codes "read") ∷ []) [] (one_part (codes "read")))
 
+-- Lines of the run `r`, the first of them before it is made, of another run, and of no run.
 abbrev pub the_lines : List Line
 the_lines =
     at 7 0 (Enrol (codes "ann"))
@@ -38,9 +39,12 @@ the_lines =
     ∷ at 8 1 (Enrol (codes "bob"))
     ∷ at 8 2 (Assign (codes "ann") (codes "learner")) ∷ []
 
+-- The value of a property that is this integer.
 abbrev whole_number : ℕ → Option Datum
 whole_number n = Some (number_datum (pos n))
 
+-- Before it is made the run meets nothing, by the line that makes it its unit, and then, property by
+-- property, the values of its persons, the one who joins included, or the one that all share.
 pub what_is_met : met (seated_world 2 (the_course ∷ [])) (codes "r") (map Some the_lines) ≡
     record { line = Some (at 7 0 (Enrol (codes "ann"))); meeting = nothing }
     ∷ record { line = Some (Create (a_moment 8 0) (codes "r") (codes "u")); meeting = the_unit (Some the_course) }

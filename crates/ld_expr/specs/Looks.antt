@@ -33,6 +33,7 @@ abbrev pub members_looks : Course → Seen → List ℕ → List CellName
 members_looks unit seen role =
     Roster ∷ list_from (λ r. map (member_cell r) (everyone seen)) (role_number unit role)
 
+-- The cells at which a term looks for the owner.
 abbrev mutual
   pub term_looks : Course → Owner → TermOf → List CellName
   term_looks unit owner (property_term id) = property_looks unit owner id
@@ -44,10 +45,13 @@ abbrev mutual
       list_from (λ thing. opened_cell thing owner ∷ []) (thing_number unit id)
   term_looks unit owner started_term = Started ∷ []
 
+  -- The cells at which the terms of a list look, one term after the other.
   pub terms_looks : Course → Owner → TermsOf → List CellName
   terms_looks unit owner no_term = []
   terms_looks unit owner (term_and term terms) = term_looks unit owner term ++ terms_looks unit owner terms
 
+-- The cells at which a test looks for the owner. One about the members of a role looks who they are, and
+-- then for each of them as the inner test does.
 abbrev mutual
   pub test_looks : Course → Seen → Owner → TestOf → List CellName
   test_looks unit seen owner (compare_test comparison a b) =
@@ -62,6 +66,7 @@ abbrev mutual
       ++ flat_map (λ p. test_looks unit seen (of_person p) test) (members_of unit seen role)
   test_looks unit seen owner (done_test thing) = done_looks unit owner thing
 
+  -- The cells at which the tests of a list look, one test after the other.
   pub tests_looks : Course → Seen → Owner → TestsOf → List CellName
   tests_looks unit seen owner no_test = []
   tests_looks unit seen owner (test_and test tests) =

@@ -19,6 +19,7 @@ use Rattle.ld_shape.specs.Objects.{Members, object, ◌and◌, needed, optional,
 use Rattle.ld_shape.specs.Shapes.{Shape, HasKey, by_key}
 use Rattle.ld_shape.specs.Words.{one_of}
 
+-- The kinds of activities, by their words.
 abbrev pub activity_words : List (List ℕ × ActivityKind)
 activity_words = (codes "learning", Learning) ∷ (codes "support", Support) ∷ []
 
@@ -119,6 +120,7 @@ activity_by kind = object
     (λ _. refl)
     (activity_members kind)
 
+-- An activity that is read has the kind that is told at its node.
 pub activity_has_kind : (node : Placed) → HasKey (λ x. x.kind) (activity_kind node)
     ((activity_by (activity_kind node)).reading node).value
 unfolding activity_by

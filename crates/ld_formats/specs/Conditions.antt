@@ -15,18 +15,22 @@ use Rattle.ld_formats.specs.Tests.{test}
 
 -- ---- what an action is made of
 
+-- The identifiers of the things that the action shows.
 abbrev pub things_shown_in : Action → Option (List (List ℕ))
 things_shown_in (Show things) = Some things
 things_shown_in _ = None
 
+-- The identifiers of the things that the action hides.
 abbrev pub hidden_in : Action → Option (List (List ℕ))
 hidden_in (Hide things) = Some things
 hidden_in _ = None
 
+-- The change of a property that the action makes.
 abbrev pub change_in : Action → Option ChangeOf
 change_in (Change one) = Some one
 change_in _ = None
 
+-- The notice that the action sends.
 abbrev pub notice_in : Action → Option Notice
 notice_in (Notify one) = Some one
 notice_in _ = None

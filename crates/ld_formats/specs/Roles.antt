@@ -26,9 +26,11 @@ use Rattle.ld_value.proofs.Choices.{and_left, and_right, both}
 
 -- ---- single members
 
+-- The kinds of roles, by their words.
 abbrev pub kind_words : List (List ℕ × RoleKind)
 kind_words = (codes "learner", Learner) ∷ (codes "staff", Staff) ∷ []
 
+-- Whether a person may be a member of several roles right within this one, by the words for it.
 abbrev pub match_words : List (List ℕ × MatchPersons)
 match_words = (codes "exclusively-in-roles", ExclusivelyInRoles) ∷ (codes "not-exclusively", NotExclusively)
     ∷ []
@@ -38,14 +40,17 @@ abbrev pub makes_none : CreateNew → Bool
 makes_none NotAllowed = true
 makes_none Allowed = false
 
+-- `create-new`, which may be `not-allowed` alone; `allowed` is left out of this engine.
 abbrev pub creation : Shape CreateNew
 creation = one_of_but ((codes "not-allowed", NotAllowed) ∷ []) makes_none refl (codes "allowed" ∷ [])
 
+-- A number of persons, at most 1,000,000.
 abbrev pub persons : Shape ℕ
 persons = number 0 1000000
 
 -- ---- the form of roles
 
+-- Whether both are the kind of learners, or both that of staff.
 abbrev pub same_kind : RoleKind → RoleKind → Bool
 same_kind Learner Learner = true
 same_kind Staff Staff = true
@@ -175,6 +180,7 @@ same_key : {A K : Type 0} (k : K) (o : Option A) → HasKey (λ _. k) k o
 same_key k None = tt
 same_key k (Some _) = refl
 
+-- The rows that are read of a role have the kind that is told at its node.
 pub role_has_kind : (node : Placed) → HasKey kind_of_rows (role_kind node)
     ((role_of (role_kind node)).reading node).value
 unfolding role_of

@@ -39,10 +39,12 @@ abbrev mutual
 
 -- ---- what a term is made of
 
+-- The identifier of the property whose value the term is.
 abbrev pub property_in : TermOf → Option (List ℕ)
 property_in (property_term id) = Some id
 property_in _ = None
 
+-- Whether both are the same one of the five datatypes that literals have.
 abbrev pub same_literal : Kind → Kind → Bool
 same_literal Text Text = true
 same_literal Integer Integer = true
@@ -56,30 +58,37 @@ abbrev pub literal_in : Kind → TermOf → Option (List ℕ)
 literal_in kind (literal_term own text) = provided (same_literal kind own) text
 literal_in kind _ = None
 
+-- The terms of a sum.
 abbrev pub sum_in : TermOf → Option (List TermOf)
 sum_in (list_term adding terms) = Some (list_of_terms terms)
 sum_in _ = None
 
+-- The terms of a product.
 abbrev pub product_in : TermOf → Option (List TermOf)
 product_in (list_term multiplying terms) = Some (list_of_terms terms)
 product_in _ = None
 
+-- The two terms of a difference: the second is taken from the first.
 abbrev pub difference_in : TermOf → Option (TermOf × TermOf)
 difference_in (pair_term subtracting a b) = Some (a, b)
 difference_in _ = None
 
+-- The two terms of a quotient: the first is divided by the second.
 abbrev pub quotient_in : TermOf → Option (TermOf × TermOf)
 quotient_in (pair_term dividing a b) = Some (a, b)
 quotient_in _ = None
 
+-- That the term is the moment of the command, which tells nothing more.
 abbrev pub now_in : TermOf → Option (Unit {0})
 now_in now_term = Some tt
 now_in _ = None
 
+-- The identifier of the activity of which the term says when the person opened it.
 abbrev pub opened_in : TermOf → Option (List ℕ)
 opened_in (opened_term id) = Some id
 opened_in _ = None
 
+-- That the term is when the run was started, which tells nothing more.
 abbrev pub started_in : TermOf → Option (Unit {0})
 started_in started_term = Some tt
 started_in _ = None
@@ -88,6 +97,7 @@ terms_again : (terms : List TermOf) → list_of_terms (terms_from terms) ≡ ter
 terms_again [] = refl
 terms_again (term ∷ terms) = ap (λ rest. term ∷ rest) (terms_again terms)
 
+-- Terms put one after another and taken as a list again are the same terms.
 pub these_terms : (terms : List TermOf) → Some (list_of_terms (terms_from terms)) ≡ Some terms
 these_terms terms = ap Some (terms_again terms)
 
@@ -140,11 +150,13 @@ term_cases term =
     ∷ case (codes "divide") quotient quotient_in (λ _. refl) (pair_of term)
     ∷ plain_term_cases
 
+-- An object of one member that is a term, whose operations are on terms that are read so.
 abbrev pub term_step : Formed is_formed_term → Shape TermOf
 term_step inner = sole (term_cases (shape_of inner))
 
 -- ---- a term that a case gives is so formed
 
+-- Where a test holds or else what never holds, the test holds.
 pub so_itself : (b : Bool) → b || false ≡ true → b ≡ true
 so_itself true is = refl
 so_itself false is = is
@@ -159,6 +171,7 @@ list_formed : (terms : TermsOf) → (nat_le 2 (length (list_of_terms terms))
 list_formed terms is = rw (terms_formed terms) at
     (so_itself (nat_le 2 (length (list_of_terms terms)) && list_all is_formed_term (list_of_terms terms)) is)
 
+-- A term of the form of some case has the form of terms.
 pub term_formed : (inner : Formed is_formed_term) (term : TermOf) → (term_step inner).has_form term ≡ true
     → is_formed_term term ≡ true
 term_formed inner (property_term id) is = so_itself (identifier.has_form id) is

@@ -32,6 +32,7 @@ abbrev mutual
 
 -- ---- what a test is made of
 
+-- Whether both are the same one of the four comparisons.
 abbrev pub same_comparison : Comparison → Comparison → Bool
 same_comparison equal equal = true
 same_comparison different different = true
@@ -44,30 +45,37 @@ abbrev pub compared_in : Comparison → TestOf → Option (TermOf × TermOf)
 compared_in comparison (compare_test own a b) = provided (same_comparison comparison own) (a, b)
 compared_in comparison _ = None
 
+-- The tests that are all to hold.
 abbrev pub all_in : TestOf → Option (List TestOf)
 all_in (all_test tests) = Some (list_of_tests tests)
 all_in _ = None
 
+-- The tests of which one is to hold.
 abbrev pub any_in : TestOf → Option (List TestOf)
 any_in (any_test tests) = Some (list_of_tests tests)
 any_in _ = None
 
+-- The test that is not to hold.
 abbrev pub not_in : TestOf → Option TestOf
 not_in (not_test test) = Some test
 not_in _ = None
 
+-- The identifier of the property that is to have no value.
 abbrev pub no_value_in : TestOf → Option (List ℕ)
 no_value_in (no_value_test property) = Some property
 no_value_in _ = None
 
+-- The identifier of the role of which the person is to be a member.
 abbrev pub member_in : TestOf → Option (List ℕ)
 member_in (member_test role) = Some role
 member_in _ = None
 
+-- The identifier of a role, and the test that is to hold for each of its members.
 abbrev pub users_in : TestOf → Option (List ℕ × TestOf)
 users_in (users_test role test) = Some (role, test)
 users_in _ = None
 
+-- The identifier of the thing that is to be done.
 abbrev pub done_in : TestOf → Option (List ℕ)
 done_in (done_test thing) = Some thing
 done_in _ = None
@@ -76,6 +84,7 @@ tests_again : (tests : List TestOf) → list_of_tests (tests_from tests) ≡ tes
 tests_again [] = refl
 tests_again (test ∷ tests) = ap (λ rest. test ∷ rest) (tests_again tests)
 
+-- Tests put one after another and taken as a list again are the same tests.
 pub these_tests : (tests : List TestOf) → Some (list_of_tests (tests_from tests)) ≡ Some tests
 these_tests tests = ap Some (tests_again tests)
 
@@ -109,6 +118,7 @@ test_cases test =
     ∷ case (codes "users-in-role") (λ p. users_test p.0 p.1) users_in (λ _. refl) (of_members test)
     ∷ plain_test_cases
 
+-- An object of one member that is a test, of which those made of tests are made of tests read so.
 abbrev pub test_step : Formed is_formed_test → Shape TestOf
 test_step inner = sole (test_cases (shape_of inner))
 
@@ -124,6 +134,7 @@ several_formed : (tests : TestsOf) → (nat_le 2 (length (list_of_tests tests))
 several_formed tests is = rw (tests_formed tests) at
     (so_itself (nat_le 2 (length (list_of_tests tests)) && list_all is_formed_test (list_of_tests tests)) is)
 
+-- A test of the form of some case has the form of tests.
 pub test_formed : (inner : Formed is_formed_test) (test : TestOf) → (test_step inner).has_form test ≡ true
     → is_formed_test test ≡ true
 unfolding of_members

@@ -38,6 +38,7 @@ unfoldable pub format : Shape ℕ
 format = coded_leaf (λ tree. format_fault (whole_of tree)) (λ tree. tested (nat_eq 1) (whole_of tree))
     (nat_eq 1) (λ tree. tested_keeps (nat_eq 1) (whole_of tree))
 
+-- The levels of units, by their words.
 abbrev pub level_words : List (List ℕ × Level)
 level_words = (codes "A", A) ∷ (codes "B", B) ∷ (codes "C", C) ∷ []
 
@@ -57,6 +58,7 @@ pub record Head : Type 0 where
 abbrev pub Content : Type 0
 Content = Option (List ℕ) × (ℕ × (Option (List ℕ) × (List Item × (List Item × Method))))
 
+-- The members behind the level; a unit that says nothing of its turns has 64.
 unfoldable pub content_members : Members Content
 content_members =
     optional (codes "title") title
@@ -144,6 +146,7 @@ unit_from parts (head, conditions) = record {
   conditions = conditions;
 }
 
+-- The roles, properties, environments, activities and structures of a unit.
 abbrev pub declared_parts : Course → Parts
 declared_parts unit = record {
   roles = unit.roles;
@@ -153,6 +156,7 @@ declared_parts unit = record {
   structures = unit.structures;
 }
 
+-- What a unit's own document and that of its conditions tell of it.
 abbrev pub head_and_conditions : Course → Head × List Condition
 head_and_conditions unit = (
   record {

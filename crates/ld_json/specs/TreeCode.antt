@@ -5,11 +5,13 @@ use Rattle.std.specs.Coded.{Coded, code_by, coded_ℕ, coded_ℤ, coded_bool, co
 use base.Stored.{Gv, gnil, gnum, gcons, coded_float}
 use Rattle.serde_json.specs.Data.{Num, unsigned, negative, float, Data, null, boolean, number, string, array, object, Items, no_items, item, Members, no_members, member}
 
+-- The first of the two that are stored together; where there are no two, nothing.
 abbrev head : Gv → Gv
 head gnil = gnil
 head (gnum n) = gnil
 head (gcons a b) = a
 
+-- The second of the two that are stored together; where there are no two, nothing.
 abbrev tail : Gv → Gv
 tail gnil = gnil
 tail (gnum n) = gnil
@@ -18,24 +20,29 @@ tail (gcons a b) = b
 apart : (m n : ℕ) {a b : Gv} → gcons (gnum m) a ≡ gcons (gnum n) b → m ≢ n → ⊥
 apart m n p other = other (cc)
 
+-- A number as one of three sorts: without a sign, negative, or a float.
 abbrev num_to : Num → ℕ ⊎ (ℤ ⊎ Float)
 num_to (unsigned n) = inl n
 num_to (negative z) = inr (inl z)
 num_to (float x) = inr (inr x)
 
+-- The number that is of one of these sorts.
 abbrev num_from : ℕ ⊎ (ℤ ⊎ Float) → Num
 num_from (inl n) = unsigned n
 num_from (inr (inl z)) = negative z
 num_from (inr (inr x)) = float x
 
+-- A number that is taken as its sort and made of it again is the same.
 pub num_from-num_to : (n : Num) → num_from (num_to n) ≡ n
 num_from-num_to (unsigned n) = refl
 num_from-num_to (negative z) = refl
 num_from-num_to (float x) = refl
 
+-- A number is stored as one of its sort.
 abbrev pub coded_num : Coded Num
 coded_num = code_by (ℕ ⊎ (ℤ ⊎ Float)) (coded⊎ coded_ℕ (coded⊎ coded_ℤ coded_float)) num_to num_from num_from-num_to
 
+-- How a tree is stored, and the elements of an array and the members of an object in it.
 abbrev mutual
   pub tree_code : Data → Gv
   tree_code null = gcons (gnum 0) gnil
@@ -53,6 +60,7 @@ abbrev mutual
   members_code no_members = gcons (gnum 0) gnil
   members_code (member k d ms) = gcons (gnum 1) (gcons ((coded_list coded_ℕ).code k) (gcons (tree_code d) (members_code ms)))
 
+-- Two trees that are stored alike are one tree; so are elements, and members.
 mutual
   pub tree_inj : (x y : Data) → tree_code x ≡ tree_code y → x ≡ y
   tree_inj null null p = refl
@@ -105,5 +113,6 @@ mutual
   members_inj (member k0 d0 ms0) (member k1 d1 ms1) p =
       λ i. member ((coded_list coded_ℕ).inj k0 k1 (ap (λ g. head (tail g)) p) i) (tree_inj d0 d1 (ap (λ g. head (tail (tail g))) p) i) (members_inj ms0 ms1 (ap (λ g. tail (tail (tail g))) p) i)
 
+-- A tree is stored so, and no two trees alike.
 abbrev pub coded_tree : Coded Data
 coded_tree = record { code = tree_code; inj = tree_inj }

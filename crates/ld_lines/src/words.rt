@@ -32,8 +32,8 @@ impl<'a> Words<'a> {
     /// The words of the array that the text is. A word with escapes is unescaped into the scratch.
     ///
     /// # Errors
-    /// `BadLine` only where the text begins no array, `NoMemory` only where the scratch cannot grow to
-    /// the length of the text.
+    /// `BadLine` only where the text begins no array, `NoMemory` only where the scratch cannot grow
+    /// to the length of the text.
     pub(crate) fn of(
         alloc: Global,
         text: &'a str,

@@ -2,11 +2,12 @@
 use Rattle.std.specs.Prelude.{ℕ, ◌+◌, List, [], ◌∷◌}
 use Rattle.ld_value.specs.declared.kind.Kind.{Kind}
 
--- The two operators that take a list of terms, and the two that take a pair.
+-- The two operators that take a list of terms.
 pub data ListOperator : Type 0 where
   adding : ListOperator
   multiplying : ListOperator
 
+-- The two operators that take a pair of terms.
 pub data PairOperator : Type 0 where
   subtracting : PairOperator
   dividing : PairOperator
@@ -58,6 +59,7 @@ abbrev pub terms_from : List TermOf → TermsOf
 terms_from [] = no_term
 terms_from (term ∷ terms) = term_and term (terms_from terms)
 
+-- The terms as a list, in their order.
 abbrev pub list_of_terms : TermsOf → List TermOf
 list_of_terms no_term = []
 list_of_terms (term_and term terms) = term ∷ list_of_terms terms
@@ -67,6 +69,7 @@ abbrev pub tests_from : List TestOf → TestsOf
 tests_from [] = no_test
 tests_from (test ∷ tests) = test_and test (tests_from tests)
 
+-- The tests as a list, in their order.
 abbrev pub list_of_tests : TestsOf → List TestOf
 list_of_tests no_test = []
 list_of_tests (test_and test tests) = test ∷ list_of_tests tests

@@ -36,6 +36,7 @@ pub record NameTable : Type 0 where
 abbrev pub number_at : List Rule → Place → Option ℕ
 number_at rules place = option_and_then (λ rule. number_where (same_rule rule) rules) (completing_rule place)
 
+-- The table of this unit, made of its roles, its properties, its things and its rules.
 abbrev pub names_of : Course → NameTable
 names_of unit = record {
   own = unit.identifier;
@@ -76,6 +77,7 @@ HasPart names (Role r) = r.0 < length names.roles
 HasPart names (Prop p) = p.0 < length names.properties
 HasPart names (Thing t) = t.0 < length names.things
 
+-- Of these numbers of rules, one or none for each thing, that of the thing of this number.
 abbrev pub rule_among : List (Option ℕ) → ℕ → Option ℕ
 rule_among rules thing = option_and_then (λ rule. rule) (slice_get rules thing)
 
@@ -86,6 +88,7 @@ rule_named names (Role _) = None
 rule_named names (Prop _) = None
 rule_named names (Thing t) = rule_among names.rules t.0
 
+-- The number of the thing, if what is named is one.
 abbrev pub thing_among : Option Named → Option ℕ
 thing_among None = None
 thing_among (Some Whole) = None
@@ -93,6 +96,7 @@ thing_among (Some (Role _)) = None
 thing_among (Some (Prop _)) = None
 thing_among (Some (Thing t)) = Some t.0
 
+-- The number of the role, if what is named is one.
 abbrev pub role_among : Option Named → Option ℕ
 role_among None = None
 role_among (Some Whole) = None

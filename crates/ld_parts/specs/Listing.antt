@@ -55,10 +55,12 @@ abbrev pub is_of_run : Kind → Bool
 is_of_run (kind.Thing (Activity _)) = false
 is_of_run _ = true
 
+-- At `property`: the property is named for the run as a whole, where the flag says so.
 abbrev pub of_run_parts : At → Bool → List ℕ → List Part
 of_run_parts at false property = []
 of_run_parts at true property = plain_part (member at (codes "property")) (Types (OfRun property)) ∷ []
 
+-- The text at `value`, which is to be a value of the property, if it is given.
 abbrev pub value_parts : At → List ℕ → Option (List ℕ) → List Part
 value_parts at property None = []
 value_parts at property (Some text) = plain_part (member at (codes "value")) (Types (ValueOf property text)) ∷ []
@@ -82,6 +84,7 @@ abbrev pub wanted_parts : Kind → Wanted
 wanted_parts (kind.Thing (Act p a)) = wanted.PartOf p a
 wanted_parts _ = wanted.PartOf 0 0
 
+-- What stands in `complete` of a thing; the place is that of `complete`.
 unfoldable pub completed_parts : At → Kind → Completion → List Part
 completed_parts at thing UserChoice = []
 completed_parts at thing (TimeLimit _) = []
@@ -103,6 +106,7 @@ abbrev pub list_level_parts : {A : Type 0} → At → List ℕ → Level → Lis
 list_level_parts at name level [] = []
 list_level_parts at name level (_ ∷ _) = record { at = member at name; level = level; what = Other } ∷ []
 
+-- What follows a completion, at the place of `on-completion`: feedback, changes and notices.
 unfoldable pub follows_parts : At → Bool → Bool → OnCompletion → List Part
 follows_parts at by_run completes follows =
     plain_part at (Follows completes)
@@ -119,6 +123,7 @@ on_completion_parts at thing completes (Some follows) = follows_parts (member at
 
 -- ---- roles and properties
 
+-- The place of a role, by the way to it from this one: its number in each list of roles.
 abbrev pub role_at : At → List ℕ → At
 role_at at [] = at
 role_at at (n ∷ path) = role_at (nth at (codes "roles") n) path
@@ -127,10 +132,12 @@ role_at at (n ∷ path) = role_at (nth at (codes "roles") n) path
 unfoldable pub role_part : At → RoleRow → Part
 role_part at role = plain_part (role_at at role.path) (Declares kind.Role role.identifier None)
 
+-- The name of the value that all runs share, where there is one.
 abbrev pub shared_parts : At → Option (List ℕ) → List Part
 shared_parts at None = []
 shared_parts at (Some uri) = plain_part at (Shares uri) ∷ []
 
+-- A property at the place: its shared name, its types, and the role whose it is.
 unfoldable pub property_parts_at : At → PropertyOf → List Part
 property_parts_at at property =
     record { at = at; level = B; what = Declares kind.Property property.identifier None }
@@ -138,14 +145,17 @@ property_parts_at at property =
     ++ (plain_part at (Types (Declared property))
     ∷ optional_reference_parts at (codes "role") wanted.Role property.role))
 
+-- The property of this number in the list at `properties`.
 abbrev pub property_parts : At → ℕ → PropertyOf → List Part
 property_parts at i property = property_parts_at (nth at (codes "properties") i) property
 
 -- ---- environments
 
+-- A learning object at the place, by the numbers of its environment and of itself there, and its items.
 unfoldable pub object_parts_at : At → ℕ → ℕ → LearningObject → List Part
 object_parts_at at e o object = shown_part at (Object e o) object.identifier object.visible ∷ items_parts at (codes "items") object.items
 
+-- The learning object of the second number in the list of an environment, which has the first number.
 abbrev pub object_parts : At → ℕ → ℕ → LearningObject → List Part
 object_parts at e o object = object_parts_at (nth at (codes "learning-objects") o) e o object
 
@@ -156,10 +166,12 @@ service_level Conference = A
 service_level Monitor = B
 service_level IndexSearch = A
 
+-- The service of the second number in the list of an environment, which has the first number.
 unfoldable pub service_parts : At → ℕ → ℕ → ServiceOf → List Part
 service_parts at e s service =
     record { at = nth at (codes "services") s; level = service_level service.kind; what = Declares (kind.Thing (Service e s)) service.identifier (Some service.visible) } ∷ []
 
+-- An environment of this number at the place: its objects, its services, and those to which it refers.
 unfoldable pub environment_parts_at : At → ℕ → EnvironmentOf → List Part
 environment_parts_at at e environment =
     shown_part at (Environment e) environment.identifier environment.visible
@@ -167,6 +179,7 @@ environment_parts_at at e environment =
     ++ (each_numbered (service_parts at e) environment.services
     ++ references_parts at (codes "environments") wanted.Environment environment.environments))
 
+-- The environment of this number in the list at `environments`.
 abbrev pub environment_parts : At → ℕ → EnvironmentOf → List Part
 environment_parts at e environment = environment_parts_at (nth at (codes "environments") e) e environment
 
@@ -184,6 +197,7 @@ parts_before_items at activity =
 unfoldable pub ending_parts : At → Kind → Option Completion → Option OnCompletion → List Part
 ending_parts at thing complete follows = completion_parts at thing complete ++ on_completion_parts at thing (is_some complete) follows
 
+-- An activity of this number at the place: its items, its references, when it is completed, what follows.
 unfoldable pub activity_parts_at : At → ℕ → ActivityOf → List Part
 activity_parts_at at a activity =
     shown_part at (Activity a) activity.identifier activity.visible
@@ -191,20 +205,24 @@ activity_parts_at at a activity =
     ++ (items_parts at (codes "items") activity.items
     ++ ending_parts at (kind.Thing (Activity a)) activity.complete activity.on_completion))
 
+-- The activity of this number in the list at `activities`.
 abbrev pub activity_parts : At → ℕ → ActivityOf → List Part
 activity_parts at a activity = activity_parts_at (nth at (codes "activities") a) a activity
 
+-- A structure of this number at the place: the environments and the children to which it refers.
 unfoldable pub structure_parts_at : At → ℕ → StructureOf → List Part
 structure_parts_at at s structure =
     shown_part at (Structure s) structure.identifier structure.visible
     ∷ (references_parts at (codes "environments") wanted.Environment structure.environments
     ++ references_parts at (codes "children") wanted.Child structure.children)
 
+-- The structure of this number in the list at `structures`.
 abbrev pub structure_parts : At → ℕ → StructureOf → List Part
 structure_parts at s structure = structure_parts_at (nth at (codes "structures") s) s structure
 
 -- ---- the unit's own document
 
+-- A role-part at the place, by the numbers of play, act and itself: its role, and what that does or sees.
 unfoldable pub role_part_parts_at : At → ℕ → ℕ → ℕ → RolePartOf → List Part
 role_part_parts_at at p a r part =
     unshown_part at (RolePart p a r) part.identifier
@@ -212,24 +230,29 @@ role_part_parts_at at p a r part =
     ∷ reference_part at (codes "ref") wanted.Target part.target
     ∷ []
 
+-- The role-part of the last number in the list of an act, which has the numbers of its play and its own.
 abbrev pub role_part_parts : At → ℕ → ℕ → ℕ → RolePartOf → List Part
 role_part_parts at p a r part = role_part_parts_at (nth at (codes "role-parts") r) p a r part
 
+-- An act at the place, by the numbers of its play and of itself: its role-parts, and how it ends.
 unfoldable pub act_parts_at : At → ℕ → ℕ → ActOf → List Part
 act_parts_at at p a act =
     unshown_part at (Act p a) act.identifier
     ∷ (each_numbered (role_part_parts at p a) act.role_parts
     ++ ending_parts at (kind.Thing (Act p a)) act.complete act.on_completion)
 
+-- The act of the second number in the list of a play, which has the first number.
 abbrev pub act_parts : At → ℕ → ℕ → ActOf → List Part
 act_parts at p a act = act_parts_at (nth at (codes "acts") a) p a act
 
+-- A play of this number at the place: its acts, and how it ends.
 unfoldable pub play_parts_at : At → ℕ → PlayOf → List Part
 play_parts_at at p play =
     shown_part at (Play p) play.identifier play.visible
     ∷ (each_numbered (act_parts at p) play.acts
     ++ ending_parts at (kind.Thing (Play p)) play.complete play.on_completion)
 
+-- The play of this number in the list at `plays`.
 abbrev pub play_parts : At → ℕ → PlayOf → List Part
 play_parts at p play = play_parts_at (nth at (codes "plays") p) p play
 
@@ -237,11 +260,13 @@ play_parts at p play = play_parts_at (nth at (codes "plays") p) p play
 abbrev pub method_at : At
 method_at = member (root file.Unit) (codes "method")
 
+-- What stands in the method: the plays, when the unit is completed, and what follows.
 unfoldable pub method_parts : MethodOf → List Part
 method_parts method =
     each_numbered (play_parts method_at) method.plays
     ++ ending_parts method_at kind.Unit method.complete method.on_completion
 
+-- What stands in unit.json: the unit, its objectives and prerequisites, and its method.
 unfoldable pub unit_parts : Course → List Part
 unit_parts unit =
     plain_part (root file.Unit) (Declares kind.Unit unit.identifier None)
@@ -251,15 +276,18 @@ unit_parts unit =
 
 -- ---- conditions
 
+-- An action at the place: the things that it shows or hides, its change, or its notice.
 unfoldable pub action_parts : At → Action → List Part
 action_parts at (action.Show things) = references_parts at (codes "show") wanted.Shown things
 action_parts at (action.Hide things) = references_parts at (codes "hide") wanted.Shown things
 action_parts at (action.Change change) = change_parts (member at (codes "change")) false change
 action_parts at (action.Notify notice) = record { at = at; level = C; what = Other } ∷ notice_parts (member at (codes "notify")) notice
 
+-- The action of this number in the list at the member of this name.
 abbrev pub nth_action_parts : At → List ℕ → ℕ → Action → List Part
 nth_action_parts at name i one = action_parts (nth at name i) one
 
+-- A condition of this number at the place: its test, and what is done where that holds and where not.
 unfoldable pub condition_parts_at : At → ℕ → Condition → List Part
 condition_parts_at at c condition =
     record { at = at; level = B; what = Judges c }
@@ -268,6 +296,7 @@ condition_parts_at at c condition =
     ++ (each_numbered (nth_action_parts at (codes "then")) condition.yes
     ++ each_numbered (nth_action_parts at (codes "else")) condition.no))
 
+-- The condition of this number in the list at `conditions`.
 abbrev pub condition_parts : At → ℕ → Condition → List Part
 condition_parts at c condition = condition_parts_at (nth at (codes "conditions") c) c condition
 

@@ -94,9 +94,10 @@ impl<'a> Listing<'a> {
     }
 }
 
-/// Two parts for each role at the top, property, activity and structure, and one for each item of
-/// an activity: a guess at how many there are, so that a listing seldom grows. No contract speaks of
-/// it.
+/// Two parts for each role at the top, property, activity and structure, one for each item of an
+/// activity, and `FEW_PARTS` more; what environments, conditions, the method and roles within
+/// roles have is not counted. A listing begins with so much room, and grows where a unit has more
+/// parts. No contract speaks of it.
 fn likely_parts(unit: &Unit) -> usize {
     let mut objects = unit.roles.len();
     objects = objects.saturating_add(unit.properties.len());

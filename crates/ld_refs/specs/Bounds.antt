@@ -17,14 +17,17 @@ use Rattle.ld_types.specs.Faults.{fault_if}
 
 -- ---- levels
 
+-- The place of the level among the three, the lowest of which is 0.
 abbrev pub level_number : Level → ℕ
 level_number A = 0
 level_number B = 1
 level_number C = 2
 
+-- The second level is higher than the first.
 abbrev pub is_above : Level → Level → Bool
 is_above level other = nat_lt (level_number level) (level_number other)
 
+-- The fault of a part that only units of a higher level have.
 abbrev pub level_faults_of : Level → Part → List Told
 level_faults_of level part = fault_if (is_above level part.level) AboveLevel part.at
 
@@ -41,14 +44,17 @@ is_left_out (Follows completes) = not completes
 is_left_out LeftOut = true
 is_left_out _ = false
 
+-- The fault of a part that is left out, at its place.
 abbrev pub profile_faults_of : Part → List Told
 profile_faults_of part = fault_if (is_left_out part.what) NotInProfile part.at
 
+-- The faults of all parts that are left out, in document order.
 abbrev pub profile_faults : List Part → List Told
 profile_faults parts = flat_map profile_faults_of parts
 
 -- ---- limits
 
+-- An object stands there, of a kind that passes the test.
 abbrev pub declares : (Kind → Bool) → What → Bool
 declares test (Declares kind _ _) = test kind
 declares test _ = false
@@ -82,6 +88,7 @@ abbrev pub is_leaf : Bool → What → Bool
 is_leaf of_members_only (Leaf of_members) = not of_members_only || of_members
 is_leaf of_members_only _ = false
 
+-- How many leaves the parts have; if so asked, how many that are asked of each member of a role.
 abbrev pub leaves_in : Bool → List Part → ℕ
 leaves_in of_members_only parts = length (filter (λ part. is_leaf of_members_only part.what) parts)
 

@@ -3,5 +3,6 @@ use Rattle.std.specs.Prelude.{ℕ, List, map}
 use Rattle.std.specs.Global.{Vec}
 use Rattle.ld_ways.specs.Graphs.{Graph}
 
+-- Each node leads to the numbers that stand in its own list.
 abbrev pub edges_of : List (Vec ℕ) → Graph
 edges_of edges = map (λ next. next.items) edges

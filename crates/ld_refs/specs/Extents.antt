@@ -41,15 +41,18 @@ size_of_kind sizes _ = 0
 abbrev pub size_named : Sizes → NameTable → List ℕ → ℕ
 size_named sizes names id = size_of_kind sizes (kind_by names id)
 
+-- The sum of the sizes of what the identifiers name.
 abbrev pub sizes_named : Sizes → NameTable → List (List ℕ) → ℕ
 sizes_named sizes names ids = sum_by (size_named sizes names) ids
 
+-- How many items are shown as feedback, where something follows a completion.
 abbrev pub feedback_size : Option OnCompletion → ℕ
 feedback_size None = 0
 feedback_size (Some follows) = length follows.feedback
 
 -- ---- environments
 
+-- The size of a learning object: 1 and its items.
 abbrev pub object_size : LearningObject → ℕ
 object_size object = 1 + length object.items
 
@@ -57,6 +60,7 @@ object_size object = 1 + length object.items
 abbrev pub own_environment_size : Environment → ℕ
 own_environment_size environment = 1 + (length environment.services + sum_by object_size environment.learning_objects)
 
+-- The sizes of all environments, each with those to which it refers, and theirs, and so on.
 abbrev pub environment_sizes : Course → NameTable → List ℕ
 environment_sizes unit names = expanded_sizes (map own_environment_size unit.environments) (environment_graph unit names)
 
@@ -66,10 +70,12 @@ first_sizes unit names = record { environments = environment_sizes unit names; a
 
 -- ---- activities
 
+-- The size of an activity: 1, its items, its feedback items, and the sizes of its environments.
 abbrev pub activity_size : Sizes → NameTable → Activity → ℕ
 activity_size sizes names activity =
     1 + (length activity.items + (feedback_size activity.on_completion + sizes_named sizes names activity.environments))
 
+-- The sizes of all activities, in their order.
 abbrev pub activity_sizes : Course → NameTable → List ℕ
 activity_sizes unit names = map (activity_size (first_sizes unit names) names) unit.activities
 
@@ -83,20 +89,25 @@ leaf_sizes unit names = record { environments = environment_sizes unit names; ac
 abbrev pub own_structure_size : Sizes → NameTable → Structure → ℕ
 own_structure_size sizes names structure = 1 + (sizes_named sizes names structure.environments + sizes_named sizes names structure.children)
 
+-- The sizes of all structures, each with its children, and theirs, and so on.
 abbrev pub structure_sizes : Course → NameTable → List ℕ
 structure_sizes unit names = expanded_sizes (map (own_structure_size (leaf_sizes unit names) names) unit.structures) (structure_graph unit names)
 
+-- The sizes of all environments, activities and structures of the unit.
 abbrev pub sizes_of : Course → NameTable → Sizes
 sizes_of unit names = record { environments = environment_sizes unit names; activities = activity_sizes unit names; structures = structure_sizes unit names }
 
 -- ---- role-parts and the unit
 
+-- The play of this number.
 abbrev pub play_at : Course → ℕ → Option Play
 play_at unit p = slice_get unit.method.plays p
 
+-- The act of the second number in the play of the first.
 abbrev pub act_at : Course → ℕ → ℕ → Option Act
 act_at unit p a = play_at unit p >>= λ play. slice_get play.acts a
 
+-- The role-part of the third number, in the act of the second, in the play of the first.
 abbrev pub role_part_at : Course → ℕ → ℕ → ℕ → Option RolePart
 role_part_at unit p a r = act_at unit p a >>= λ act. slice_get act.role_parts r
 
@@ -114,15 +125,18 @@ size_counted unit sizes names (kind.Thing (place.Play p)) = feedback_size (play_
 size_counted unit sizes names kind.Unit = feedback_size unit.method.on_completion
 size_counted unit sizes names _ = 0
 
+-- What a part counts in the size of the unit: nothing where it is no object.
 abbrev pub size_in : Course → Sizes → NameTable → What → ℕ
 size_in unit sizes names (Declares kind _ _) = size_counted unit sizes names kind
 size_in unit sizes names _ = 0
 
+-- The size of the unit: the sum of what its parts count.
 abbrev pub unit_size : Course → Sizes → NameTable → List Part → ℕ
 unit_size unit sizes names parts = sum_by (λ part. size_in unit sizes names part.what) parts
 
 -- ---- faults
 
+-- A role-part stands there.
 abbrev pub is_role_part : What → Bool
 is_role_part (Declares (kind.Thing (place.RolePart _ _ _)) _ _) = true
 is_role_part _ = false
@@ -136,9 +150,11 @@ part_size_faults unit sizes names part =
 abbrev pub unit_size_faults : ℕ → List Told
 unit_size_faults size = fault_if (nat_lt 200000 size) TooBig method_at
 
+-- The faults of sizes: those of role-parts in document order, and then that of the unit.
 abbrev pub size_faults_with : Course → Sizes → NameTable → List Part → List Told
 size_faults_with unit sizes names parts =
     flat_map (part_size_faults unit sizes names) parts ++ unit_size_faults (unit_size unit sizes names parts)
 
+-- The same with the sizes of the unit's own environments, activities and structures.
 unfoldable pub size_faults : Course → NameTable → List Part → List Told
 size_faults unit names parts = size_faults_with unit (sizes_of unit names) names parts

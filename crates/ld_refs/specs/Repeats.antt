@@ -20,6 +20,7 @@ text_in Identifiers what = identified_by what
 text_in Uris (Shares uri) = uri ∷ []
 text_in Uris _ = []
 
+-- The identifiers, or the uris, of all the parts, in document order.
 abbrev pub texts_in : Texts → List Part → List (List ℕ)
 texts_in texts parts = flat_map (λ part. text_in texts part.what) parts
 
@@ -31,12 +32,14 @@ repeated_if code at earlier text = fault_if (list_any (bytes_eq text) earlier) c
 abbrev pub repeated_target : At → List (List ℕ) → ℕ → List ℕ → List Told
 repeated_target at targets i id = repeated_if RepeatedId (item_at at i) (take i targets) id
 
+-- What is repeated at the place: its own text, of these earlier ones, or a reference within its list.
 abbrev pub repeated_in : Texts → List (List ℕ) → At → What → List Told
 repeated_in Identifiers earlier at (Declares _ id _) = repeated_if RepeatedId at earlier id
 repeated_in Identifiers earlier at (Lists _ targets) = each_numbered (repeated_target at targets) targets
 repeated_in Uris earlier at (Shares uri) = repeated_if RepeatedUri at earlier uri
 repeated_in _ earlier at _ = []
 
+-- The faults of the part of this number, where those before it have the earlier texts.
 abbrev pub repeated_at : Texts → List Part → ℕ → Part → List Told
 repeated_at texts parts i part = repeated_in texts (texts_in texts (take i parts)) part.at part.what
 

@@ -5,5 +5,6 @@ use Rattle.ld_walk.specs.Parts.{Part}
 use Rattle.ld_walk.specs.PartView.{what_of}
 use Rattle.ld_walk.specs.Places.{At}
 
+-- The part at this place and of this level, with what the program says stands there.
 abbrev pub part_seen : At → Level → CodeWhat → Part
 part_seen at level what = record { at = at; level = level; what = what_of what }

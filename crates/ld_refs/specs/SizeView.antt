@@ -3,6 +3,7 @@ use Rattle.std.specs.Prelude.{map, min}
 use Rattle.ld_refs.specs.declared.checks.sizes.Sizes.{Sizes as CodeSizes}
 use Rattle.ld_refs.specs.Extents.{Sizes}
 
+-- The sizes that stand in the program's three lists, each by its number.
 abbrev pub sizes_by : CodeSizes → Sizes
 sizes_by sizes = record { environments = sizes.environments.items; activities = sizes.activities.items; structures = sizes.structures.items }
 

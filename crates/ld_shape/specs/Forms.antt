@@ -37,6 +37,7 @@ flag = plain as_bool
 unfoldable pub true_of : Data → Option (Unit {0})
 true_of tree = as_bool tree >>= λ flag. provided flag tt
 
+-- A flag that has to be true, as a shape.
 abbrev pub true_flag : Shape (Unit {0})
 true_flag = plain true_of
 
@@ -44,10 +45,12 @@ true_flag = plain true_of
 unfoldable pub text_within : ℕ → ℕ → Data → Option (List ℕ)
 text_within least most tree = tested (has_length least most) (as_str tree)
 
+-- A text that is read so has at least and at most so many bytes.
 pub text_formed : (least most : ℕ) (tree : Data) → Keeps (has_length least most) (text_within least most tree)
 unfolding text_within
 text_formed least most tree = tested_keeps (has_length least most) (as_str tree)
 
+-- A text of at least and at most so many bytes, as a shape.
 abbrev pub text : ℕ → ℕ → Shape (List ℕ)
 text least most = leaf (text_within least most) (has_length least most) (text_formed least most)
 
@@ -59,10 +62,12 @@ title = text 1 256
 unfoldable pub identifier_of : Data → Option (List ℕ)
 identifier_of tree = tested has_identifier_form (as_str tree)
 
+-- What is read so has the form of an identifier.
 pub identifier_formed : (tree : Data) → Keeps has_identifier_form (identifier_of tree)
 unfolding identifier_of
 identifier_formed tree = tested_keeps has_identifier_form (as_str tree)
 
+-- An identifier or a reference, as a shape; what a reference names is asked later.
 abbrev pub identifier : Shape (List ℕ)
 identifier = leaf identifier_of has_identifier_form identifier_formed
 
@@ -70,10 +75,12 @@ identifier = leaf identifier_of has_identifier_form identifier_formed
 unfoldable pub address_of : ℕ → Data → Option (List ℕ)
 address_of most tree = tested (is_address_of most) (as_str tree)
 
+-- What is read so is 1 to so many visible characters of ASCII.
 pub address_formed : (most : ℕ) (tree : Data) → Keeps (is_address_of most) (address_of most tree)
 unfolding address_of
 address_formed most tree = tested_keeps (is_address_of most) (as_str tree)
 
+-- 1 to so many visible characters of ASCII, as a shape.
 abbrev pub address : ℕ → Shape (List ℕ)
 address most = leaf (address_of most) (is_address_of most) (address_formed most)
 
@@ -89,9 +96,11 @@ uri = address 4096
 unfoldable pub number_within : ℕ → ℕ → Data → Option ℕ
 number_within least most tree = tested (is_between least most) (whole_of tree)
 
+-- A number that is read so lies between the bounds, or is one of them.
 pub number_formed : (least most : ℕ) (tree : Data) → Keeps (is_between least most) (number_within least most tree)
 unfolding number_within
 number_formed least most tree = tested_keeps (is_between least most) (whole_of tree)
 
+-- A whole number from one bound to the other, as a shape.
 abbrev pub number : ℕ → ℕ → Shape ℕ
 number least most = leaf (number_within least most) (is_between least most) (number_formed least most)

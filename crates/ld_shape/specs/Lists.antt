@@ -53,6 +53,7 @@ each_formed shape (node ∷ nodes) =
     one_more_formed shape.has_form (length nodes) (shape.reading node).value (each shape nodes).value
     (shape.formed node) (each_formed shape nodes)
 
+-- The list of an array that passes the test has a length that passes it, and values of the form.
 pub count_formed : {A : Type 0} (form : A → Bool) (fits : ℕ → Bool) (array : Bool) (nodes : List Placed)
     (xs : Option (List A)) (test : Bool) → fits (length nodes) ≡ test
     → AreFormed form (length nodes) xs

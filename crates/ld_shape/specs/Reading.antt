@@ -31,6 +31,7 @@ abbrev pub fault_unless : {A : Type 0} → Told → Option A → List Told
 fault_unless fault (Some _) = []
 fault_unless fault None = fault ∷ []
 
+-- There is a value, or else the fault.
 pub or_fault_agree : {A : Type 0} (fault : Told) (x : Option A) → ValueOrFaults x (fault_unless fault x)
 or_fault_agree fault (Some _) = tt
 or_fault_agree fault None = tt
@@ -44,28 +45,34 @@ abbrev pub none_if : List Told → Option (Unit {0})
 none_if [] = Some tt
 none_if (_ ∷ _) = None
 
+-- There is the value that tells nothing, or else at least one fault.
 pub none_if_agree : (faults : List Told) → ValueOrFaults (none_if faults) faults
 none_if_agree [] = tt
 none_if_agree (_ ∷ _) = tt
 
+-- These faults; where there are none, a value that tells nothing.
 abbrev pub unless_any : List Told → Reading (Unit {0})
 unless_any faults = record { value = none_if faults; faults = faults; agree = none_if_agree faults }
 
 -- ---- one reading after another: both values, and the faults of both, in order
 
+-- Both values as a pair, where both are there.
 abbrev pub option_both : {A B : Type 0} → Option A → Option B → Option (A × B)
 option_both None next = None
 option_both (Some x) None = None
 option_both (Some x) (Some y) = Some (x, y)
 
+-- What is next, where the first is there.
 abbrev pub option_after : {A B : Type 0} → Option A → Option B → Option B
 option_after None next = None
 option_after (Some _) next = next
 
+-- The value with this done to it, where it is there.
 abbrev pub option_mapped : {A B : Type 0} → (A → B) → Option A → Option B
 option_mapped f None = None
 option_mapped f (Some x) = Some (f x)
 
+-- There are both values exactly where neither of the two readings has a fault.
 pub both_agree : {A B : Type 0} (x : Option A) (before : List Told) (y : Option B) (more : List Told)
     → ValueOrFaults x before → ValueOrFaults y more → ValueOrFaults (option_both x y) (before ++ more)
 both_agree (Some x) [] (Some y) more is are = are
@@ -74,6 +81,7 @@ both_agree (Some x) (_ ∷ _) y more is are = absurd is
 both_agree None [] y more is are = absurd is
 both_agree None (_ ∷ _) y more is are = tt
 
+-- There is a value behind another exactly where neither of the two readings has a fault.
 pub after_agree : {A B : Type 0} (x : Option A) (before : List Told) (y : Option B) (more : List Told)
     → ValueOrFaults x before → ValueOrFaults y more → ValueOrFaults (option_after x y) (before ++ more)
 after_agree (Some x) [] y more is are = are
@@ -81,6 +89,7 @@ after_agree (Some x) (_ ∷ _) y more is are = absurd is
 after_agree None [] y more is are = absurd is
 after_agree None (_ ∷ _) y more is are = tt
 
+-- With something done to the value, too, there is one exactly where there is no fault.
 pub mapped_agree : {A B : Type 0} (f : A → B) (x : Option A) (faults : List Told) → ValueOrFaults x faults
     → ValueOrFaults (option_mapped f x) faults
 mapped_agree f (Some x) [] is = is
@@ -119,6 +128,7 @@ abbrev pub at_part : {A X : Type 0} → X → (A → X) → Option A → X
 at_part absent there None = absent
 at_part absent there (Some part) = there part
 
+-- Whether the part is there or absent, there is a value exactly where there is no fault.
 unfoldable pub at_part_agree : {P A : Type 0} (absent : Reading A) (there : P → Reading A) (part : Option P)
     → ValueOrFaults (at_part absent.value (λ p. (there p).value) part)
     (at_part absent.faults (λ p. (there p).faults) part)

@@ -69,6 +69,7 @@ following before next = record {
       (next.formed source);
 }
 
+-- What can be seen in a value made of one of the form has the form.
 pub part_formed : {A B : Type 0} (make : A → B) (parts : B → A) (form : A → Bool)
     → ((x : A) → parts (make x) ≡ x)
     → (x : A) → form x ≡ true → form (parts (make x)) ≡ true
@@ -84,6 +85,7 @@ made make parts law shape = record {
       (part_formed make parts shape.has_form law) (shape.reading source).value (shape.formed source);
 }
 
+-- What can be picked out of a value made of one of the form is there, and has the form.
 pub picked_formed : {A B : Type 0} (make : A → B) (pick : B → Option A) (form : A → Bool)
     → ((x : A) → pick (make x) ≡ Some x)
     → (x : A) → form x ≡ true → is_given form (pick (make x)) ≡ true
@@ -106,6 +108,7 @@ abbrev pub HasKey : {K A : Type 0} → (A → K) → K → Option A → Type 0
 HasKey key k None = Unit {0}
 HasKey key k (Some x) = key x ≡ k
 
+-- A value that has the key, and the form for it, has the form for its own key.
 pub key_formed : {K A : Type 0} (form : K → A → Bool) (key : A → K) (k : K) (o : Option A) → HasKey key k o
     → Keeps (form k) o → Keeps (λ x. form (key x) x) o
 key_formed form key k None has is = tt

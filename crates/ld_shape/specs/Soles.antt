@@ -52,6 +52,7 @@ value_either : {A : Type 0} (test : Bool) (x y : Reading A)
 value_either true x y = refl
 value_either false x y = refl
 
+-- What the case of a name gives is of the form of some case.
 pub chosen_keeps : {A : Type 0} (cases : List (Case A)) (node : Placed) (name : List ℕ)
     → Keeps (has_a_case cases) (chosen cases node name).value
 chosen_keeps [] node name = tt

@@ -32,11 +32,13 @@ unfolding seconds_if
 parts_in_range None = tt
 parts_in_range (Some parts) = some_in_range parts (is_duration parts) refl
 
+-- The seconds of a text that is a duration are at most 999,999,999,999.
 pub text_in_range : (text : Option (List ℕ)) → Keeps is_in_range (text >>= duration_of)
 unfolding duration_of
 text_in_range None = tt
 text_in_range (Some text) = parts_in_range (parts_in text)
 
+-- The seconds that are read from a tree are at most that many.
 pub span_formed : (tree : Data) → Keeps is_in_range (span_of tree)
 unfolding span_of
 span_formed tree = text_in_range (as_str tree)

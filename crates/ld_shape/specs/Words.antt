@@ -49,6 +49,7 @@ choice_keeps form (word ∷ words) have text =
     (and_left (form word.1) (words_have form words) have)
     (choice_keeps form words (and_right (form word.1) (words_have form words) have) text)
 
+-- What a text stands for among the words has the form that all of them have.
 pub word_keeps : {A : Type 0} (form : A → Bool) (words : List (List ℕ × A)) → words_have form words ≡ true
     → (text : Option (List ℕ)) → Keeps form (text >>= choice_among words)
 word_keeps form words have None = tt

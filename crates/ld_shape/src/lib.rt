@@ -1,7 +1,7 @@
 //! Shapes of JSON nodes, and readers by shape.
 //!
-//! A shape tells once what a node stands for, which faults it has and which form all its values keep
-//! to (`specs/Shapes.antt`); shapes of objects are put together from those of their members.
+//! A shape tells once what a node stands for, which faults it has and which form all its values
+//! keep to (`specs/Shapes.antt`); shapes of objects are put together from those of their members.
 //!
 //! ```
 //! node.only(alloc, &["identifier", "title", "visible"])?;

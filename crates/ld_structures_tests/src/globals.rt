@@ -1,4 +1,5 @@
-//! The store with ample memory: each call once, a history worked out by hand, and many calls against a plain list.
+//! The store with ample memory: each call once, a history worked out by hand, and many calls
+//! against a plain list.
 ghost use Rattle.std.specs.Prelude.{◌≡◌, ◌<◌};
 
 use ld_base::id::Id;

@@ -43,8 +43,8 @@ pub const SECOND_UNIT: Named = (
     br#"{"format":1,"identifier":"u2","level":"A","method":{"plays":[{"identifier":"p","acts":[{"identifier":"a","role-parts":[{"identifier":"rp","role":"learner","ref":"read"}]}]}]}}"#,
 );
 
-/// What a call finds: its words; its lines, in pieces of so many bytes; how much fits into the sink; and the
-/// numbers of the calls that fail, 0 for none.
+/// What a call finds: its words; its lines, in pieces of so many bytes; how much fits into the
+/// sink; and the numbers of the calls that fail, 0 for none.
 #[derive(Drop)]
 pub struct Case<'a> {
     pub words: &'a [&'static str],

@@ -5,8 +5,8 @@ use ld_base::memory::NoMemory;
 use std::alloc::Global;
 use std::test::Fail;
 
-/// The status of a call without lines, and what it wrote, where the file of this name has these bytes or,
-/// with none, is not there. The call of this number to the shelf fails.
+/// The status of a call without lines, and what it wrote, where the file of this name has these
+/// bytes or, with none, is not there. The call of this number to the shelf fails.
 fn read_with(
     alloc: Global,
     changed: &str,

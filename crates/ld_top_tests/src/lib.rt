@@ -1,5 +1,6 @@
-//! Tests of what no clause of `ld_refs` and `ld_top` says: that each call succeeds where there is memory,
-//! and that a failed call of shelf, source or sink ends the call of the program. Everything runs over memory.
+//! Tests of what no clause of `ld_refs` and `ld_top` says: that each call succeeds where there is
+//! memory, and that a failed call of shelf, source or sink ends the call of the program. Everything
+//! runs over memory.
 #![tactic(auto)]
 
 #[cfg(test)]

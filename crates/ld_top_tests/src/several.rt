@@ -4,8 +4,8 @@ use ld_base::memory::NoMemory;
 use std::alloc::Global;
 use std::test::Fail;
 
-/// The status of a call for these folders and these lines, and what it wrote, where the call of this
-/// number to the shelf fails.
+/// The status of a call for these folders and these lines, and what it wrote, where the call of
+/// this number to the shelf fails.
 fn replayed<'a>(
     alloc: Global,
     words: &'a [&'static str],

@@ -7,14 +7,17 @@ use Rattle.ld_types.specs.declared.types.ListOperator.TheVariants.{Adding, Multi
 use Rattle.ld_types.specs.declared.types.PairOperator.{PairOperator as CodePairOperator}
 use Rattle.ld_types.specs.declared.types.PairOperator.TheVariants.{Subtracting, Dividing}
 
+-- The operator of two terms or more that the program's one stands for.
 abbrev pub checked_list_operator_of : CodeListOperator → ListOperator
 checked_list_operator_of Adding = adding
 checked_list_operator_of Multiplying = multiplying
 
+-- The operator of just two terms that the program's one stands for.
 abbrev pub checked_pair_operator_of : CodePairOperator → PairOperator
 checked_pair_operator_of Subtracting = subtracting
 checked_pair_operator_of Dividing = dividing
 
+-- The comparison of two terms that the program's one stands for.
 abbrev pub checked_comparison_of : CodeComparison → Comparison
 checked_comparison_of Equal = equal
 checked_comparison_of Different = different

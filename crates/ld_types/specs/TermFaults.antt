@@ -67,6 +67,7 @@ are_comparable different a b = same_type a b
 are_comparable greater a b = same_type a b && is_ordered a
 are_comparable less a b = same_type a b && is_ordered a
 
+-- The types of both terms are known, and their values cannot be compared so.
 abbrev pub is_no_comparison : Comparison → Option ValueType → Option ValueType → Bool
 is_no_comparison comparison (Some a) (Some b) = not (are_comparable comparison a b)
 is_no_comparison comparison _ _ = false

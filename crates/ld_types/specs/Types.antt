@@ -25,6 +25,7 @@ type_of kind.Integer = Integer
 type_of kind.Datetime = Datetime
 type_of kind.Duration = Duration
 
+-- Whether two types are one.
 abbrev pub same_type : ValueType → ValueType → Bool
 same_type Text Text = true
 same_type Boolean Boolean = true
@@ -43,6 +44,7 @@ is_ordered Duration = true
 
 -- ---- properties
 
+-- The property, if what is named is one.
 abbrev pub property_at : Course → Named → Option Property
 property_at unit (named.Prop p) = slice_get unit.properties p.0
 property_at unit _ = None
@@ -55,9 +57,11 @@ property_named unit names id = named_by names id >>= property_at unit
 abbrev pub Find : Type 0
 Find = List ℕ → Option Property
 
+-- The type of the property that the identifier names.
 abbrev pub type_named : Find → List ℕ → Option ValueType
 type_named find id = option_map (λ property. type_of property.datatype) (find id)
 
+-- There is a property, and it is one of which each person has a value.
 abbrev pub is_person's : Option Property → Bool
 is_person's None = false
 is_person's (Some property) = is_personal property.kind
@@ -92,6 +96,7 @@ known_pair_type operator a b = a >>= λ x. b >>= λ y. pair_type operator x y
 
 -- ---- terms
 
+-- A type, and then those of a list, where all of them are known.
 abbrev pub type_and : Option ValueType → Option (List ValueType) → Option (List ValueType)
 type_and type types = type >>= λ first. option_map (λ more. first ∷ more) types
 

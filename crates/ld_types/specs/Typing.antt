@@ -30,6 +30,7 @@ change_faults find at by_run property value =
     fault_if (is_other_type (type_named find property) (term_type find value)) BadType at
     ++ term_faults find (by_run && not (is_person's (find property))) (member at (codes "value")) value
 
+-- The faults of what is to have the right types, at the place and in it.
 abbrev pub typed_faults : Find → At → Typed → List Told
 typed_faults find at (Declared property) = property_faults at property
 typed_faults find at (ValueOf id text) = fault_if (is_no_value_of (find id) text) BadType at
@@ -37,12 +38,15 @@ typed_faults find at (OfRun id) = fault_if (is_person's (find id)) BadType at
 typed_faults find at (Changed by_run property value) = change_faults find at by_run property value
 typed_faults find at (Tested test) = test_faults find at test
 
+-- The faults of types in what stands at the place: none where it is to have no types.
 abbrev pub types_in : Find → At → What → List Told
 types_in find at (Types typed) = typed_faults find at typed
 types_in find at _ = []
 
+-- The faults of types in one part, at its place.
 abbrev pub type_faults_of : Find → Part → List Told
 type_faults_of find part = types_in find part.at part.what
 
+-- The faults of types in all parts of the unit, in document order.
 abbrev pub type_faults : Course → NameTable → List Part → List Told
 type_faults unit names parts = flat_map (type_faults_of (property_named unit names)) parts

@@ -73,8 +73,8 @@ fn digit_count(text: &[u8]) -> usize
     text.iter().take_while(|byte| byte.is_ascii_digit()).count()
 }
 
-/// The seconds of all parts together; None where none is there, one is not of 1 to 12 digits, or the
-/// sum is too large.
+/// The seconds of all parts together; None where none is there, one is not of 1 to 12 digits, or
+/// the sum is too large.
 fn total(
     days: Option<&[u8]>,
     hours: Option<&[u8]>,
@@ -115,8 +115,8 @@ fn part_number(part: Option<&[u8]>) -> Option<u64>
     }
 }
 
-/// The text of a span of that many seconds: days, hours below 24, minutes below 60 and seconds below
-/// 60, zero parts left out; `PT0S` for none.
+/// The text of a span of that many seconds: days, hours below 24, minutes below 60 and seconds
+/// below 60, zero parts left out; `PT0S` for none.
 pub(crate) fn print_span(seconds: u64) -> Draft
     ensures { result ≡ span_text seconds }
 {

@@ -5,7 +5,8 @@ use ld_base::items::Items;
 /// A list of values.
 pub type ValueList = Items<Value>;
 
-/// The restrictions of a property as values. An absent one restricts nothing, nor does an empty list.
+/// The restrictions of a property as values. An absent one restricts nothing, nor does an empty
+/// list.
 #[derive(Drop)]
 pub struct Limits {
     /// The least value that fits.

@@ -19,8 +19,8 @@ pub const FIRST_MOMENT: Moment = Moment(-62_135_596_800);
 /// 9999-12-31T23:59:59Z, the last moment that has a text.
 pub const LAST_MOMENT: Moment = Moment(253_402_300_799);
 
-/// The moment that the text names by `YYYY-MM-DDTHH:MM:SSZ`; None exactly where the text has another
-/// form, or no such day or time of day exists.
+/// The moment that the text names by `YYYY-MM-DDTHH:MM:SSZ`; None exactly where the text has
+/// another form, or no such day or time of day exists.
 pub fn read_moment(text: &str) -> Option<Moment>
     ensures value { option_map (λ m. m.0) result ≡ moment_of text.now }
     ensures years { IfSome result (λ m. IsMoment m.0) }

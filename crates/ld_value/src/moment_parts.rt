@@ -87,8 +87,8 @@ fn second_number(hour: u64, minute: u64, second: u64) -> Option<u32>
     Some((3_600 * hour + 60 * minute + second) as u32)
 }
 
-/// The number of the day, counted from 1970-01-01; None where there is no such day in the years from
-/// 1 to 9999.
+/// The number of the day, counted from 1970-01-01; None where there is no such day in the years
+/// from 1 to 9999.
 fn day_number(year: u64, month: u64, day: u64) -> Option<i64>
     requires year { year < 10000 }
     requires month { month < 100 }

@@ -14,8 +14,8 @@ use crate::value::Value;
 use ld_base::memory::NoMemory;
 use ld_base::text::Text;
 
-/// Appends the value's text; a moment lies in the years 1 to 9999. Where memory is wanting the bytes
-/// stay as they were, which cannot come within the spare room.
+/// Appends the value's text; a moment lies in the years 1 to 9999. Where memory is wanting the
+/// bytes stay as they were, which cannot come within the spare room.
 pub fn print_value(value: &Value, out: &mut Text) -> Result<(), NoMemory>
     requires { HasText (datum_of value.now) }
     ensures ok { OnOk result (out.new.bytes ≡ out.old.bytes ++ text_of (datum_of value.now)) }

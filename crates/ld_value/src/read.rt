@@ -15,8 +15,8 @@ use crate::value::Value;
 use ld_base::text::Text;
 use std::alloc::Global;
 
-/// The value that the text has as one of the datatype. `BadValue` comes exactly where it has none, and
-/// `NoMemory` only where the value is a text.
+/// The value that the text has as one of the datatype. `BadValue` comes exactly where it has none,
+/// and `NoMemory` only where the value is a text.
 pub fn read_value(alloc: Global, kind: Kind, text: &str) -> Result<Value, ValueFault>
     ensures ok { IfOk result (λ v. value_of kind text.now ≡ Some (datum_of v)) }
     ensures bad { (result ≡ Err ValueFault.BadValue) ↔ (value_of kind text.now ≡ None) }
@@ -42,8 +42,8 @@ fn text_if(alloc: Global, good: bool, text: &str) -> Result<Value, ValueFault>
     Ok(Value::Text(Text::of(alloc, text)?))
 }
 
-/// The value that the text has as one of a datatype other than string, text and uri, whose values take
-/// no memory; None exactly where it has none.
+/// The value that the text has as one of a datatype other than string, text and uri, whose values
+/// take no memory; None exactly where it has none.
 pub fn read_scalar(kind: Kind, text: &str) -> Option<Value>
     requires { IsTrue (is_scalar kind) }
     ensures value { option_map datum_of result ≡ value_of kind text.now }

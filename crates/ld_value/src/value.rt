@@ -34,7 +34,8 @@ impl Value {
     }
 }
 
-/// Whether the two are one value. Texts are compared by their bytes, and values of two sorts differ.
+/// Whether the two are one value. Texts are compared by their bytes, and values of two sorts
+/// differ.
 pub fn same_value(first: &Value, second: &Value) -> bool
     ensures test { result ≡ same_datum (datum_of first.now) (datum_of second.now) }
     ensures same { IsTrue result ↔ (datum_of first.now ≡ datum_of second.now) }

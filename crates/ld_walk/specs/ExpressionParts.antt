@@ -9,14 +9,17 @@ use Rattle.ld_walk.specs.Places.{At, member, item_at, nth}
 
 -- ---- the names of operators
 
+-- The member at which the terms of a sum or of a product stand.
 abbrev pub list_operator_word : ListOperator → List ℕ
 list_operator_word adding = codes "sum"
 list_operator_word multiplying = codes "multiply"
 
+-- The member at which the two terms of a difference or of a quotient stand.
 abbrev pub pair_operator_word : PairOperator → List ℕ
 pair_operator_word subtracting = codes "subtract"
 pair_operator_word dividing = codes "divide"
 
+-- The member at which two terms that are compared so stand.
 abbrev pub comparison_word : Comparison → List ℕ
 comparison_word equal = codes "is"
 comparison_word different = codes "is-not"

@@ -9,6 +9,7 @@ use Rattle.ld_walk.specs.PlaceRows.{place_at}
 use Rattle.ld_walk.specs.Places.{At}
 use Rattle.ld_walk.specs.Parts.{Part, Typed, Declared, ValueOf, OfRun, Changed, Tested, What, Declares, Refers, Lists, Shares, Completes, Follows, Judges, Leaf, LeftOut, Types, Other}
 
+-- What is to have the right types, as the program's value tells it.
 abbrev pub typed_of : CodeTyped → Typed
 typed_of (DeclaredIn property) = Declared property.now
 typed_of (ValueOfIn property text) = ValueOf property.now text.now
@@ -16,6 +17,7 @@ typed_of (OfRunIn property) = OfRun property.now
 typed_of (ChangedIn by_run property value) = Changed by_run property.now value.now
 typed_of (TestedIn test) = Tested test.now
 
+-- What stands at a place, as the program's value tells it.
 abbrev pub what_of : CodeWhat → What
 what_of (DeclaresIn kind id visible) = Declares kind id.now visible
 what_of (RefersIn wanted id) = Refers wanted id.now

@@ -35,6 +35,7 @@ leads_down n above (Whole _) = true
 leads_down n above (Member _) = nat_lt above n
 leads_down n above (Element _ _) = nat_lt above n
 
+-- The row of this number stands below an earlier one, or is a whole document.
 abbrev pub is_below : ℕ → PlaceRow → Bool
 is_below n row = leads_down n row.above row.step
 

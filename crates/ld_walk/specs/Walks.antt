@@ -26,6 +26,7 @@ abbrev pub place_before : At → List At → At
 place_before at [] = at
 place_before at (above ∷ _) = above
 
+-- The places to go back to behind the nearest.
 abbrev pub rest_of : List At → List At
 rest_of [] = []
 rest_of (_ ∷ back) = back
@@ -44,8 +45,10 @@ walked_by places at back rows = record { at = place_at places at; back = reverse
 abbrev pub all_within : ℕ → List ℕ → Bool
 all_within count numbers = list_all (λ n. nat_lt n count) numbers
 
+-- The numbers at which the parts stand are those of places.
 abbrev pub parts_within : ℕ → List PartRow → Bool
 parts_within count rows = list_all (λ row. nat_lt row.at count) rows
 
+-- Of so many places, the walk stands at one, goes back to some, and has its parts at some.
 abbrev pub IsKept : ℕ → ℕ → List ℕ → List PartRow → Type 0
 IsKept count at back rows = (at < count) × (all_within count back ≡ true) × (parts_within count rows ≡ true)

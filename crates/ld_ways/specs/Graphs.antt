@@ -3,9 +3,11 @@ use Rattle.std.specs.Prelude.{◌≡◌, ℕ, zero, suc, ◌+◌, List, [], Opti
 use Rattle.std.specs.List.{list_any, sum_by}
 use Rattle.ld_base.specs.Numbers.{numbers_below}
 
+-- For each node, counted from 0, the numbers of the nodes to which it leads by one step.
 abbrev pub Graph : Type 0
 Graph = List (List ℕ)
 
+-- The nodes, or no nodes where nothing is there.
 abbrev pub nodes_or_none : Option (List ℕ) → List ℕ
 nodes_or_none None = []
 nodes_or_none (Some nodes) = nodes
@@ -45,6 +47,7 @@ first_on_cycle g = position (is_on_cycle g) (numbers_below (length g))
 
 -- ---- sizes
 
+-- The number, or 0 where nothing is there.
 abbrev pub number_or_zero : Option ℕ → ℕ
 number_or_zero None = 0
 number_or_zero (Some n) = n

@@ -1,9 +1,9 @@
 //! The first node of a graph that leads to itself.
 //!
-//! Each node gets a label such that labels never rise along an edge, and are equal along an edge just
-//! where its end leads back. Then the first node with an edge along which the label stays is the one
-//! sought. That a label never rises, and that this node leads to itself, is looked up before it is
-//! answered; so nothing rests on the labels but time.
+//! Each node gets a label such that labels never rise along an edge, and are equal along an edge
+//! just where its end leads back. Then the first node with an edge along which the label stays is
+//! the one sought. That a label never rises, and that this node leads to itself, is looked up
+//! before it is answered; so nothing rests on the labels but time.
 ghost use Rattle.std.specs.Prelude.{◌≡◌, IfOk, map};
 ghost use Rattle.ld_ways.specs.Graphs.{first_on_cycle, next_of};
 
@@ -19,8 +19,8 @@ use levels::{first_level, never_rise};
 use std::alloc::Global;
 use way_back::leads_back;
 
-/// The first node that leads to itself, where `edges` has for each node the nodes to which it leads.
-/// It takes time as the number of nodes and edges.
+/// The first node that leads to itself, where `edges` has for each node the nodes to which it
+/// leads. It takes time as the number of nodes and edges.
 pub fn first_on_cycle(alloc: Global, edges: &[Vec<usize>]) -> Result<Option<usize>, NoMemory>
     ensures { IfOk result (λ found. found ≡ first_on_cycle (map (λ next. next.items) edges.now)) }
 {

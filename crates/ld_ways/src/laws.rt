@@ -8,8 +8,8 @@ pub fn ways_are_found()
     ensures { (g : Graph) (a b : ℕ) → (leads_within g (length g) a b ≡ true) ↔ LeadsTo g a b }
 {}
 
-/// Where no node leads to itself, what a node expands to is its own size and what the nodes to which it
-/// leads expand to.
+/// Where no node leads to itself, what a node expands to is its own size and what the nodes to
+/// which it leads expand to.
 pub fn sizes_add_up()
     ensures { (own : List ℕ) (g : Graph) → length own ≡ length g → first_on_cycle g ≡ None
         → AddUp own g (expanded_size own g) }

@@ -1,7 +1,8 @@
-//! What leads where in a graph: the first node that leads to itself, and what nodes expand to where none
-//! does.
+//! What leads where in a graph: the first node that leads to itself, and what nodes expand to where
+//! none does.
 //!
-//! Contracts see a graph as a list that has for each node, counted from 0, the nodes to which it leads.
+//! Contracts see a graph as a list that has for each node, counted from 0, the nodes to which it
+//! leads.
 #![tactic(auto)]
 
 pub mod cycles;

@@ -10,12 +10,12 @@ use std::alloc::Global;
 /// A size that is greater than every limit: sizes stand still at it.
 pub const GREATEST: u64 = 1_000_000;
 
-/// What each node expands to, or `GREATEST` where that is less: its own size, and that of each node to
-/// which it leads, as often as ways lead to it. A number that is no node counts nothing.
+/// What each node expands to, or `GREATEST` where that is less: its own size, and that of each node
+/// to which it leads, as often as ways lead to it. A number that is no node counts nothing.
 ///
-/// It goes in rounds, each with ways of one more node, and stops after the first that changes nothing:
-/// at most one more than the longest way has nodes, and at most as many as there are nodes. A round
-/// takes time as there are nodes and edges. The only error is want of memory.
+/// It goes in rounds, each with ways of one more node, and stops after the first that changes
+/// nothing: at most one more than the longest way has nodes, and at most as many as there are
+/// nodes. A round takes time as there are nodes and edges. The only error is want of memory.
 pub fn expanded_sizes(
     alloc: Global,
     own: &[u64],
@@ -37,7 +37,8 @@ pub fn expanded_sizes(
     Ok(sizes)
 }
 
-/// The sizes of all nodes with ways of one more node than those given. The only error is want of memory.
+/// The sizes of all nodes with ways of one more node than those given. The only error is want of
+/// memory.
 fn next_sizes(
     alloc: Global,
     own: &[u64],

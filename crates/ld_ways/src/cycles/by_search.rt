@@ -1,4 +1,5 @@
-//! The first node that leads to itself, by a search from each node: slow, and plainly the definition.
+//! The first node that leads to itself, by a search from each node: slow, and plainly the
+//! definition.
 ghost use Rattle.std.specs.Prelude.{◌≡◌, ◌||◌, IfOk, map, false, nat_eq, slice_get};
 ghost use Rattle.std.specs.List.{list_any};
 ghost use Rattle.std.specs.Option.{unwrap_or};

@@ -91,8 +91,8 @@ impl Walk {
         self.follow(visit, target)
     }
 
-    /// Follows an edge. Where its end was not entered yet, it is entered, and the edge will be looked
-    /// at once more; else the node takes over how far back the end leads.
+    /// Follows an edge. Where its end was not entered yet, it is entered, and the edge will be
+    /// looked at once more; else the node takes over how far back the end leads.
     fn follow(&mut self, visit: Visit, target: usize) -> Result<(), NoMemory> {
         let known = self.labels.get(target).copied();
         if known == Some(0) {
@@ -124,8 +124,8 @@ impl Walk {
         Ok(())
     }
 
-    /// Leaves a node. Where it leads to none entered before it, it and those entered since that have
-    /// no label lead to each other: they get the next label.
+    /// Leaves a node. Where it leads to none entered before it, it and those entered since that
+    /// have no label lead to each other: they get the next label.
     fn leave(&mut self, visit: Visit) {
         if self.labels.get(visit.node).copied() != Some(visit.number) {
             return;

@@ -32,8 +32,8 @@ pub(super) fn leads_back(
     Ok(false)
 }
 
-/// Puts those of the nodes that were not seen behind those that are reached. An error may leave some
-/// of them there.
+/// Puts those of the nodes that were not seen behind those that are reached. An error may leave
+/// some of them there.
 fn reach(next: &[usize], seen: &mut [bool], reached: &mut Vec<usize>) -> Result<(), NoMemory>
     ensures { (test : ℕ → Bool) → list_all test reached.old.items ≡ true → list_all test next.now
         ≡ true → list_all test reached.new.items ≡ true }
