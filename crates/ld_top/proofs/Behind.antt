@@ -1,6 +1,7 @@
--- What is looked at behind what has no fault.
-use Rattle.std.proofs.Common.{◌≡◌, List, [], ◌++◌, Some, Result, Ok, Err, IfErr, OnOk, sym, subst, ◌∙◌, append_assoc}
-use Rattle.ld_json.specs.Fault.{Told, SaysFirst}
+-- The faults of files as documents, of the documents' shapes, and of the unit, one behind the other.
+use Rattle.std.proofs.Common.{◌≡◌, [], ◌++◌, Some, sym, subst, ◌∙◌, append_assoc}
+use Rattle.ld_json.specs.Fault.{SaysFirst}
+use Rattle.ld_json.specs.declared.docs.Docs.{Docs}
 use Rattle.ld_json.specs.declared.fault.ReadFault.{ReadFault}
 use Rattle.ld_json.proofs.First.{says_later, says_more}
 use Rattle.ld_model.specs.declared.unit.Unit.{Unit as Course}
@@ -8,15 +9,21 @@ use Rattle.ld_refs.specs.Checks.{check_faults}
 use Rattle.ld_top.specs.Folder.{Held, docs_in, document_faults, faults_of_unit, json_faults, shape_faults, unit_of}
 use Rattle.ld_top.specs.Reading.{content_faults, form_faults}
 
-pub says_behind : {A : Type 0} (before rest : List Told) (result : Result A ReadFault) → before ≡ [] → IfErr result (SaysFirst rest) → IfErr result (SaysFirst (before ++ rest))
-says_behind before rest (Ok a) none said = tt
-says_behind before rest (Err e) none said = says_later before rest e none said
+-- ---- documents and their shapes
 
-pub none_behind : {A : Type 0} (before rest : List Told) (result : Result A ReadFault) → before ≡ [] → OnOk result (rest ≡ []) → OnOk result (before ++ rest ≡ [])
-none_behind before rest (Ok a) none faultless = rw none faultless
-none_behind before rest (Err e) none faultless = tt
+pub says_json : (held : Held) (error : ReadFault) → SaysFirst (json_faults held) error → SaysFirst (form_faults held) error
+unfolding form_faults
+says_json held error said = says_more (json_faults held) (shape_faults (docs_in held)) error said
 
--- ---- the faults of files, of shapes, and of the unit
+pub says_shapes : (held : Held) (docs : Docs) (error : ReadFault) → json_faults held ≡ [] → docs ≡ docs_in held → SaysFirst (shape_faults docs) error → SaysFirst (form_faults held) error
+unfolding form_faults
+says_shapes held docs error none is said = says_later (json_faults held) (shape_faults (docs_in held)) error none (subst (λ d. SaysFirst (shape_faults d) error) is said)
+
+pub none_in_form : (held : Held) (docs : Docs) → json_faults held ≡ [] → docs ≡ docs_in held → shape_faults docs ≡ [] → form_faults held ≡ []
+unfolding form_faults
+none_in_form held docs none is faultless = rw (none, ← is) faultless
+
+-- ---- what the documents say, and then the checks of the unit
 
 split : (held : Held) → form_faults held ++ faults_of_unit (unit_of (docs_in held)) ≡ content_faults held
 unfolding form_faults content_faults document_faults

@@ -3,4 +3,3 @@ pub mod FolderFiles
 pub mod Publishing
 pub mod Refusing
 pub mod Replaying
-pub mod Trees

@@ -1,6 +1,6 @@
 -- What a folder holds: the unit that its files stand for, and all its faults, step by step.
 -- (docs/FORMATS.md, "Order of faults")
-use Rattle.std.specs.Prelude.{ℕ, List, [], ◌∷◌, ◌++◌, Bool, true, false, Option, Some, None, nat_lt, length, map, if◌then◌else◌}
+use Rattle.std.specs.Prelude.{ℕ, List, [], ◌∷◌, ◌++◌, Bool, true, false, Option, Some, None, nat_lt, length, if◌then◌else◌}
 use Rattle.std.specs.List.{flat_map}
 use Rattle.serde_json.specs.Data.{Data}
 use Rattle.ld_base.specs.Maybe.{◌>>=◌}

@@ -2,4 +2,6 @@
 mod documents;
 mod files;
 pub mod folder;
+mod shapes;
 pub mod stop;
+mod unit;

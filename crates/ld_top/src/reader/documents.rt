@@ -1,14 +1,13 @@
-//! The unit that the bytes of the six files stand for.
-#![tactic(auto, unfolding(crate::specs::Folder::docs_in, crate::specs::Folder::document_faults, crate::specs::Folder::json_faults, crate::specs::Folder::shape_faults, crate::specs::Folder::unit_of, crate::specs::Reading::content_faults, crate::specs::Reading::form_faults, crate::specs::Reading::json_faults_of, ld_formats::specs::Units::unit, ld_refs::specs::Checks::check_faults), using(crate::proofs::Trees::no_tree, crate::proofs::Trees::tree_read, ld_json::proofs::First::first_of_both, ld_json::proofs::First::says_more))]
+//! The documents in the six files of a unit.
+#![tactic(auto, unfolding(crate::specs::Folder::docs_in, crate::specs::Folder::json_faults, crate::specs::Reading::json_faults_of), using(ld_json::proofs::First::first_of_both, ld_json::proofs::First::says_more, ld_json::proofs::Json::no_tree, ld_json::proofs::Json::tree_read))]
 
-ghost use Rattle.std.specs.Prelude.{◌≡◌, [], ◌∷◌, true, Some, IfOk, OnOk, IfErr};
+ghost use Rattle.std.specs.Prelude.{◌≡◌, [], ◌∷◌, IfOk, OnOk, IfErr};
 ghost use Rattle.ld_base.specs.Maybe.{◌>>=◌ as ◌then◌};
 ghost use Rattle.ld_json.specs.Fault.{SaysFirst};
 ghost use Rattle.ld_json.specs.Json.{json_of};
 ghost use Rattle.ld_json.specs.declared.file.FileNo.TheVariants as file_no;
-ghost use Rattle.ld_formats.specs.Units.{is_well_formed};
-ghost use Rattle.ld_top.specs.Folder.{docs_in, document_faults, json_fault, json_faults, shape_faults, unit_of};
-ghost use Rattle.ld_top.specs.Reading.{content_faults, form_faults, held_by, json_faults_of};
+ghost use Rattle.ld_top.specs.Folder.{docs_in, json_fault, json_faults};
+ghost use Rattle.ld_top.specs.Reading.{held_by, json_faults_of};
 
 use crate::reader::stop::fault_of_file;
 use json::Scratch;
@@ -18,46 +17,13 @@ use ld_json::doc::{Doc, DocFault, document};
 use ld_json::docs::{Docs, Scratches};
 use ld_json::fault::ReadFault;
 use ld_json::file::FileNo;
-use ld_method::parts::read_parts;
-use ld_method::whole::read_method;
-use ld_model::unit::Unit;
-use ld_refs::check::{Checked, check};
 use std::alloc::Global;
-
-/// The checked unit of these files, in their order, or the first fault of what they hold. Files and
-/// documents are let go of as soon as they are read.
-#[tactic(auto, using(crate::proofs::Behind::none_in_content, crate::proofs::Behind::says_form, crate::proofs::Behind::says_unit))]
-pub(super) fn read_unit(alloc: Global, files: [Option<Bytes>; 6]) -> Result<Checked, ReadFault>
-    ensures unit { IfOk result (λ checked. unit_of (docs_in (held_by files)) ≡ Some checked.unit) }
-    ensures faultless { OnOk result (content_faults (held_by files) ≡ []) }
-    ensures first { IfErr result (SaysFirst (content_faults (held_by files))) }
-{
-    let unit = unit_in(alloc, &files)?;
-    drop(files);
-    let checked = check(alloc, unit)?;
-    Ok(checked)
-}
-
-/// The unit for which the documents in these files stand.
-#[tactic(auto, unfolding(crate::specs::Reading::form_faults), using(crate::proofs::Behind::none_behind, crate::proofs::Behind::says_behind, ld_json::proofs::First::says_more))]
-fn unit_in(alloc: Global, files: &[Option<Bytes>; 6]) -> Result<Unit, ReadFault>
-    ensures unit { IfOk result (λ unit. unit_of (docs_in (held_by files.now)) ≡ Some unit) }
-    ensures formed { IfOk result (λ unit. is_well_formed unit ≡ true) }
-    ensures faultless { OnOk result (form_faults (held_by files.now) ≡ []) }
-    ensures first { IfErr result (SaysFirst (form_faults (held_by files.now))) }
-{
-    let mut scratches = Scratches::new(alloc);
-    let docs = read_documents(alloc, files, &mut scratches)?;
-    let unit = unit_of_documents(alloc, &docs);
-    drop(docs);
-    unit
-}
 
 /// The documents in two of the files.
 type TwoDocs<'a> = (Option<Doc<'a>>, Option<Doc<'a>>);
 
 /// The documents in these files.
-fn read_documents<'a>(
+pub(super) fn read_documents<'a>(
     alloc: Global,
     files: &'a [Option<Bytes>; 6],
     scratches: &'a mut Scratches,
@@ -163,16 +129,4 @@ fn read_document<'a>(
         }
         Err(DocFault::NoMemory) => Err(ReadFault::NoMemory),
     }
-}
-
-/// The unit for which the documents stand.
-fn unit_of_documents(alloc: Global, docs: &Docs<'_>) -> Result<Unit, ReadFault>
-    ensures unit { IfOk result (λ unit. unit_of docs.now ≡ Some unit) }
-    ensures formed { IfOk result (λ unit. is_well_formed unit ≡ true) }
-    ensures faultless { OnOk result (shape_faults docs.now ≡ []) }
-    ensures first { IfErr result (SaysFirst (shape_faults docs.now)) }
-{
-    let parts = read_parts(alloc, docs)?;
-    let unit = read_method(alloc, docs, parts)?;
-    Ok(unit)
 }

@@ -7,9 +7,9 @@ ghost use Rattle.ld_top.specs.Folder.{folder_faults, unit_of_folder};
 ghost use Rattle.ld_top.specs.InFolder.{WhereTold};
 ghost use Rattle.ld_top.specs.Reading.{StopsAtFirst};
 
-use crate::reader::documents::read_unit;
 use crate::reader::files::read_files;
 use crate::reader::stop::FolderStop;
+use crate::reader::unit::read_unit;
 use ld_base::shelf::Shelf;
 use ld_json::fault::ReadFault;
 use ld_refs::check::Checked;
