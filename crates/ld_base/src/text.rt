@@ -53,6 +53,18 @@ impl Text {
         Ok(Text { text })
     }
 
+    /// Makes room for so many bytes more, which cannot fail where there is such room already. The
+    /// bytes stay as they are.
+    pub fn reserve(&mut self, more: usize) -> Result<(), NoMemory>
+        ensures room { OnOk result (more ≤ self.new.spare) }
+        ensures within { more ≤ self.old.spare → IsOk result }
+        ensures bytes { self.new.bytes ≡ self.old.bytes }
+        ensures kept { KeepsRoom self.old self.new }
+    {
+        self.text.reserve(more)?;
+        Ok(())
+    }
+
     /// Appends the piece. Where memory is wanting the bytes stay as they were, which cannot come
     /// within the spare room.
     pub fn push(&mut self, piece: &str) -> Result<(), NoMemory>
@@ -77,6 +89,21 @@ impl Text {
             Ok(text) => self.push(text),
             Err(_) => unreachable!(),
         }
+    }
+
+    /// Appends the other text, as `push` does. Where this one is empty and has no more room than the
+    /// other, the other takes its place without a copy.
+    pub fn append(&mut self, text: String) -> Result<(), NoMemory>
+        ensures ok { OnOk result (self.new.bytes ≡ self.old.bytes ++ string_bytes text) }
+        ensures err { OnErr result (self.new.bytes ≡ self.old.bytes) }
+        ensures within { length (string_bytes text) ≤ self.old.spare → IsOk result }
+        ensures room { KeepsRoom self.old self.new }
+    {
+        if self.text.is_empty() && self.text.capacity() <= text.capacity() {
+            self.text = text;
+            return Ok(());
+        }
+        self.push(text.as_str())
     }
 
     /// The whole text.

@@ -82,6 +82,15 @@ fn grows(alloc: Global) -> Result<bool, NoMemory> {
     Ok(text.as_str() == "grows beyond its room")
 }
 
+/// Whether a text is taken over where none stands yet, and stands behind one that does.
+fn takes_over(alloc: Global) -> Result<bool, NoMemory> {
+    let mut text = Text::new(alloc);
+    text.append(String::from_str(alloc, "whole")?)?;
+    text.reserve(9)?;
+    text.append(String::from_str(alloc, " and part")?)?;
+    Ok(text.as_str() == "whole and part")
+}
+
 /// Whether a text that changes and one that does not are what they were made of.
 fn is_copied(alloc: Global, title: &str) -> Result<bool, NoMemory> {
     let text = Text::of(alloc, title)?;
@@ -91,7 +100,7 @@ fn is_copied(alloc: Global, title: &str) -> Result<bool, NoMemory> {
 
 #[test]
 fn texts_have_room(rt: HostRuntime) -> Result<(), Fail> {
-    assert!(rt; has_room(rt.alloc())? && grows(rt.alloc())?);
+    assert!(rt; has_room(rt.alloc())? && grows(rt.alloc())? && takes_over(rt.alloc())?);
     for title in ["", "A title", "é \"1\"\n"] {
         assert!(rt; is_copied(rt.alloc(), title)?, "{title}");
     }

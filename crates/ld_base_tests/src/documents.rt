@@ -8,7 +8,7 @@ use ld_json::doc::{Doc, document};
 use ld_json::fault::ReadFault;
 use ld_json::file::FileNo;
 use ld_json::node::Node;
-use ld_json::print::print_text;
+use ld_json::print::{is_plain, print_text};
 use serde_json::json;
 use std::alloc::Global;
 use std::test::Fail;
@@ -117,6 +117,13 @@ fn prints_escapes(alloc: Global) -> Result<bool, NoMemory> {
     Ok(out.as_str() == wanted)
 }
 
+/// Whether a text without escapes stands between quotes, behind what stood there.
+fn prints_plain(alloc: Global) -> Result<bool, NoMemory> {
+    let mut out = Text::of(alloc, "value=")?;
+    print_text(alloc, "10 \u{e9}", &mut out)?;
+    Ok(out.as_str() == "value=\"10 \u{e9}\"")
+}
+
 /// Whether an array with numbers is printed, and members in byte order.
 fn prints_numbers(alloc: Global, out: &mut Text) -> Result<bool, NoMemory> {
     let tree = json!(in alloc; {"b": [true, 7, -7], "B": null})?;
@@ -131,10 +138,29 @@ fn prints_texts(alloc: Global, out: &mut Text) -> Result<bool, NoMemory> {
     Ok(out.as_str() == "{\"a\":{},\"aa\":\"\\n\"}")
 }
 
+/// Whether the members of a document that was made of a tree are found from its root.
+fn has_built_root(alloc: Global) -> Result<bool, ReadFault> {
+    let doc = Doc::of(json!(in alloc; {"b": [true, 7], "a": "text"})?);
+    let root = doc.root(FileNo::Unit);
+    root.only(alloc, &["a", "b"])?;
+    let text = root.member(alloc, "a")?;
+    let list = root.member(alloc, "b")?;
+    Ok(text.text(alloc)? == "text" && list.count(alloc)? == 2)
+}
+
+#[test]
+fn a_built_document_is_read(rt: HostRuntime) -> Result<(), Fail> {
+    assert!(rt; has_built_root(rt.alloc())?);
+    Ok(())
+}
+
 #[test]
 fn prints(rt: HostRuntime) -> Result<(), Fail> {
     let alloc = rt.alloc();
-    assert!(rt; prints_escapes(alloc)?);
+    assert!(rt; prints_escapes(alloc)? && prints_plain(alloc)?);
+    assert!(rt;
+        is_plain("10 é\u{7f}") && !is_plain("\"") && !is_plain("\\") && !is_plain("\u{1f}")
+    );
     assert!(rt; prints_numbers(alloc, &mut Text::new(alloc))?);
     assert!(rt; prints_texts(alloc, &mut Text::new(alloc))?);
     Ok(())

@@ -74,7 +74,7 @@ refusal_words refusal =
 
 -- ---- going on where nothing is refused
 
--- What comes next of the value; a refusal stays, and nothing comes next.
+-- What the function makes of the value; a refusal stays as it is.
 infixl 10 ◌unless_refused◌
 abbrev pub ◌unless_refused◌ : {A B : Type 0} → Result A Refusal → (A → Result B Refusal) → Result B Refusal
 (Ok x) unless_refused next = next x

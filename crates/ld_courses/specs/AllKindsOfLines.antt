@@ -150,8 +150,8 @@ the_lines =
     ∷ at 9 5 (Tree (codes "bob"))
     ∷ at 9 6 (Complete (codes "bob") (codes "z2")) ∷ []
 
--- A child of the sequence is closed until those before it are done. At the end the unit,
--- the play and the act are done and show their feedback, and no activity is open.
+-- A child of the sequence is closed until those before it are done. At the end the unit, the play `p1` and the act
+-- `a1` are done and show their feedback, and no activity is open.
 pub all_kinds_of_lines : told 2 the_course the_lines ≡
     codes "ok create\n"
     ∷ codes "ok enrol turns=0 fired=0 rejected=0 sent=0\n"

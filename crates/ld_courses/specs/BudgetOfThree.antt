@@ -1,4 +1,4 @@
--- The same with a budget of three.
+-- Four turns in a row are past a budget of three.
 use Rattle.std.specs.Prelude.{◌≡◌, refl, ℕ, List, [], ◌∷◌, map, None, codes}
 use Rattle.std.specs.Fmt.{digits}
 use Rattle.json.specs.Print.{escape_byte}

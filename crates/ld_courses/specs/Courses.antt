@@ -22,7 +22,7 @@ use Rattle.ld_model.specs.declared.role.CreateNew.TheVariants.{NotAllowed}
 use Rattle.ld_model.specs.declared.role.MatchPersons.TheVariants.{NotExclusively}
 use Rattle.ld_model.specs.declared.role.RoleKind.{RoleKind}
 use Rattle.ld_model.specs.declared.role.RoleKind.TheVariants.{Learner, Staff}
-use Rattle.ld_model.specs.declared.unit.Level.TheVariants.{A}
+use Rattle.ld_model.specs.declared.unit.Level.TheVariants.{C}
 use Rattle.ld_model.specs.declared.unit.Unit.{Unit as Course}
 use Rattle.ld_lines.specs.declared.command.RunCommand.{RunCommand}
 use Rattle.ld_lines.specs.declared.command.RunCommand.TheVariants.{Enrol, Assign}
@@ -91,11 +91,11 @@ a_structure id kind number children = record {
   children = children;
 }
 
--- A role-part of this role, which refers to this.
+-- A role-part of this role. It refers to what has the last identifier.
 abbrev pub a_part : List ℕ → List ℕ → List ℕ → RolePart
 a_part id role target = record { identifier = id; title = None; role = role; target = target }
 
--- An act of these role-parts, with when it is completed, if that is said.
+-- An act of these role-parts, perhaps with a completion of its own.
 abbrev pub an_act : List ℕ → List RolePart → Option Completion → Act
 an_act id parts complete =
     record { identifier = id; title = None; role_parts = parts; complete = complete; on_completion = None }
@@ -113,7 +113,7 @@ the_play acts =
       on_completion = None;
     }
 
--- A course of one play.
+-- A course of one play. It has the highest level, which may have all that is put into it.
 abbrev pub course : List ℕ → List (List RoleRow) → List Activity → List Structure → List Act → Course
 course id roles activities structures acts = record {
   roles =
@@ -125,7 +125,7 @@ course id roles activities structures acts = record {
   format = 1;
   identifier =
       id;
-  level = A;
+  level = C;
   title = None;
   turns = 64;
   metadata = None;
@@ -135,7 +135,7 @@ course id roles activities structures acts = record {
   conditions = [];
 }
 
--- One act `a` of one part `rp` of the role `learner`, which refers to this.
+-- One act `a` of one part `rp` of the role `learner`, which refers to what has this identifier.
 abbrev pub one_part : List ℕ → List Act
 one_part target = an_act (codes "a") (a_part (codes "rp") (codes "learner") target ∷ []) None ∷ []
 

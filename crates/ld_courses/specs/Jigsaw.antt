@@ -31,7 +31,7 @@ use Rattle.ld_lines.specs.declared.line.Line.TheVariants.{Create}
 use Rattle.ld_world.specs.World.{world_step, reply_block}
 use Rattle.ld_courses.specs.Courses.{learner, tutor, choice, a_structure, a_part, an_act, the_play, course, with_conditions, a_condition, clock, a_moment, at, told}
 
--- Whoever has done the activity, the tutors get a notice of this subject.
+-- For each person who has done the activity, the tutors get a notice of this subject.
 abbrev sends : List ℕ → List ℕ → Condition
 sends id subject = a_condition (done_test id) (Notify (record {
   roles = codes "tutor"

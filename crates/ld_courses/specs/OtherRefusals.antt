@@ -1,4 +1,4 @@
--- Further refusals, in the order of their numbers.
+-- Further refusals.
 use Rattle.std.specs.Prelude.{◌≡◌, refl, List, [], ◌∷◌, map, Some, None, true, codes}
 use Rattle.std.specs.Fmt.{digits}
 use Rattle.json.specs.Print.{escape_byte}

@@ -29,7 +29,7 @@ abbrev pub the_course : Course
 the_course = course (codes "u") (learner ∷ []) (an_activity (codes "read") true (TimeLimit 86400)
     ∷ []) [] (one_part (codes "read"))
 
--- The activity is opened at nine; then come the last second of that day and the full day.
+-- The activity is opened at nine; then come the last second before a day has passed, and the full day.
 abbrev pub the_lines : List Line
 the_lines =
     Create (a_moment 8 0) (codes "r") (codes "u")

@@ -1,9 +1,16 @@
 //! The names, things and rules of a unit, told by hand, and a view of one cell.
+#![tactic(auto, using(ld_names::proofs::Rows::items_in_row))]
+
+ghost use Rattle.std.specs.Prelude.{◌≡◌, IfOk, map};
+ghost use Rattle.ld_names.specs.Names.{names_of};
+ghost use Rattle.ld_names.specs.Rows.{StandsIn};
+
 mod views;
 
 use crate::documents::full_unit;
 use ld_base::id::Id;
 use ld_base::numbers::{PropNo, RoleNo, RuleNo, ThingNo};
+use ld_model::item::Item;
 use ld_model::unit::Unit;
 use ld_names::identifiers::has_distinct_identifiers;
 use ld_names::names::{Named, Names};
@@ -27,12 +34,31 @@ fn id(alloc: Global, text: &str) -> Result<Id, Fail> {
 }
 
 /// The names of the unit.
-fn names_of(alloc: Global, unit: &Unit) -> Result<Names, Fail> {
+fn names_of(alloc: Global, unit: &Unit) -> Result<Names, Fail>
+    ensures { IfOk result (λ names. names ≡ names_of unit.now) }
+{
     let listing = Listing::of(alloc, unit)?;
     if !has_distinct_identifiers(alloc, unit, &listing)? {
         return Err("two parts have one identifier".into());
     }
     Ok(Names::of(alloc, unit, &listing)?)
+}
+
+/// The number of the first of these items, which stand in a row.
+fn first_of(names: &Names, items: &[Item]) -> Option<ThingNo>
+    requires { StandsIn (map (λ item. item.identifier) items.now) names.now.things }
+{
+    let [first, ..] = items else {
+        return None;
+    };
+    Some(names.first_of_row(&first.identifier))
+}
+
+/// The number of the first item of the unit's first activity, told by the row of its items.
+fn first_item(alloc: Global, unit: &Unit) -> Result<Option<ThingNo>, Fail> {
+    let names = names_of(alloc, unit)?;
+    let activity = unit.activities.get(0).ok_or("no activity")?;
+    Ok(first_of(&names, activity.items.as_slice()))
 }
 
 /// Whether the identifier names just this, also where it remembers a wrong number, which it then
@@ -55,6 +81,7 @@ fn parts_are_named_and_numbered(rt: HostRuntime) -> Result<(), Fail> {
     assert!(rt; is_named(&names, &unit.identifier, Named::Unit));
     assert!(rt; names.number(&id(rt.alloc(), "nobody")?).is_none());
     assert!(rt; names.rule(Named::Unit) == Some(RuleNo(14)));
+    assert!(rt; first_item(rt.alloc(), &unit)? == Some(ThingNo(9)));
     Ok(())
 }
 

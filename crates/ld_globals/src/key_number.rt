@@ -1,5 +1,5 @@
 //! The numbers by which a key is kept.
-ghost use Rattle.std.specs.Prelude.{◌≡◌, Some, None, IfSome, option_map, option_copied};
+ghost use Rattle.std.specs.Prelude.{◌≡◌, Some, None, IfSome, option_map, option_copied, slice_get};
 ghost use Rattle.std.specs.List.{AllByRecursion};
 ghost use Rattle.std.specs.Map.{lookup};
 ghost use Rattle.ld_globals.specs.declared.declared.Declared.{Declared};
@@ -52,6 +52,30 @@ pub(crate) fn person_number(persons: &IndexSet<Id>, person: Option<&Id>) -> Opti
     let Some(id) = person else {
         return Some(None);
     };
-    let (number, _) = persons.get_full(id)?;
+    let number = number_of(persons, id)?;
     Some(Some(number))
+}
+
+/// The number of the person of the identifier; nothing where there is none. The identifier is
+/// searched for only where it is not the one at its hint.
+fn number_of(persons: &IndexSet<Id>, id: &Id) -> Option<usize>
+    ensures some { IfSome result (λ number. slice_get persons.now.keys number ≡ Some id.now) }
+    ensures none { result ≡ None → IsUnknown persons.now.keys (Some id.now) }
+{
+    let hint = id.hint() as usize;
+    if let Some(found) = persons.get_index(hint) {
+        if found == id {
+            return Some(hint);
+        }
+    }
+    let (number, _) = persons.get_full(id)?;
+    remember(id, number);
+    Some(number)
+}
+
+/// Keeps the number as the identifier's hint, if it is one of 32 bits.
+fn remember(id: &Id, number: usize) {
+    if let Ok(hint) = u32::try_from(number) {
+        id.remember(hint);
+    }
 }

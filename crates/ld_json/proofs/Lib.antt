@@ -2,6 +2,7 @@ pub mod Elements
 pub mod Escapes
 pub mod First
 pub mod Listed
+pub mod Plain
 pub mod Pointers
 pub mod Sole
 pub mod Trees

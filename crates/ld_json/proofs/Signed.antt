@@ -1,6 +1,6 @@
 -- A number with a sign is no whole one without.
-use Rattle.std.proofs.Common.{◌≡◌, ℕ, ℤ, Bool, true, false, Float, Option, Some, None, option_and_then, if◌then◌else◌, refl}
-use Rattle.serde_json.specs.Data.{Num, negative, float}
+use Rattle.std.proofs.Common.{◌≡◌, ℤ, Bool, true, false, Float, Some, None, option_and_then, if◌then◌else◌, refl}
+use Rattle.serde_json.specs.Data.{negative, float}
 use Rattle.serde_json.specs.Find.{as_u64}
 use Rattle.serde_json.specs.Read.{number_from}
 use Rattle.fast_float.specs.Text.{Parts}

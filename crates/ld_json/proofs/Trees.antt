@@ -10,7 +10,7 @@ use Rattle.json.specs.Json as json
 use Rattle.json.specs.Find as json_find
 use Rattle.json.specs.Value.{value_view, items_view, members_view}
 use Rattle.json.specs.declared.value.Value.{Value}
-use Rattle.serde_json.specs.Data.{Num, Data, number, Items, item, Members, no_members, member, put, depth}
+use Rattle.serde_json.specs.Data.{Num, Data, number, item, Members, no_members, member, put, depth}
 use Rattle.serde_json.specs.Events.{items_len}
 use Rattle.serde_json.specs.Find.{get, get_member, get_item, at, as_str, as_bool, as_number, as_array, as_object}
 use Rattle.serde_json.specs.Read.{number_of, of_json, of_items, of_members, read, max_depth}

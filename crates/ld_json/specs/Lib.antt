@@ -5,6 +5,7 @@ pub mod Fault
 pub mod Files
 pub mod Node
 pub mod Places
+pub mod Plain
 pub mod Pointers
 pub mod Print
 pub mod Reads

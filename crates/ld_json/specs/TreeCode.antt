@@ -1,5 +1,5 @@
--- How the logic stores a JSON tree: each shape has a number of its own, and its parts follow it. No contract reads more of it than that
--- two trees which are stored alike are equal.
+-- How the logic stores a JSON tree: each shape has a number of its own, and its parts follow it. No contract
+-- reads more of it than that two trees which are stored alike are equal.
 use Rattle.std.proofs.Common.{◌≡◌, ◌≢◌, ℕ, ℤ, Float, ◌⊎◌, inl, inr, refl, ap, arith}
 use Rattle.std.specs.Coded.{Coded, code_by, coded_ℕ, coded_ℤ, coded_bool, coded_list, coded⊎}
 use base.Stored.{Gv, gnil, gnum, gcons, coded_float}

@@ -2,10 +2,12 @@ pub mod Counted
 pub mod Differing
 pub mod Following
 pub mod Identified
+pub mod InRows
 pub mod Kept
 pub mod NameLaws
 pub mod Numbered
 pub mod OnlyThings
+pub mod Rows
 pub mod SameRules
 pub mod Seen
 pub mod Split

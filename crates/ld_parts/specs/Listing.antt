@@ -55,7 +55,7 @@ abbrev pub is_of_run : Kind → Bool
 is_of_run (kind.Thing (Activity _)) = false
 is_of_run _ = true
 
--- At `property`: the property is named for the run as a whole, where the flag says so.
+-- At `property`: where the flag says so, the property has to be one of the run.
 abbrev pub of_run_parts : At → Bool → List ℕ → List Part
 of_run_parts at false property = []
 of_run_parts at true property = plain_part (member at (codes "property")) (Types (OfRun property)) ∷ []
@@ -222,7 +222,7 @@ structure_parts at s structure = structure_parts_at (nth at (codes "structures")
 
 -- ---- the unit's own document
 
--- A role-part at the place, by the numbers of play, act and itself: its role, and what that does or sees.
+-- A role-part at the place, by the numbers of play, act and itself: its role, and what it refers to.
 unfoldable pub role_part_parts_at : At → ℕ → ℕ → ℕ → RolePartOf → List Part
 role_part_parts_at at p a r part =
     unshown_part at (RolePart p a r) part.identifier

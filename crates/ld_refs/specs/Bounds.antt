@@ -83,12 +83,12 @@ object_limit_faults parts =
     ++ (beyond 4000 (is_counted counted.Items) parts
     ++ beyond 400 (is_counted counted.ActivitiesAndStructures) parts))))
 
--- A leaf of an expression; if so asked, only one that is asked of each member of a role.
+-- A leaf of an expression. Where the flag says so, only one that is asked of each member of a role.
 abbrev pub is_leaf : Bool → What → Bool
 is_leaf of_members_only (Leaf of_members) = not of_members_only || of_members
 is_leaf of_members_only _ = false
 
--- How many leaves the parts have; if so asked, how many that are asked of each member of a role.
+-- How many such leaves the parts have.
 abbrev pub leaves_in : Bool → List Part → ℕ
 leaves_in of_members_only parts = length (filter (λ part. is_leaf of_members_only part.what) parts)
 

@@ -125,7 +125,7 @@ size_counted unit sizes names (kind.Thing (place.Play p)) = feedback_size (play_
 size_counted unit sizes names kind.Unit = feedback_size unit.method.on_completion
 size_counted unit sizes names _ = 0
 
--- What a part counts in the size of the unit: nothing where it is no object.
+-- What a part counts in the size of the unit: nothing where it declares nothing.
 abbrev pub size_in : Course → Sizes → NameTable → What → ℕ
 size_in unit sizes names (Declares kind _ _) = size_counted unit sizes names kind
 size_in unit sizes names _ = 0

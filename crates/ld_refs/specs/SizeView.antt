@@ -7,7 +7,7 @@ use Rattle.ld_refs.specs.Extents.{Sizes}
 abbrev pub sizes_by : CodeSizes → Sizes
 sizes_by sizes = record { environments = sizes.environments.items; activities = sizes.activities.items; structures = sizes.structures.items }
 
--- The sizes that stand still at a million.
+-- Each size, or 1,000,000 where that is less.
 abbrev pub capped : Sizes → Sizes
 capped sizes = record {
   environments = map (min 1000000) sizes.environments;

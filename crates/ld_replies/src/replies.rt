@@ -114,7 +114,7 @@ fn push_sums(totals: Settled, out: &mut Text) -> Result<(), NoMemory>
         ≡ out.old.bytes ++ sums_text totals.turns (sums_in totals)) }
     ensures room { KeepsRoom out.old out.new }
 {
-    // As after most commands.
+    // Most commands fire nothing, and then one piece tells all four.
     if totals.turns == 0 && totals.fired == 0 && totals.rejected == 0 && totals.sent == 0 {
         return out.push(" turns=0 fired=0 rejected=0 sent=0");
     }

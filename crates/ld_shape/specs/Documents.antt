@@ -42,7 +42,8 @@ required_in file shape = record {
       (λ tree. shape.formed (root_node file tree)) (document_of docs file);
 }
 
--- The document of this file, or the default where the file is not there, as a shape. The default has its form.
+-- The document of this file, or the default where the file is not there, as a shape. The default has its
+-- form.
 abbrev pub document_or : {A : Type 0} (default : A) (file : FileNo) (shape : Shape A)
     → shape.has_form default ≡ true → UnitShape A
 document_or default file shape is = record {

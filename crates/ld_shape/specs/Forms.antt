@@ -15,7 +15,7 @@ use Rattle.serde_json.specs.Data.{Data}
 abbrev pub is_between : ℕ → ℕ → ℕ → Bool
 is_between least most number = nat_le least number && nat_le number most
 
--- A text of so many bytes.
+-- The text has at least and at most so many bytes.
 abbrev pub has_length : ℕ → ℕ → List ℕ → Bool
 has_length least most text = is_between least most (length text)
 
@@ -23,7 +23,7 @@ has_length least most text = is_between least most (length text)
 abbrev pub is_visible_ascii : ℕ → Bool
 is_visible_ascii b = nat_le 33 b && nat_le b 126
 
--- So many visible characters of ASCII.
+-- The text has 1 to so many bytes, all of them visible characters of ASCII.
 abbrev pub is_address_of : ℕ → List ℕ → Bool
 is_address_of most text = has_length 1 most text && list_all is_visible_ascii text
 
@@ -41,7 +41,7 @@ true_of tree = as_bool tree >>= λ flag. provided flag tt
 abbrev pub true_flag : Shape (Unit {0})
 true_flag = plain true_of
 
--- A text of so many bytes.
+-- A text of at least and at most so many bytes.
 unfoldable pub text_within : ℕ → ℕ → Data → Option (List ℕ)
 text_within least most tree = tested (has_length least most) (as_str tree)
 
@@ -71,7 +71,7 @@ identifier_formed tree = tested_keeps has_identifier_form (as_str tree)
 abbrev pub identifier : Shape (List ℕ)
 identifier = leaf identifier_of has_identifier_form identifier_formed
 
--- So many visible characters of ASCII.
+-- 1 to so many visible characters of ASCII.
 unfoldable pub address_of : ℕ → Data → Option (List ℕ)
 address_of most tree = tested (is_address_of most) (as_str tree)
 

@@ -69,7 +69,7 @@ following before next = record {
       (next.formed source);
 }
 
--- What can be seen in a value made of one of the form has the form.
+-- Where a value is made of parts that have the form, the parts that are seen in it have the form.
 pub part_formed : {A B : Type 0} (make : A → B) (parts : B → A) (form : A → Bool)
     → ((x : A) → parts (make x) ≡ x)
     → (x : A) → form x ≡ true → form (parts (make x)) ≡ true

@@ -244,8 +244,32 @@ fn one<L: Ledger>(
         plain.stamp = plain.stamp.saturating_add(1);
         plain.values[key] = value;
         plain.writes[key] = plain.stamp;
+        check(
+            keeps_number(store, &uri, person.as_ref(), value as i64, steps),
+            "the number of the person",
+        )?;
     }
     compare(store, plain, choice / 18 % 400, steps)
+}
+
+/// Whether the value, which was written for the person, is found also where the identifier keeps a
+/// wrong number, which it then does no longer.
+fn keeps_number<L: Ledger>(
+    store: &Globals,
+    uri: &Text,
+    person: Option<&Id>,
+    value: i64,
+    steps: &mut Steps<L>,
+) -> bool {
+    let Some(id) = person else {
+        return false;
+    };
+    id.remember(u32::MAX);
+    let first = number(store, uri, person, steps);
+    let hint = id.hint();
+    id.remember(hint.wrapping_add(1));
+    let second = number(store, uri, person, steps);
+    first == Ok(Some(value)) && second == first && hint < 3 && id.hint() == hint
 }
 
 const PERSONS: [&str; 3] = ["ann", "bob", "cay"];

@@ -1,8 +1,10 @@
 //! The lines of activities.
 #![tactic(auto, using(crate::proofs::Statuses::by_status))]
 
-ghost use Rattle.std.specs.Prelude.{◌≡◌, ◌&&◌, ◌+◌, ◌++◌, ◌≤◌, ◌<◌, ◌^◌, true, fold, not, length, OnOk, IsErr};
+ghost use Rattle.std.specs.Prelude.{◌≡◌, ◌&&◌, ◌+◌, ◌++◌, ◌≤◌, ◌<◌, ◌^◌, true, fold, map, not, length, OnOk, IsErr};
 ghost use Rattle.ld_expr.specs.Viewing.{HasCells, seen_by};
+ghost use Rattle.ld_names.specs.Names.{names_of};
+ghost use Rattle.ld_names.specs.Rows.{StandsIn};
 ghost use Rattle.ld_tree.specs.LineView.{shown_word};
 ghost use Rattle.ld_tree.specs.Tree.{activity_lines, activity_word, all_environment_lines, all_item_lines, feedback_of, once_done, status_by, status_word};
 ghost use Rattle.ld_tree.specs.TreeLooks.{activity_looks, environments_looks, feedback_looks, items_looks};
@@ -26,6 +28,8 @@ impl<'a, V: View> Viewer<'a, V> {
         steps: &mut Steps<L>,
     ) -> Result<(), NoMemory>
         requires depth { depth < 2 ^ 117 }
+        requires row { StandsIn (map (λ item. item.identifier) activity.now.items)
+            (names_of self.now.unit.now).things }
         requires cells { HasCells (V.has_cell self.now.view.now) (activity_looks self.now.unit.now
             self.now.person.0 activity.now) }
         ensures ok { OnOk result (S.told lines.new ≡ fold S.after (S.told lines.old)
@@ -60,6 +64,8 @@ impl<'a, V: View> Viewer<'a, V> {
         steps: &mut Steps<L>,
     ) -> Result<(), NoMemory>
         requires depth { depth < 2 ^ 118 }
+        requires row { StandsIn (map (λ item. item.identifier) activity.now.items)
+            (names_of self.now.unit.now).things }
         requires cells { HasCells (V.has_cell self.now.view.now) (environments_looks
             self.now.unit.now self.now.person.0 activity.now.environments ++ (items_looks
             self.now.unit.now self.now.person.0 activity.now.items ++ feedback_looks
@@ -80,7 +86,7 @@ impl<'a, V: View> Viewer<'a, V> {
     {
         let environments = activity.environments.as_slice();
         self.put_environments(depth, environments, lines, steps)?;
-        self.put_items(depth, activity.items.as_slice(), lines, steps)?;
+        self.put_row(depth, activity.items.as_slice(), lines, steps)?;
         self.put_feedback(depth, done, &activity.on_completion, lines, steps)
     }
 }

@@ -1,15 +1,20 @@
 //! The lines of items, also as the feedback of what is done, of learning objects and of services.
 #![tactic(auto)]
 
-ghost use Rattle.std.specs.Prelude.{◌≡◌, ◌+◌, ◌≤◌, ◌<◌, ◌^◌, true, fold, flat_map, length, OnOk, IsErr};
+ghost use Rattle.std.specs.Prelude.{◌≡◌, ◌+◌, ◌≤◌, ◌<◌, ◌^◌, true, fold, flat_map, length, map, OnOk, IsErr, Some};
 ghost use Rattle.ld_expr.specs.Viewing.{HasCells, seen_by};
+ghost use Rattle.ld_names.specs.Names.{names_of, thing_number};
+ghost use Rattle.ld_names.specs.Rows.{StandsIn};
 ghost use Rattle.ld_tree.specs.Tree.{object_lines, service_lines, service_word, all_item_lines, feedback_of, item_lines, once_done, status_by};
 ghost use Rattle.ld_tree.specs.TreeLooks.{object_looks, service_looks, feedback_looks, item_looks, items_looks};
 
 use crate::line::{LineSink, Shown, line_of};
 use crate::viewer::Viewer;
 use ld_base::memory::NoMemory;
+use ld_base::numbers::ThingNo;
 use ld_base::steps::Steps;
+use ld_expr::cells::{says_yes, thing_number};
+use ld_model::cell::CellName;
 use ld_model::completion::OnCompletion;
 use ld_model::environment::{LearningObject, Service, ServiceKind};
 use ld_model::item::Item;
@@ -17,15 +22,17 @@ use ld_model::view::View;
 use std::sync::ledger::Ledger;
 
 impl<'a, V: View> Viewer<'a, V> {
-    /// Puts the item, where it is visible.
-    fn put_item<S: LineSink, L: Ledger>(
+    /// Puts the item, whose thing has this number, where it is visible.
+    fn put_numbered<S: LineSink, L: Ledger>(
         &self,
         depth: u128,
+        thing: ThingNo,
         item: &Item,
         lines: &mut S,
         steps: &mut Steps<L>,
     ) -> Result<(), NoMemory>
-        requires { HasCells (V.has_cell self.now.view.now) (item_looks self.now.unit.now
+        requires number { thing_number self.now.unit.now item.now.identifier ≡ Some thing.0 }
+        requires cells { HasCells (V.has_cell self.now.view.now) (item_looks self.now.unit.now
             self.now.person.0 item.now) }
         ensures ok { OnOk result (S.told lines.new ≡ fold S.after (S.told lines.old) (item_lines
             self.now.unit.now (seen_by (V.persons_of self.now.view.now)
@@ -34,7 +41,7 @@ impl<'a, V: View> Viewer<'a, V> {
         ensures cost { steps.new ≤ steps.old + length (item_looks self.now.unit.now
             self.now.person.0 item.now) }
     {
-        if !self.is_visible(&item.identifier, steps) {
+        if !says_yes(self.view, CellName::Vis(thing, self.person), steps) {
             return Ok(());
         }
         lines.put(&line_of(
@@ -64,7 +71,40 @@ impl<'a, V: View> Viewer<'a, V> {
             self.now.person.0 items.now) }
     {
         for item in items {
-            self.put_item(depth, item, lines, steps)?;
+            if let Some(thing) = thing_number(self.unit, self.names, &item.identifier) {
+                self.put_numbered(depth, thing, item, lines, steps)?;
+            }
+        }
+        Ok(())
+    }
+
+    /// Puts those of the items that are visible. All of them stand in a row among the things of the
+    /// unit, so that only the first one's number is looked for.
+    pub(crate) fn put_row<S: LineSink, L: Ledger>(
+        &self,
+        depth: u128,
+        items: &[Item],
+        lines: &mut S,
+        steps: &mut Steps<L>,
+    ) -> Result<(), NoMemory>
+        requires row { StandsIn (map (λ item. item.identifier) items.now)
+            (names_of self.now.unit.now).things }
+        requires cells { HasCells (V.has_cell self.now.view.now) (items_looks self.now.unit.now
+            self.now.person.0 items.now) }
+        ensures ok { OnOk result (S.told lines.new ≡ fold S.after (S.told lines.old)
+            (all_item_lines self.now.unit.now (seen_by (V.persons_of self.now.view.now)
+            (V.cells_of self.now.view.now)) self.now.person.0 depth items.now)) }
+        ensures err { IsErr result → S.can_fail ≡ true }
+        ensures cost { steps.new ≤ steps.old + length (items_looks self.now.unit.now
+            self.now.person.0 items.now) }
+    {
+        let [first, ..] = items else {
+            return Ok(());
+        };
+        let mut thing = self.names.first_of_row(&first.identifier);
+        for item in items {
+            self.put_numbered(depth, thing, item, lines, steps)?;
+            thing = ThingNo(thing.0 + 1);
         }
         Ok(())
     }
@@ -91,12 +131,10 @@ impl<'a, V: View> Viewer<'a, V> {
         if !done {
             return Ok(());
         }
-        match follows {
-            Some(on_completion) => {
-                self.put_items(depth, on_completion.feedback.as_slice(), lines, steps)
-            }
-            None => Ok(()),
-        }
+        let Some(follows) = follows else {
+            return Ok(());
+        };
+        self.put_items(depth, follows.feedback.as_slice(), lines, steps)
     }
 
     /// Puts the learning object and its items, where it is visible.

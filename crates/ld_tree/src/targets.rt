@@ -1,5 +1,5 @@
 //! The lines of what is referred to: activities, structures and environments.
-#![tactic(auto, using(crate::proofs::Fuel::targets_more, crate::proofs::Statuses::flagged_more))]
+#![tactic(auto, using(crate::proofs::Fuel::targets_more, crate::proofs::Places::items_at_place, crate::proofs::Statuses::flagged_more))]
 
 ghost use Rattle.std.specs.Prelude.{◌≡◌, ◌&&◌, ◌+◌, ◌≤◌, ◌<◌, ◌^◌, true, fold, flat_map, length, OnOk, IsErr};
 ghost use Rattle.ld_expr.specs.Viewing.{HasCells, seen_by};

@@ -1,11 +1,11 @@
 //! The text of a person's tree, and which activities are open in it.
-ghost use Rattle.std.specs.Prelude.{◌≡◌, ◌+◌, ◌≤◌, ◌++◌, false, length, map, IfOk, OnOk};
+ghost use Rattle.std.specs.Prelude.{◌≡◌, ◌+◌, ◌≤◌, ◌++◌, false, length, map, IfOk, OnErr, OnOk};
 ghost use Rattle.ld_base.specs.Roomy.{KeepsRoom};
 ghost use Rattle.ld_expr.specs.Viewing.{HasCells, seen_by};
 ghost use Rattle.ld_names.specs.Names.{names_of};
 ghost use Rattle.ld_tree.specs.Lines.{line_text, lines_text};
 ghost use Rattle.ld_tree.specs.LineView.{is_of_activity, line_view};
-ghost use Rattle.ld_tree.specs.Telling.{Asked, KeepsFront, asked_after};
+ghost use Rattle.ld_tree.specs.Telling.{Asked, asked_after};
 ghost use Rattle.ld_tree.specs.Tree.{is_open, tells_open, tree_lines};
 ghost use Rattle.ld_tree.specs.TreeLooks.{tree_looks};
 
@@ -25,8 +25,8 @@ use std::sync::ledger::Ledger;
 
 /// Appends the lines of the person's tree, each behind the end of the line before it, and gives
 /// their number. The names are those of the unit, and the view has the cells at which the tree
-/// looks; each look is one step. The only error is want of memory, which leaves what stood in `out`
-/// and perhaps a beginning of the lines behind it. (docs/MEANING.md, "The tree")
+/// looks; each look is one step. The only error is want of memory, which leaves in `out` what stood
+/// there. (docs/MEANING.md, "The tree")
 pub fn tree_text<'a, V: View, L: Ledger>(
     alloc: Global,
     unit: &'a Unit,
@@ -42,7 +42,7 @@ pub fn tree_text<'a, V: View, L: Ledger>(
         (tree_lines unit.now (seen_by (V.persons_of view.now) (V.cells_of view.now)) person.0))) }
     ensures count { IfOk result (λ n. n ≡ length
         (tree_lines unit.now (seen_by (V.persons_of view.now) (V.cells_of view.now)) person.0)) }
-    ensures front { KeepsFront out.old.bytes out.new.bytes }
+    ensures err { OnErr result (out.new.bytes ≡ out.old.bytes) }
     ensures room { KeepsRoom out.old out.new }
     ensures cost { steps.new ≤ steps.old + length (tree_looks unit.now person.0) }
 {
@@ -52,10 +52,15 @@ pub fn tree_text<'a, V: View, L: Ledger>(
         view,
         person,
     };
-    let mut printer = Printer::new(alloc);
+    let mut printer = Printer {
+        alloc,
+        text: String::new(alloc),
+        lines: 0,
+    };
     viewer.put_tree(&mut printer, steps)?;
-    out.push(printer.text())?;
-    Ok(printer.count())
+    let Printer { text, lines, .. } = printer;
+    out.append(text)?;
+    Ok(lines)
 }
 
 /// Whether the activity of this identifier is open for the person: whether a line of the person's

@@ -39,7 +39,7 @@ leads_down n above (Element _ _) = nat_lt above n
 abbrev pub is_below : ℕ → PlaceRow → Bool
 is_below n row = leads_down n row.above row.step
 
--- Each row, of which the first has this number, stands below an earlier one.
+-- Each row, of which the first has this number, stands below an earlier one, or is a whole document.
 abbrev pub are_below : ℕ → List PlaceRow → Bool
 are_below n [] = true
 are_below n (row ∷ rows) = is_below n row && are_below (n + 1) rows

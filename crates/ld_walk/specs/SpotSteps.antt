@@ -1,4 +1,5 @@
--- How a spot keeps its place: as a whole document, in a list, or by the step that leads to it from the spot above.
+-- How a spot keeps its place: as a whole document, in a list, or by the step that leads to it from the spot
+-- above.
 use Rattle.ld_walk.specs.Places.{At, root, member, item_at}
 use Rattle.ld_walk.specs.PlaceRows.{place_at}
 use Rattle.ld_walk.specs.declared.spot.Spot.TheInside.{Inside}

@@ -1,5 +1,5 @@
 -- Texts that need no escapes in JSON.
-use Rattle.std.specs.Prelude.{ℕ, List, [], ◌∷◌, ◌++◌, Bool, ◌&&◌, ◌==◌, nat_lt, not}
+use Rattle.std.specs.Prelude.{ℕ, List, Bool, ◌&&◌, ◌==◌, nat_lt, not}
 use Rattle.std.specs.List.{list_all}
 
 -- The byte is no quote, no backslash, and no control character.
@@ -9,7 +9,3 @@ is_plain_byte x = not (x == 34) && (not (x == 92) && not (nat_lt x 32))
 -- All bytes of the text are such.
 abbrev pub is_plain : List ℕ → Bool
 is_plain text = list_all is_plain_byte text
-
--- The text between quotes, behind a space.
-abbrev pub plain_text : List ℕ → List ℕ
-plain_text text = 32 ∷ 34 ∷ (text ++ 34 ∷ [])
