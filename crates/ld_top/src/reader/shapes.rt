@@ -21,6 +21,5 @@ pub(super) fn unit_of_documents(alloc: Global, docs: &Docs<'_>) -> Result<Unit, 
     ensures first { IfErr result (SaysFirst (shape_faults docs.now)) }
 {
     let parts = read_parts(alloc, docs)?;
-    let unit = read_method(alloc, docs, parts)?;
-    Ok(unit)
+    read_method(alloc, docs, parts)
 }

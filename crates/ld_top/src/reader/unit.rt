@@ -25,8 +25,7 @@ pub(super) fn read_unit(alloc: Global, files: [Option<Bytes>; 6]) -> Result<Chec
 {
     let unit = unit_in(alloc, &files)?;
     drop(files);
-    let checked = check(alloc, unit)?;
-    Ok(checked)
+    check(alloc, unit)
 }
 
 /// The unit for which the documents in these files stand.
