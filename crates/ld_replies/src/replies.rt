@@ -38,7 +38,8 @@ use std::sync::ledger::Ledger;
 /// settlings, and what it asked for. (docs/COMMANDS.md, "Replies")
 ///
 /// # Errors
-/// `NoMemory` leaves what stood in `out`, and behind it maybe a part of what is told.
+/// `NoMemory` leaves what stood in `out`, and behind it maybe a part of what is told; of a tree it
+/// may leave nothing.
 pub fn push_done<L: Ledger>(
     alloc: Global,
     unit: &PreparedUnit,
@@ -180,19 +181,28 @@ fn push_tree<L: Ledger>(
         (tree_lines unit.now (seen_in unit.now (run_of state.now)) person.0))) }
     ensures room { KeepsRoom out.old out.new }
 {
-    let mut lines = Text::new(alloc);
-    let count = tree_text(
+    let mut text = String::from_str(alloc, out.as_str())?;
+    text.push_str(" lines=")?;
+    let at = text.as_str().len();
+    text.push_str(PLACE_OF_COUNT)?;
+    let (mut text, count) = tree_text(
         alloc,
         unit.unit(),
         unit.names(),
         state,
         person,
-        &mut lines,
+        text,
         steps,
     )?;
-    push_counted(count, lines.as_str(), out)?;
+    text.replace_range(at..at + PLACE_OF_COUNT.len(), Buffer::new().format(count))?;
+    out.clear();
+    out.append(text)?;
     Ok(())
 }
+
+/// What stands for the number of a tree's lines until they are printed. A long tree has mostly a
+/// number of so many digits, and then none of its lines has to be moved for it.
+const PLACE_OF_COUNT: &str = "0000";
 
 /// Appends the notices to the person.
 fn push_outbox(

@@ -1,6 +1,5 @@
 //! The text of a person's tree, and which activities are open in it.
-ghost use Rattle.std.specs.Prelude.{◌≡◌, ◌+◌, ◌≤◌, ◌++◌, false, length, map, IfOk, OnErr, OnOk};
-ghost use Rattle.ld_base.specs.Roomy.{KeepsRoom};
+ghost use Rattle.std.specs.Prelude.{◌≡◌, ◌+◌, ◌≤◌, ◌++◌, false, length, map, string_bytes, IfOk};
 ghost use Rattle.ld_expr.specs.Viewing.{HasCells, seen_by};
 ghost use Rattle.ld_names.specs.Names.{names_of};
 ghost use Rattle.ld_tree.specs.Lines.{line_text, lines_text};
@@ -16,34 +15,33 @@ use ld_base::id::Id;
 use ld_base::memory::NoMemory;
 use ld_base::numbers::PersonNo;
 use ld_base::steps::Steps;
-use ld_base::text::Text;
 use ld_model::unit::Unit;
 use ld_model::view::View;
 use ld_names::names::Names;
 use std::alloc::Global;
 use std::sync::ledger::Ledger;
 
-/// Appends the lines of the person's tree, each behind the end of the line before it, and gives
-/// their number. The names are those of the unit, and the view has the cells at which the tree
-/// looks; each look is one step. The only error is want of memory, which leaves in `out` what stood
-/// there. (docs/MEANING.md, "The tree")
+/// The text with the lines of the person's tree behind it, each behind the end of the line before
+/// it, and their number. The names are those of the unit, and the view has the cells at which the
+/// tree looks; each look is one step. The text is handed over and given back, so that what stands in
+/// it, which is short, may be copied before, and the tree is not. The only error is want of memory,
+/// which lets go of the text. (docs/MEANING.md, "The tree")
 pub fn tree_text<'a, V: View, L: Ledger>(
     alloc: Global,
     unit: &'a Unit,
     names: &'a Names,
     view: &'a V,
     person: PersonNo,
-    out: &mut Text,
+    text: String,
     steps: &mut Steps<L>,
-) -> Result<u32, NoMemory>
+) -> Result<(String, u32), NoMemory>
     requires names { names.now ≡ names_of unit.now }
     requires cells { HasCells (V.has_cell view.now) (tree_looks unit.now person.0) }
-    ensures text { OnOk result (out.new.bytes ≡ out.old.bytes ++ lines_text (map line_text
-        (tree_lines unit.now (seen_by (V.persons_of view.now) (V.cells_of view.now)) person.0))) }
-    ensures count { IfOk result (λ n. n ≡ length
+    ensures text { IfOk result (λ told. string_bytes told.0 ≡ string_bytes text ++ lines_text
+        (map line_text (tree_lines unit.now (seen_by (V.persons_of view.now) (V.cells_of view.now))
+        person.0))) }
+    ensures count { IfOk result (λ told. told.1 ≡ length
         (tree_lines unit.now (seen_by (V.persons_of view.now) (V.cells_of view.now)) person.0)) }
-    ensures err { OnErr result (out.new.bytes ≡ out.old.bytes) }
-    ensures room { KeepsRoom out.old out.new }
     ensures cost { steps.new ≤ steps.old + length (tree_looks unit.now person.0) }
 {
     let viewer = Viewer {
@@ -54,13 +52,12 @@ pub fn tree_text<'a, V: View, L: Ledger>(
     };
     let mut printer = Printer {
         alloc,
-        text: String::new(alloc),
+        text,
         lines: 0,
     };
     viewer.put_tree(&mut printer, steps)?;
     let Printer { text, lines, .. } = printer;
-    out.append(text)?;
-    Ok(lines)
+    Ok((text, lines))
 }
 
 /// Whether the activity of this identifier is open for the person: whether a line of the person's

@@ -72,8 +72,10 @@ fn shows<L: Ledger>(
         other: Value::Bool(true),
     };
     let (course, names) = (unit.unit(), unit.names());
-    let mut out = Text::new(alloc);
-    let count = tree_text(alloc, course, names, &view, PersonNo(0), &mut out, steps);
+    let none = String::new(alloc);
+    let Ok((text, count)) = tree_text(alloc, course, names, &view, PersonNo(0), none, steps) else {
+        return false;
+    };
     let open = is_open(course, names, &view, PersonNo(0), activity, steps);
-    count == Ok(5) && out.as_str() == wanted && open != done
+    count == 5 && text.as_str() == wanted && open != done
 }
