@@ -1,7 +1,8 @@
 -- The pieces of bytes that begin with a piece that is known.
-use Rattle.std.proofs.Common.{◌≡◌, ℕ, ◌<◌, List, [], ◌∷◌, ◌++◌, length, true, false, not, refl, ap, ◌∙◌, arith}
+use Rattle.std.proofs.Common.{◌≡◌, ℕ, ◌+◌, ◌<◌, List, [], ◌∷◌, ◌++◌, length, take, drop, Some, true, false, not, refl, sym, ap, ◌∙◌, arith}
 use Rattle.std.proofs.lemmas.Bool.{or_parts}
 use Rattle.std.proofs.lemmas.List.Elements.{filter-append}
+use Rattle.ld_lines.specs.Cutting.{FeedAt}
 use Rattle.ld_lines.specs.Lines.{HasNoFeed, is_feed, pieces_of, ended_pieces_of, without_blank, lines_of, ended_lines_of, is_passed_over}
 
 -- a piece that a line feed ends
@@ -63,3 +64,14 @@ without_blank-kept piece h = rw h refl
 pub without_blank-passed : (piece : List ℕ) → is_passed_over piece ≡ true → without_blank (piece ∷ []) ≡ []
 unfolding without_blank
 without_blank-passed piece h = rw h refl
+
+-- The first piece, which a line feed ends, is a line, or it is passed over.
+pub first_line : (bytes : List ℕ) (at : ℕ) → FeedAt bytes (Some at) → is_passed_over (take at bytes) ≡ false → ended_lines_of bytes ≡ [] → ⊥
+first_line bytes at (within, clear, parts) kept none =
+    let line : ended_lines_of bytes ≡ take at bytes ∷ ended_lines_of (drop (at + 1) bytes) =
+    ap ended_lines_of parts ∙ ended_lines_of-ended (take at bytes) (drop (at + 1) bytes) clear ∙ ap (λ lines. lines ++ ended_lines_of (drop (at + 1) bytes)) (without_blank-kept (take at bytes) kept) in
+    absurd (cc (sym line ∙ none))
+
+pub first_passed : (bytes : List ℕ) (at : ℕ) → FeedAt bytes (Some at) → is_passed_over (take at bytes) ≡ true → ended_lines_of bytes ≡ ended_lines_of (drop (at + 1) bytes)
+first_passed bytes at (within, clear, parts) passed =
+    ap ended_lines_of parts ∙ ended_lines_of-ended (take at bytes) (drop (at + 1) bytes) clear ∙ ap (λ lines. lines ++ ended_lines_of (drop (at + 1) bytes)) (without_blank-passed (take at bytes) passed)

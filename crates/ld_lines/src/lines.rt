@@ -28,10 +28,11 @@ impl Model for Lines {
 }
 
 impl Lines {
-    ghost use Rattle.std.specs.Prelude.{◌≡◌, ◌≤◌, ◌^◌, [], true, false, IfOk};
+    ghost use Rattle.std.specs.Prelude.{◌≡◌, ◌≢◌, ◌≤◌, ◌^◌, [], true, false, IfOk};
     ghost use Rattle.std.specs.Borrow.{sem};
     ghost use Rattle.ld_base.specs.Outside.{Rose};
     ghost use Rattle.ld_lines.specs.Answer.{HandsOut};
+    ghost use Rattle.ld_lines.specs.Lines.{ended_lines_of};
     ghost use Rattle.ld_lines.specs.Next.{answer_of_next};
     ghost use Rattle.ld_lines.specs.Loan.{LendsLine};
 
@@ -72,5 +73,14 @@ impl Lines {
             Cut::Over => Ok(Next::Over),
             Cut::End => Ok(Next::End),
         }
+    }
+
+    /// Whether a line that a line feed ends is held already, so that `next` hands it out and asks
+    /// nothing of the source.
+    pub fn holds_line(&self) -> bool
+        ensures yes { result ≡ true → ended_lines_of self.now.held ≢ [] }
+        ensures no { result ≡ false → ended_lines_of self.now.held ≡ [] }
+    {
+        self.reader.holds_line()
     }
 }

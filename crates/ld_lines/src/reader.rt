@@ -1,7 +1,7 @@
 //! The bytes of a source, cut into pieces.
-ghost use Rattle.std.specs.Prelude.{◌≡◌, ◌≤◌, ◌<◌, ◌+◌, ◌^◌, [], true, false, IfOk, IfErr, OnErr, length, take, drop};
+ghost use Rattle.std.specs.Prelude.{◌≡◌, ◌≢◌, ◌≤◌, ◌<◌, ◌+◌, ◌^◌, [], true, false, IfOk, IfErr, OnErr, length, take, drop};
 ghost use Rattle.ld_base.specs.Outside.{Rose};
-ghost use Rattle.ld_lines.specs.Lines.{HasNoFeed, is_blank};
+ghost use Rattle.ld_lines.specs.Lines.{HasNoFeed, ended_lines_of, is_blank, is_passed_over};
 ghost use Rattle.ld_lines.specs.Reading.{IsEnd};
 ghost use Rattle.ld_lines.specs.Answer.{HandsOut};
 ghost use Rattle.ld_lines.specs.Cutting.{Cutting, FeedAt, Fetches, CutsOf, CutsOff, StopsAt, answer_of_cut};
@@ -121,6 +121,14 @@ impl Reader {
                 Cut::End => return Ok(Cut::End),
             }
         }
+    }
+
+    /// Whether a line that a line feed ends is held.
+    pub(crate) fn holds_line(&self) -> bool
+        ensures yes { result ≡ true → ended_lines_of self.now.reading.held ≢ [] }
+        ensures no { result ≡ false → ended_lines_of self.now.reading.held ≡ [] }
+    {
+        has_line(self.buffer.held())
     }
 
     /// Cuts off the first piece: up to its line feed, or to the end of the source.
@@ -280,6 +288,28 @@ fn find_feed(bytes: &[u8], seen: usize) -> Option<usize>
         Some(at) => Some(seen + at),
         None => None,
     }
+}
+
+/// Whether a line that a line feed ends is among the bytes, which may begin with blank ones.
+fn has_line(bytes: &[u8]) -> bool
+    ensures yes { result ≡ true → ended_lines_of bytes.now ≢ [] }
+    ensures no { result ≡ false → ended_lines_of bytes.now ≡ [] }
+{
+    let mut rest = bytes;
+    'pieces: while let Some(at) = find_feed(rest, 0) {
+        if !is_passed_over(&rest[..at]) {
+            return true;
+        }
+        rest = &rest[at + 1..];
+    }
+    false
+}
+
+/// Whether the piece is passed over: a blank one that is no longer than a line may be.
+fn is_passed_over(piece: &[u8]) -> bool
+    ensures { result ≡ is_passed_over piece.now }
+{
+    piece.len() <= LINE_LIMIT && are_blank(piece)
 }
 
 /// Whether the bytes are spaces, tabs and carriage returns alone.
