@@ -4,4 +4,5 @@ pub mod Folder
 pub mod InFolder
 pub mod Reading
 pub mod Replay
+pub mod Sending
 pub mod Words

@@ -9,5 +9,6 @@ pub mod ending;
 pub mod publish;
 pub mod reader;
 mod replay;
+mod sending;
 pub mod top;
 pub mod words;

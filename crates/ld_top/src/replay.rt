@@ -9,11 +9,11 @@ ghost use Rattle.ld_world.specs.World.{first_world};
 ghost use Rattle.ld_world.specs.WorldView.{world_of};
 
 use crate::ending::Ending;
+use crate::sending::{WAITING_ROOM, send};
 use ld_base::sink::Sink;
 use ld_base::source::Source;
 use ld_base::steps::Steps;
 use ld_base::text::Text;
-use ld_base::write::write_all;
 use ld_lines::lines::Lines;
 use ld_lines::next::Next;
 use ld_lines::stop::LineStop;
@@ -54,7 +54,7 @@ fn answer_next<S: Source, L: Ledger>(
 }
 
 /// Answers the lines of the source, from its first byte on, until it ends or something fails. Where
-/// the sink failed a beginning of the last reply was written.
+/// the sink failed a beginning of the replies was written. No reply waits where the source is asked.
 fn answer_lines<S: Source, K: Sink, L: Ledger>(
     alloc: Global,
     lines: &mut Lines,
@@ -62,9 +62,11 @@ fn answer_lines<S: Source, K: Sink, L: Ledger>(
     sink: &mut K,
     world: &mut World,
     out: &mut Text,
+    waiting: &mut Text,
     steps: &mut Steps<L>,
 ) -> Ending
     requires room { 128 ≤ room_of out.old }
+    requires none { waiting.old.bytes ≡ [] }
     requires held { lines.old.held ≡ [] }
     requires taken { lines.old.taken ≡ 0 }
     requires going { lines.old.ended ≡ false }
@@ -85,14 +87,14 @@ fn answer_lines<S: Source, K: Sink, L: Ledger>(
     ensures sink_counts { K.faults sink.old ≤ K.faults sink.new }
     ensures endings { IsEndOfLines result }
 {
-    loop {
+    'turns: loop {
         match answer_next(alloc, lines, source, world, out, steps) {
             Err(LineStop::ReadFault) => return Ending::ReadFault,
             Err(LineStop::InputTooLong) => return Ending::InputTooLong,
             Ok(false) => return Ending::Done,
             Ok(true) => {}
         }
-        if let Err(_) = write_all(sink, out.as_str().as_bytes()) {
+        if let Err(_) = send(out, lines.holds_line(), waiting, sink) {
             return Ending::WriteFault;
         }
     }
@@ -138,7 +140,19 @@ pub fn replay<S: Source, K: Sink, L: Ledger>(
     let Ok(mut out) = Text::with_room(alloc, REPLY_ROOM) else {
         return Ending::NoMemory;
     };
-    let ending = answer_lines(alloc, &mut lines, source, sink, &mut world, &mut out, steps);
+    let Ok(mut waiting) = Text::with_room(alloc, WAITING_ROOM) else {
+        return Ending::NoMemory;
+    };
+    let ending = answer_lines(
+        alloc,
+        &mut lines,
+        source,
+        sink,
+        &mut world,
+        &mut out,
+        &mut waiting,
+        steps,
+    );
     // The process ends behind this, and gives back all that the world has at once.
     mem::forget(world);
     ending
