@@ -16,6 +16,7 @@ use std::os::fd::AsFd;
 use std::path::Path;
 
 const LINE_LIMIT: usize = 65_536;
+const WAITING_LIMIT: usize = 8_192;
 
 fn main() -> io::Result<()> {
     let words: Vec<String> = std::env::args().skip(1).collect();
@@ -33,6 +34,11 @@ fn main() -> io::Result<()> {
     let mut output = File::from(io::stdout().as_fd().try_clone_to_owned()?);
     let (mut line, mut out) = (Vec::new(), String::new());
     loop {
+        // Replies wait for one another while whole lines are held, up to some 8 KB.
+        if out.len() > WAITING_LIMIT || !input.buffer().contains(&b'\n') {
+            output.write_all(out.as_bytes())?;
+            out.clear();
+        }
         line.clear();
         if input.by_ref().read_until(b'\n', &mut line)? == 0 {
             return Ok(());
@@ -40,7 +46,6 @@ fn main() -> io::Result<()> {
         if line.last() == Some(&b'\n') {
             line.pop();
         }
-        out.clear();
         if line.len() > LINE_LIMIT {
             out.push_str("no 1 bad-line\n");
         } else if line.iter().all(|byte| matches!(byte, b' ' | b'\t' | b'\r')) {
@@ -48,6 +53,5 @@ fn main() -> io::Result<()> {
         } else {
             world.answer(&line, &mut out);
         }
-        output.write_all(out.as_bytes())?;
     }
 }
