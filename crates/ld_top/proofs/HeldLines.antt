@@ -1,5 +1,5 @@
 -- What the bytes that are held say of the lines of all bytes.
-use Rattle.std.proofs.Common.{ℕ, List, [], ◌∷◌, ◌++◌, ◌≡◌, Bool, true, false, not, refl, sym, ◌∙◌, ap, inl, inr}
+use Rattle.std.proofs.Common.{ℕ, List, [], ◌∷◌, ◌++◌, ◌≡◌, not, refl, sym, ◌∙◌, ap, inl, inr}
 use Rattle.std.proofs.lemmas.Bool.{cases_Bool}
 use Rattle.std.proofs.lemmas.List.Elements.{filter-append}
 use Rattle.ld_lines.specs.Lines.{ended_lines_of, ended_pieces_of, is_feed, is_passed_over, lines_of, onto_ended, onto_first, pieces_of, without_blank}

@@ -97,6 +97,21 @@ fn answer_lines<S: Source, K: Sink, L: Ledger>(
         if let Err(_) = send(out, lines.holds_line(), waiting, sink) {
             return Ending::WriteFault;
         }
+        give_back_room(alloc, out);
+    }
+}
+
+/// Gives back the memory of a long reply, so that the next one need not be copied into it. Where
+/// memory is wanting it stays.
+fn give_back_room(alloc: Global, out: &mut Text)
+    requires { 128 ≤ room_of out.old }
+    ensures { 128 ≤ room_of out.new }
+{
+    if out.as_str().len() <= REPLY_ROOM {
+        return;
+    }
+    if let Ok(empty) = Text::with_room(alloc, REPLY_ROOM) {
+        *out = empty;
     }
 }
 

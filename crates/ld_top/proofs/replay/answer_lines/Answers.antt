@@ -7,6 +7,7 @@ pub turns-init : goal.turns-init
 turns-init g c = record {
   under_way = IsUnderWay-first _ _ _ _ _ c.requires.held c.requires.taken c.requires.going c.requires.none;
   waits = λ _. c.requires.none;
+  few = rw c.requires.none (omega arith);
   room = c.requires.room;
   limit = rw c.requires.taken (omega arith);
   source_counts = omega arith;
@@ -44,7 +45,8 @@ turns-preserved g c =
         | inl held ↦ absurd (c.holds_line.ensures.yes held none)
         | inr not_held ↦ c.in_default.ensures.none not_held
       ];
-      room = c.answer_next.ensures.room;
+      few = c.send.ensures.few;
+      room = c.give_back_room.ensures;
       limit = turn.1.limit;
       source_counts = omega (arith, c.answer_next.ensures.counts, c.turns.invariant.source_counts);
       sink_counts = omega (arith, c.send.ensures.counts, c.turns.invariant.sink_counts);

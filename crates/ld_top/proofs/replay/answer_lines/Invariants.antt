@@ -9,6 +9,7 @@ abbrev pub invariant-turns : goal.invariant-turns
 invariant-turns g l = record {
   under_way : IsUnderWay (world_of l.fn.world) (g.S.Source.left l.fn.source) (g.K.Sink.written l.fn.sink) l.lines (g.S.Source.left l.source) (world_of l.world) (g.K.Sink.written l.sink) l.waiting.bytes;
   waits : ended_lines_of l.lines.held ≡ [] → l.waiting.bytes ≡ [];
+  few : length l.waiting.bytes ≤ 16384;
   room : 128 ≤ room_of l.out;
   limit : l.lines.taken ≤ 2 ^ 40;
   source_counts : g.S.Source.faults l.fn.source ≤ g.S.Source.faults l.source;
