@@ -74,38 +74,38 @@ fn a_source_that_fails_ends_the_call(rt: HostRuntime) -> Result<(), Fail> {
 
 #[test]
 fn a_sink_that_fails_ends_the_call(rt: HostRuntime) -> Result<(), Fail> {
-    // In which pieces the lines come, the put that fails, and how much of the replies stands. In
-    // pieces of 44 bytes each reply is written before more is taken; of lines that are all there
-    // only the last one's reply does not wait for another.
-    for (piece, number, length) in [
-        (44, 1, 0),
-        (44, 2, 10),
-        (44, 3, 53),
-        (44, 4, 97),
-        (44, 5, 140),
-        (44, 6, 186),
-        (44, 7, 374),
-        (4096, 1, 0),
-        (4096, 2, 374),
+    // The put that fails, and how much of the replies stands: those to the lines before it. The
+    // lines come in pieces of 44 bytes, so that each reply is written before more is taken.
+    for (number, length) in [
+        (1, 0),
+        (2, 10),
+        (3, 53),
+        (4, 97),
+        (5, 140),
+        (6, 186),
+        (7, 374),
+    ] {
+        let mut case = first(FIRST_RUN.as_bytes());
+        case.piece = 44;
+        case.sink_fails = number;
+        let (status, written) = ran(rt.alloc(), &case)?;
+        assert_eq!(rt; (status, written.len()), (6, length), "at put {number}");
+        assert!(rt;
+            FIRST_REPLIES.as_bytes().starts_with(&written),
+            "at put {number}"
+        );
+    }
+    // The pieces of the lines, the room of the sink, and how much stands: the replies that fit. The
+    // replies to lines that are all there are written together.
+    for (piece, room, length) in [
+        (44, 9, 0),
+        (44, 10, 10),
+        (44, 96, 53),
+        (44, 388, 374),
+        (4096, 388, 0),
     ] {
         let mut case = first(FIRST_RUN.as_bytes());
         case.piece = piece;
-        case.sink_fails = number;
-        let (status, written) = ran(rt.alloc(), &case)?;
-        assert_eq!(rt;
-            (status, written.len()),
-            (6, length),
-            "at put {number} in pieces of {piece}"
-        );
-        assert!(rt;
-            FIRST_REPLIES.as_bytes().starts_with(&written),
-            "at put {number} in pieces of {piece}"
-        );
-    }
-    // The room of the sink, and how much stands: the replies that fit.
-    for (room, length) in [(9, 0), (10, 10), (96, 53), (388, 374)] {
-        let mut case = first(FIRST_RUN.as_bytes());
-        case.piece = 44;
         case.room = room;
         let (status, written) = ran(rt.alloc(), &case)?;
         assert_eq!(rt; (status, written.len()), (6, length), "with room {room}");
