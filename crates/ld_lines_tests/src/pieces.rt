@@ -47,6 +47,31 @@ fn push_line(told: &mut String, line: &[u8]) -> Result<(), Fail> {
     Ok(())
 }
 
+/// Whether a line is held before each of four calls of `next`.
+fn held(alloc: Global, bytes: &[u8], piece: usize) -> Result<String, Fail>
+    requires { 0 < piece }
+{
+    let Ok(mut lines) = Lines::new(alloc) else {
+        return Ok(String::from_str(alloc, "no memory")?);
+    };
+    let bytes = Items::from_vec(Vec::from_slice(alloc, bytes)?);
+    let mut source = MemorySource::new(bytes, piece, Items::new(alloc));
+    let mut told = String::new(alloc);
+    for _ in 0..4 {
+        told.push_str(if lines.holds_line() { "yes " } else { "no " })?;
+        let _ = lines.next(&mut source);
+    }
+    Ok(told)
+}
+
+#[test]
+fn a_line_is_held_that_came_with_the_one_before(rt: HostRuntime) -> Result<(), Fail> {
+    let bytes = b"a\n \nb\nc";
+    assert_eq!(rt; held(rt.alloc(), bytes, 65_536)?.as_str(), "no yes no no ");
+    assert_eq!(rt; held(rt.alloc(), bytes, 1)?.as_str(), "no no no no ");
+    Ok(())
+}
+
 #[test]
 fn small_inputs(rt: HostRuntime) -> Result<(), Fail> {
     let table = [
