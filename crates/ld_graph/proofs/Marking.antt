@@ -181,10 +181,10 @@ one_word words at one within none n = elim (cases_lt (n / 64) 1) [
 pub no_bits : (n : ℕ) → bit [] n ≡ false
 no_bits n = no_bit n
 
-pub empty_table : IsTable ([] ∷ [] ∷ [] ∷ [] ∷ []) 0
+pub empty_table : IsTable ([] ∷ [] ∷ [] ∷ []) 0
 empty_table = record {
   levels_there = omega arith;
-  are_levels = (omega arith, λ _. no_marks, (omega arith, λ _. no_marks, (omega arith, λ _. no_marks, (omega arith, λ _. no_marks, tt))));
+  are_levels = (omega arith, λ _. no_marks, (omega arith, λ _. no_marks, (omega arith, λ _. no_marks, tt)));
   fits = omega arith;
   covers = omega arith;
   none_beyond = λ n _. no_bit n;

@@ -8,24 +8,24 @@ use ld_base::memory::NoMemory;
 use std::alloc::Global;
 use std::marker::Model;
 
-// Each level that has words has a bit for each word of 64 bits of the one below it. For 4,000,000
-// sites the highest level has one word, and for as many as a u32 can count it has 256.
-const LEVELS: usize = 4;
+// Each level that has words has a bit for each word of 64 bits of the one below it. For 262,144
+// sites, more than a run may have, the highest level has one word, and for 4,000,000 it has 16.
+const LEVELS: usize = 3;
 
 /// A set of sites below a number, its range, seen by contracts as a table with one entry for each
 /// number of the range.
 ///
 /// The bits of the sites stand in words of 64. Above them stand smaller levels, in which a bit says
 /// that a word of the level below is not zero. So `next_from` passes over the empty words below the
-/// top level without a look at them; the top level, where a word stands for 2^24 sites, is walked
+/// top level without a look at them; the top level, where a word stands for 2^18 sites, is walked
 /// word by word. Levels above one of a single word take no memory: a set that first comes into
 /// range with few sites has few levels, and keeps to them. Where it is known that no site is in the
 /// set, none of them is looked at.
 #[derive(Drop)]
 pub struct Dirty {
-    levels: [Level; LEVELS],
     range: u32,
     may_have_some: bool,
+    levels: [Level; LEVELS],
 }
 
 impl Model for Dirty {
@@ -47,14 +47,9 @@ impl Dirty {
         ensures fresh { IfOk result (λ d. d ≡ replicate sites false) }
     {
         let mut dirty = Dirty {
-            levels: [
-                Level::new(alloc),
-                Level::new(alloc),
-                Level::new(alloc),
-                Level::new(alloc),
-            ],
             range: 0,
             may_have_some: false,
+            levels: [Level::new(alloc), Level::new(alloc), Level::new(alloc)],
         };
         dirty.grow(sites)?;
         Ok(dirty)

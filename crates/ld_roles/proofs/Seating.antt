@@ -1,5 +1,5 @@
 -- The persons as they are kept, and what is said of them.
-use Rattle.std.proofs.Common.{◌≡◌, ℕ, zero, suc, ◌+◌, ◌<◌, List, [], ◌∷◌, ◌++◌, map, length, set, All, Bool, true, false, cond, Option, Some, None, option_map, slice_get, refl, sym, ap, ◌∙◌, get_or}
+use Rattle.std.proofs.Common.{◌≡◌, ℕ, zero, suc, arith, ◌+◌, ◌<◌, List, [], ◌∷◌, ◌++◌, map, length, set, All, Bool, true, false, cond, Option, Some, None, option_map, slice_get, refl, sym, ap, ◌∙◌, get_or}
 use Rattle.std.proofs.lemmas.List.{map-append}
 use Rattle.std.proofs.lemmas.List.Elements.{All-cons, All-head, All-tail, All-get_or}
 use Rattle.std.proofs.lemmas.Option.{slice_get_within, get_or_from_slice_get, slice_get-map}
@@ -33,6 +33,12 @@ numbered_from name n (entry ∷ persons) = ap (λ later. cond (bytes_eq name ent
 -- A person is found by the name.
 pub numbered : (name : List ℕ) (persons : List (List ℕ × Seat)) → position (bytes_eq name) (keys_of persons) ≡ person_number (persons_of (map row_of persons)) name
 numbered name persons = position_from-zero (bytes_eq name) (keys_of persons) ∙ numbered_from name 0 persons
+
+-- A person alone is looked at.
+pub only_numbered : (name : List ℕ) (persons : List (List ℕ × Seat)) (entry : List ℕ × Seat) → length persons ≡ 1 → slice_get persons 0 ≡ Some entry → person_number (persons_of (map row_of persons)) name ≡ cond (bytes_eq name entry.0) (Some 0) None
+only_numbered name [] entry few there = cc
+only_numbered name (one ∷ []) entry few there = let same : one ≡ entry = cc in rw same refl
+only_numbered name (one ∷ (two ∷ rest)) entry few there = let none : suc (length rest) ≡ 0 = omega (arith, few) in cc
 
 last_from : (name : List ℕ) (seat : Seat) (n : ℕ) (persons : List (List ℕ × Seat)) → position_from (λ person. bytes_eq name person.name) n (persons_of (map row_of persons)) ≡ None → insert_entry bytes_eq persons name seat ≡ persons ++ (name, seat) ∷ []
 last_from name seat n [] new = refl

@@ -26,15 +26,15 @@ use std::marker::Model;
 /// as the bounds of the unit's roles, the persons, and the persons at the mark, if there is one.
 /// (docs/COMMANDS.md, "Refusals")
 pub struct Roster {
-    seats: Seats,
     /// Where there is a mark, what was done since.
     mark: Option<Change>,
+    seats: Seats,
 }
 
 // By hand, so that a function which lets one go calls this and is not proved over each field anew.
 impl Drop for Roster {
     fn drop(self) {
-        let Self { seats: _, mark: _ } = self;
+        let Self { mark: _, seats: _ } = self;
     }
 }
 
@@ -58,8 +58,8 @@ impl Roster {
             ≡ record { roles = role_bounds unit.now; rows = []; kept = None }) }
     {
         Ok(Roster {
-            seats: Seats::new(alloc, unit)?,
             mark: None,
+            seats: Seats::new(alloc, unit)?,
         })
     }
 

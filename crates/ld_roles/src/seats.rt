@@ -20,8 +20,8 @@ use std::marker::Model;
 #[derive(Drop)]
 pub(crate) struct Seats {
     alloc: Global,
-    roles: RoleTree,
     persons: IndexMap<Id, Seat>,
+    roles: RoleTree,
 }
 
 impl Model for Seats {
@@ -63,12 +63,16 @@ impl Seats {
         self.persons.len()
     }
 
-    /// The number of the person of this name.
+    /// The number of the person of this name. A person alone is looked at, without a search.
     pub(crate) fn number(&self, name: &Id) -> Option<usize>
         ensures number { result ≡ person_number (persons_of self.now.rows) name.now }
         ensures within { IfSome result (λ number. number < length self.now.rows) }
         ensures few { IfSome result (λ number. number < SEATS) }
     {
+        if self.persons.len() == 1 {
+            let (only, _) = entry(&self.persons, 0);
+            return if name == only { Some(0) } else { None };
+        }
         self.persons.get_index_of(name)
     }
 

@@ -40,10 +40,10 @@ use std::sync::ledger::Ledger;
 pub struct State {
     slots: Rc<Slots>,
     cells: Cells,
-    roster: Roster,
-    outbox: Vec<OutNotice>,
     /// Where there is a mark, how many notices had been sent then.
     sent: Option<usize>,
+    outbox: Vec<OutNotice>,
+    roster: Roster,
 }
 
 impl Model for State {
@@ -83,9 +83,9 @@ impl State {
         Ok(State {
             slots,
             cells,
-            roster: Roster::new(alloc, from.unit)?,
-            outbox: Vec::new(alloc),
             sent: None,
+            outbox: Vec::new(alloc),
+            roster: Roster::new(alloc, from.unit)?,
         })
     }
 

@@ -7,7 +7,7 @@ pub invariant_of-result : goal.invariant_of-result
 invariant_of-result c =
     let (store, stored) = c.requires.stored in
     new_state c.args.from.now.unit.now store c.args.moment.0 c.args.slots.value
-    c.in_ok-cells.cells c.in_ok-new.field-0 c.new-2.result.items c.run_cells.result.now
+    c.in_ok-cells.cells c.in_ok-new.field-0 c.new.result.items c.run_cells.result.now
     (c.in_ok-cells.ensures.cells store stored)
     (c.run_cells.ensures.cells ∙ ap (λ (l : Layout). l.run) c.deref.ensures) c.run_cells.ensures.few
     c.in_ok-cells.ensures.unmarked c.in_ok-new.ensures
@@ -15,7 +15,7 @@ invariant_of-result c =
 pub returns-clause-run : goal.returns-clause-run
 returns-clause-run c store stored =
     new_run c.args.from.now.unit.now store c.args.moment.0 c.args.slots.value
-    c.in_ok-cells.cells c.in_ok-new.field-0 c.new-2.result.items c.run_cells.result.now
+    c.in_ok-cells.cells c.in_ok-new.field-0 c.new.result.items c.run_cells.result.now
     (c.in_ok-cells.ensures.cells store stored)
     (c.run_cells.ensures.cells ∙ ap (λ (l : Layout). l.run) c.deref.ensures) c.requires.slots
-    c.new-2.ensures.items c.in_ok-new.ensures
+    c.new.ensures.items c.in_ok-new.ensures
