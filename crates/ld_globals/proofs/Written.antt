@@ -1,22 +1,25 @@
 -- What a write leaves, part by part.
-use Rattle.std.proofs.Common.{◌≡◌, ◌≢◌, ℕ, zero, suc, ◌+◌, ◌<◌, ◌≤◌, List, [], ◌∷◌, ◌++◌, map, slice_get, Bool, true, false, cond, not, nat_eq, is_some, IsTrue, Option, Some, None, option_map, refl, sym, ap, subst, ◌∙◌, arith}
+use Rattle.std.proofs.Common.{◌≡◌, ◌≢◌, ℕ, zero, suc, ◌+◌, ◌<◌, ◌≤◌, List, [], ◌∷◌, ◌++◌, length, map, position, slice_get, IfSome, Bool, true, false, cond, not, nat_eq, is_some, IsTrue, Option, Some, None, option_map, refl, sym, ap, subst, ◌∙◌, arith}
 use Rattle.std.proofs.lemmas.Bool.{and_parts, eqb-true, eq-eqb, true≢false}
+use Rattle.std.proofs.lemmas.Option.{slice_get-map}
 use Rattle.std.specs.Cmp.Lexicographic.{bytes_decides}
 use Rattle.std.specs.List.{AllByRecursion, position_or_len}
 use Rattle.std.specs.Map.{keys_of, lookup}
 use Rattle.std.specs.Option.{option_eq}
 use Rattle.std.specs.Str.{bytes_eq}
-use Rattle.indexmap.specs.IndexMap.{insert_entry}
+use Rattle.indexmap.specs.IndexMap.{insert_entry, set_value_at}
+use Rattle.indexmap.proofs.MapLemmas.{Found-position, Missing-position, insert_entry-first}
 use Rattle.ld_base.specs.Roomy.{Roomy}
 use Rattle.ld_value.specs.Datum.{Datum, datum_of, same_datum}
 use Rattle.ld_globals.specs.Declarations.{Declaration, declaration_of, fits_declared, suits}
-use Rattle.ld_globals.specs.Kept.{uri_and_declaration, IsCell, IsCounted, IsNumbered, IsNumbering, IsNumberOf, IsPersonNumber, IsTied, key_of, write_number_in, same_number, write_of, written_of}
-use Rattle.ld_globals.specs.Store.{Key, Store, declared_in, next_stamp, put_in, same_key, value_at}
+use Rattle.ld_globals.specs.Kept.{uri_and_declaration, IsCell, IsCounted, IsNumbered, IsNumbering, IsNumberOf, IsPersonNumber, IsTied, IsUnknown, IsUriNumber, datum_in, datum_of_cell, key_of, slot_in, store_of, write_number_in, same_number, write_of, written_of}
+use Rattle.ld_globals.specs.Store.{Key, Store, declared_in, key_at, next_stamp, put_in, same_key, value_at}
 use Rattle.ld_globals.specs.declared.cell.Cell.{Cell}
 use Rattle.ld_globals.specs.declared.declared.Declared.{Declared}
 use Rattle.ld_globals.specs.declared.key_number.KeyNumber.{KeyNumber}
 use Rattle.ld_globals.proofs.Looked.{all-there, declared-found}
-use Rattle.ld_globals.proofs.Numbers.{numbers-tell}
+use Rattle.ld_globals.proofs.Getting.{value-initial, value-written}
+use Rattle.ld_globals.proofs.Numbers.{numbers-tell, written-found, written-unknown}
 use Rattle.ld_globals.proofs.Recent.{all-weaker}
 
 -- ---- a list of entries after one is inserted
@@ -154,6 +157,43 @@ numbers-counted cells stamp next more counted (e ∷ es) tied = (subst (λ n. n 
     below : (c : Option (KeyNumber × Cell)) → ((d : KeyNumber × Cell) → c ≡ Some d → IsCounted stamp d) → write_number_in c ≤ next
     below None each = omega arith
     below (Some d) each = let less = (each d refl).1 in omega (arith, less, more)
+
+-- ---- the cell of a slot
+
+module _ (cells : List (KeyNumber × Cell)) (k : KeyNumber) (slot : ℕ) (at : position (same_number k) (keys_of cells) ≡ Some slot) where
+  pub slot-within : slot < length cells
+  slot-within = (Found-position (same_number k) cells slot at).within
+
+  -- To write at the slot is to insert.
+  pub cell-set : (c : Cell) → set_value_at cells slot c ≡ insert_entry same_number cells k c
+  cell-set c = sym (insert_entry-first same_number k c cells slot (Found-position (same_number k) cells slot at).first)
+
+  -- The cell is the one at the slot.
+  pub cell-there : lookup (same_number k) cells ≡ option_map (λ e. e.1) (slice_get cells slot)
+  cell-there = (Found-position (same_number k) cells slot at).value ∙ slice_get-map (λ e. e.1) cells slot
+
+module _ (declared : List (Roomy × Declared)) (persons : List (List ℕ)) (cells : List (KeyNumber × Cell)) (stamp spare : ℕ) (text : List ℕ) (person : Option (List ℕ)) (d : Declared)
+    (distinct : IsNumbering declared persons) (all : AllByRecursion (IsCell declared persons) cells) (found : lookup (λ q. bytes_eq text q.bytes) declared ≡ Some d) where
+  by-cell : (o : Option (KeyNumber × Cell)) → lookup (same_key (key_at text person)) (map (written_of declared persons) cells) ≡ option_map write_of (option_map (λ e. e.1) o)
+      → value_at (store_of declared persons cells stamp spare) (key_at text person) ≡ datum_of_cell d.initial o
+  by-cell None is = value-initial declared persons cells stamp spare text person d found is
+  by-cell (Some e) is = value-written declared persons cells stamp spare text person d found (write_of e.1) is
+
+  -- The value of the key is what its cell has, where it has one, and else the initial value.
+  pub value-kept : (uri : ℕ) (known : Option (Option ℕ)) → IsUriNumber declared text uri → IfSome known (IsPersonNumber persons person) → (known ≡ None → IsUnknown persons person)
+      → value_at (store_of declared persons cells stamp spare) (key_at text person) ≡ datum_in d.initial cells (slot_in cells uri known)
+  value-kept uri None there number unknown = by-cell None (written-unknown declared persons distinct (key_at text person) cells (unknown refl) all)
+  value-kept uri (Some p) there number unknown = by (position (same_number k) (keys_of cells)) refl
+    where
+      k : KeyNumber
+      k = record { uri = uri; person = p }
+
+      is : lookup (same_key (key_at text person)) (map (written_of declared persons) cells) ≡ option_map write_of (lookup (same_number k) cells)
+      is = written-found declared persons distinct same_number (λ a b. refl) (key_at text person) k cells (record { uri = there; person = number }) all
+
+      by : (o : Option ℕ) → position (same_number k) (keys_of cells) ≡ o → value_at (store_of declared persons cells stamp spare) (key_at text person) ≡ datum_in d.initial cells o
+      by None none = by-cell None (is ∙ ap (option_map write_of) (Missing-position (same_number k) cells none).value)
+      by (Some slot) at = by-cell (slice_get cells slot) (is ∙ ap (option_map write_of) (cell-there cells k slot at))
 
 -- ---- the cell of a writable key
 

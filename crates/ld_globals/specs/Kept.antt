@@ -1,5 +1,5 @@
 -- How the program keeps the store: keys by numbers, and what holds of them.
-use Rattle.std.specs.Prelude.{◌≡◌, ◌≤◌, ◌<◌, ◌++◌, ℕ, List, [], map, slice_get, Result}
+use Rattle.std.specs.Prelude.{◌≡◌, ◌≤◌, ◌<◌, ◌++◌, ℕ, List, [], map, position, slice_get, Result}
 use Rattle.std.specs.Prelude.{is_some, Bool, true, false, ◌&&◌, nat_eq, nat_lt, IsTrue, Option, Some, None, option_map}
 use Rattle.std.specs.List.{AllByRecursion, IsDistinct}
 use Rattle.std.specs.Map.{keys_of, lookup}
@@ -7,6 +7,7 @@ use Rattle.std.specs.Option.{option_eq}
 use Rattle.std.specs.Str.{bytes_eq}
 use Rattle.ld_base.specs.Roomy.{Roomy}
 use Rattle.ld_value.specs.Datum.{Datum, datum_of}
+use Rattle.ld_value.specs.declared.value.Value.{Value}
 use Rattle.ld_globals.specs.Declarations.{Declaration, declaration_of, fits_declared, suits}
 use Rattle.ld_globals.specs.Store.{Key, Store, Write, set_value, value_in}
 use Rattle.ld_globals.specs.declared.cell.Cell.{Cell}
@@ -69,6 +70,21 @@ IsWhole e = IsTrue (fits_declared (declaration_of e.1) (option_map datum_of e.1.
 abbrev pub same_number : KeyNumber → KeyNumber → Bool
 same_number a b = nat_eq a.uri b.uri && option_eq nat_eq a.person b.person
 
+-- The slot of the cell of the uri and the person with these numbers; none where the person has no number.
+abbrev pub slot_in : List (KeyNumber × Cell) → ℕ → Option (Option ℕ) → Option ℕ
+slot_in cells uri None = None
+slot_in cells uri (Some person) = position (same_number (record { uri = uri; person = person })) (keys_of cells)
+
+-- What is in the cell, or else the initial value.
+abbrev pub datum_of_cell : Option Value → Option (KeyNumber × Cell) → Option Datum
+datum_of_cell initial None = option_map datum_of initial
+datum_of_cell initial (Some e) = option_map datum_of e.1.value
+
+-- What is in the cell of the slot; where there is none, the initial value.
+abbrev pub datum_in : Option Value → List (KeyNumber × Cell) → Option ℕ → Option Datum
+datum_in initial cells None = option_map datum_of initial
+datum_in initial cells (Some slot) = datum_of_cell initial (slice_get cells slot)
+
 -- Whole entries were put at the end.
 abbrev pub Extends : List (Roomy × Declared) → List (Roomy × Declared) → Type 0
 Extends old new = (added : List (Roomy × Declared)) × (new ≡ old ++ added) × AllByRecursion IsWhole added
@@ -95,6 +111,13 @@ pub record IsUriNumber (declared : List (Roomy × Declared)) (uri : List ℕ) (n
   pub there : slice_get declared number ≡ Some entry
   pub same : bytes_eq uri entry.0.bytes ≡ true
 
+-- The uri is declared so, and has the number.
+pub record IsFound (declared : List (Roomy × Declared)) (uri : List ℕ) (number : ℕ) (contents : Declared) : Type 0 where
+  pub key : Roomy
+  pub there : slice_get declared number ≡ Some (key, contents)
+  pub same : bytes_eq uri key.bytes ≡ true
+  pub value : lookup (λ k. bytes_eq uri k.bytes) declared ≡ Some contents
+
 -- The numbers are those of the key.
 pub record IsNumberOf (declared : List (Roomy × Declared)) (persons : List (List ℕ)) (key : Key) (k : KeyNumber) : Type 0 where
   pub uri : IsUriNumber declared key.uri k.uri
@@ -103,10 +126,6 @@ pub record IsNumberOf (declared : List (Roomy × Declared)) (persons : List (Lis
 -- No uri is declared twice.
 abbrev pub DeclareOnce : List (Roomy × Declared) → Type 0
 DeclareOnce declared = IsDistinct (λ a b. bytes_eq a.bytes b.bytes) (keys_of declared)
-
--- The uri is declared.
-abbrev pub IsDeclaredUri : List (Roomy × Declared) → List ℕ → Type 0
-IsDeclaredUri declared uri = (e : Declared) × (lookup (λ k. bytes_eq uri k.bytes) declared ≡ Some e)
 
 -- No uri is declared twice, and no person has two numbers.
 abbrev pub IsNumbering : List (Roomy × Declared) → List (List ℕ) → Type 0

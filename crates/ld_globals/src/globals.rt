@@ -14,8 +14,9 @@ use crate::changes::Changes;
 use crate::declared::{Declared, DeclaredList, suits};
 use crate::declaring::{declare_pairs, first_to_differ};
 use crate::faults::{DeclareFault, GlobalFault, SetFault};
+use crate::finding::{Guess, find_uri};
 use crate::given::Given;
-use crate::key_number::{KeyNumber, find_cell};
+use crate::key_number::{KeyNumber, find_cell, find_slot, person_number};
 use crate::reading::read_declared;
 use crate::recency::Recency;
 use crate::writing::{has_value, next_number, number_person, write_cell};
@@ -36,6 +37,7 @@ use std::sync::ledger::Ledger;
 pub struct Globals {
     alloc: Global,
     declared: IndexMap<Text, Declared>,
+    guess: Guess,
     persons: IndexSet<Id>,
     /// Of each key that was written its cell; a cell's place is its slot.
     cells: IndexMap<KeyNumber, Cell>,
@@ -75,6 +77,7 @@ impl Globals {
         Globals {
             alloc,
             declared: IndexMap::new(alloc),
+            guess: Guess::new(),
             persons: IndexSet::new(alloc),
             cells: IndexMap::new(alloc),
             recency: Recency::new(alloc),
@@ -122,7 +125,7 @@ impl Globals {
         ensures cost { steps.new ≡ steps.old + 1 }
     {
         steps.tick();
-        let Some((number, _, declared)) = self.declared.get_full(uri) else {
+        let Some((number, declared)) = find_uri(&self.declared, &self.guess, uri) else {
             return Err(GlobalFault::UnknownGlobal);
         };
         if !suits(declared.kind, person) {
@@ -198,23 +201,19 @@ impl Globals {
     {
         let number = next_number(self.stamp);
         let spare = self.spare - 1;
-        if has_value(
-            &self.declared,
-            &self.persons,
-            &self.cells,
-            uri,
-            person.id(),
-            &value,
-        ) {
+        let Some((uri, declared)) = find_uri(&self.declared, &self.guess, uri) else {
+            unreachable!();
+        };
+        let known = person_number(&self.persons, person.id());
+        let slot = find_slot(&self.cells, uri, known);
+        if has_value(&self.cells, slot, &declared.initial, &value) {
             self.spare = spare;
             return Ok(());
         }
-        let Some((uri, _, _)) = self.declared.get_full(uri) else {
-            unreachable!();
-        };
-        let person = number_person(&mut self.persons, person)?;
+        let person = number_person(&mut self.persons, known, person)?;
         let slot = write_cell(
             &mut self.cells,
+            slot,
             KeyNumber { uri, person },
             Cell { value, number },
         );
@@ -231,7 +230,7 @@ impl Globals {
         ensures refused { IfErr result (IsRefused (set_answer self.now
             (key_given uri.now person.entry) text.now)) }
     {
-        let Some(declared) = self.declared.get(uri) else {
+        let Some((_, declared)) = find_uri(&self.declared, &self.guess, uri) else {
             return Err(SetFault::UnknownGlobal);
         };
         read_declared(self.alloc, declared, person, text)

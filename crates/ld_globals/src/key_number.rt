@@ -4,7 +4,7 @@ ghost use Rattle.std.specs.List.{AllByRecursion};
 ghost use Rattle.std.specs.Map.{lookup};
 ghost use Rattle.ld_globals.specs.declared.declared.Declared.{Declared};
 ghost use Rattle.ld_globals.specs.Answers.{key_given};
-ghost use Rattle.ld_globals.specs.Kept.{IsUriNumber, writes_of, IsCell, IsNumbering, IsPersonNumber, IsUnknown, write_of};
+ghost use Rattle.ld_globals.specs.Kept.{IsUriNumber, writes_of, IsCell, IsNumbering, IsPersonNumber, IsUnknown, slot_in, write_of};
 ghost use Rattle.ld_globals.specs.Store.{same_key};
 
 use crate::cell::Cell;
@@ -44,6 +44,19 @@ pub(crate) fn find_cell<'a>(
     })
 }
 
+/// The slot of the cell of the key of the uri and the person with these numbers, if it was ever
+/// written; none where the person has no number.
+pub(crate) fn find_slot(
+    cells: &IndexMap<KeyNumber, Cell>,
+    uri: usize,
+    person: Option<Option<usize>>,
+) -> Option<usize>
+    ensures { result ≡ slot_in cells.now.entries uri person }
+{
+    let person = person?;
+    cells.get_index_of(&KeyNumber { uri, person })
+}
+
 /// The person's number, None where no person is given; nothing where the person has no number.
 pub(crate) fn person_number(persons: &IndexSet<Id>, person: Option<&Id>) -> Option<Option<usize>>
     ensures some { IfSome result (IsPersonNumber persons.now.keys (option_copied person.entry)) }
@@ -63,11 +76,22 @@ fn number_of(persons: &IndexSet<Id>, id: &Id) -> Option<usize>
     ensures none { result ≡ None → IsUnknown persons.now.keys (Some id.now) }
 {
     let hint = id.hint() as usize;
-    if let Some(found) = persons.get_index(hint) {
-        if found == id {
-            return Some(hint);
-        }
+    let Some(found) = persons.get_index(hint) else {
+        return search_person(persons, id);
+    };
+    if found == id {
+        return Some(hint);
     }
+    search_person(persons, id)
+}
+
+/// The number of the person of the identifier, by a search; nothing where there is none. Kept
+/// apart, so that to find a person at a hint takes few registers.
+#[inline(never)]
+fn search_person(persons: &IndexSet<Id>, id: &Id) -> Option<usize>
+    ensures some { IfSome result (λ number. slice_get persons.now.keys number ≡ Some id.now) }
+    ensures none { result ≡ None → IsUnknown persons.now.keys (Some id.now) }
+{
     let (number, _) = persons.get_full(id)?;
     remember(id, number);
     Some(number)

@@ -7,6 +7,7 @@ pub mod changes;
 pub mod declared;
 mod declaring;
 pub mod faults;
+mod finding;
 mod given;
 pub mod globals;
 mod key_number;

@@ -1,75 +1,69 @@
 //! Writing a value, part by part. What it takes was reserved.
-ghost use Rattle.std.specs.Prelude.{◌≡◌, ◌≤◌, ◌<◌, ◌+◌, ◌++◌, List, ℕ, Some, length, slice_get, option_map, IfOk, OnErr};
-ghost use Rattle.std.specs.List.{AllByRecursion, IsDistinct, position_or_len};
+ghost use Rattle.std.specs.Prelude.{◌≡◌, ◌≤◌, ◌<◌, ◌+◌, ◌++◌, List, ℕ, Some, Ok, length, slice_get, option_map, IfOk, IfSome, OnErr};
+ghost use Rattle.std.specs.List.{IsDistinct, position_or_len};
 ghost use Rattle.std.specs.Map.{keys_of};
 ghost use Rattle.std.specs.Option.{option_eq};
 ghost use Rattle.std.specs.Str.{bytes_eq};
 ghost use Rattle.indexmap.specs.IndexMap as by_key;
 ghost use Rattle.indexmap.specs.IndexSet as members;
 ghost use Rattle.ld_value.specs.Datum.{datum_of, same_datum};
-ghost use Rattle.ld_globals.specs.Answers.{key_given};
 ghost use Rattle.ld_globals.specs.Given.{IsLent, given_text};
-ghost use Rattle.ld_globals.specs.Kept.{IsDeclaredUri, IsCell, IsNumbering, IsPersonNumber, same_number, store_of};
-ghost use Rattle.ld_globals.specs.Store.{last_stamp, next_stamp, value_at};
-ghost use Rattle.ld_globals.specs.declared.declared.Declared.{Declared};
+ghost use Rattle.ld_globals.specs.Kept.{IsPersonNumber, datum_in, same_number, slot_in};
+ghost use Rattle.ld_globals.specs.Store.{last_stamp, next_stamp};
 
 use crate::cell::Cell;
-use crate::declared::{Declared, same_optional};
+use crate::declared::same_optional;
 use crate::given::Given;
-use crate::key_number::{KeyNumber, find_cell};
+use crate::key_number::KeyNumber;
 use indexmap::{IndexMap, IndexSet};
 use ld_base::id::Id;
 use ld_base::memory::NoMemory;
-use ld_base::text::Text;
 use ld_value::value::Value;
 
-/// Whether the key has this value.
+/// Whether the key whose cell has this slot, or that was never written and has this initial value,
+/// has the value.
 pub(crate) fn has_value(
-    declared: &IndexMap<Text, Declared>,
-    persons: &IndexSet<Id>,
     cells: &IndexMap<KeyNumber, Cell>,
-    uri: &Text,
-    person: Option<&Id>,
+    slot: Option<usize>,
+    initial: &Option<Value>,
     value: &Option<Value>,
 ) -> bool
-    requires numbers { IsNumbering declared.now.entries persons.now.keys }
-    requires cells { AllByRecursion (IsCell declared.now.entries persons.now.keys)
-        cells.now.entries }
-    requires declared { IsDeclaredUri declared.now.entries uri.now.bytes }
-    ensures { result ≡ option_eq same_datum (value_at
-        (store_of declared.now.entries persons.now.keys cells.now.entries 0 0)
-        (key_given uri.now person.entry)) (option_map datum_of value.now) }
+    ensures { result ≡ option_eq same_datum (datum_in initial.now cells.now.entries slot)
+        (option_map datum_of value.now) }
 {
-    let Some((number, _, found)) = declared.get_full(uri) else {
-        unreachable!();
+    let Some(slot) = slot else {
+        return same_optional(initial, value);
     };
-    if let Some(cell) = find_cell(declared, persons, cells, uri, number, person) {
-        return same_optional(&cell.value, value);
-    }
-    same_optional(&found.initial, value)
+    let Some((_, cell)) = cells.get_index(slot) else {
+        return same_optional(initial, value);
+    };
+    same_optional(&cell.value, value)
 }
 
-/// The number of the person, who is given one where there was none. It takes no memory where the
-/// identifier may be kept, or has a number; where memory is wanting nothing changes.
+/// The number of the person, who is given one where none is known. It takes no memory where a
+/// number is known or the identifier may be kept; where memory is wanting nothing changes.
 pub(crate) fn number_person(
     persons: &mut IndexSet<Id>,
+    known: Option<Option<usize>>,
     person: Given<'_>,
 ) -> Result<Option<usize>, NoMemory>
-    requires { 0 < members.spare persons.old }
+    requires spare { 0 < members.spare persons.old }
+    requires known { IfSome known (IsPersonNumber persons.old.keys (given_text person)) }
     ensures number { IfOk result (IsPersonNumber persons.new.keys (given_text person.entry)) }
+    ensures known { IfSome known (λ number. result ≡ Ok number) }
     ensures keeps { (added : List (List ℕ)) × (persons.new.keys ≡ persons.old.keys ++ added) }
     ensures unique { IsDistinct bytes_eq persons.old.keys → IsDistinct bytes_eq persons.new.keys }
     ensures spare { members.spare persons.old ≤ members.spare persons.new + 1 }
     ensures err { OnErr result (persons.new ≡ persons.old) }
     ensures lent { OnErr result (IsLent person.entry) }
 {
+    if let Some(number) = known {
+        return Ok(number);
+    }
     match person {
         Given::Nobody => Ok(None),
         Given::Own(id) => Ok(Some(keep_person(persons, id))),
         Given::Lent(id) => {
-            if let Some((number, _)) = persons.get_full(id) {
-                return Ok(Some(number));
-            }
             let copy = id.copy()?;
             Ok(Some(keep_person(persons, copy)))
         }
@@ -90,13 +84,17 @@ fn keep_person(persons: &mut IndexSet<Id>, id: Id) -> usize
     number
 }
 
-/// Writes the cell of the key with these numbers, and gives its slot.
+/// Writes the cell of the key with these numbers, which has the slot where it has one, and gives
+/// its slot.
 pub(crate) fn write_cell(
     cells: &mut IndexMap<KeyNumber, Cell>,
+    slot: Option<usize>,
     number: KeyNumber,
     cell: Cell,
 ) -> usize
-    requires { 0 < by_key.spare cells.old }
+    requires spare { 0 < by_key.spare cells.old }
+    requires slot { IfSome slot (λ at. slot_in cells.old.entries number.uri (Some number.person)
+        ≡ Some at) }
     ensures entries { cells.new.entries
         ≡ by_key.insert_entry same_number cells.old.entries number cell }
     ensures slot { result ≡ position_or_len (same_number number) (keys_of cells.old.entries) }
@@ -104,6 +102,10 @@ pub(crate) fn write_cell(
     ensures count { length cells.new.entries ≤ length cells.old.entries + 1 }
     ensures spare { by_key.spare cells.old ≤ by_key.spare cells.new + 1 }
 {
+    if let Some(slot) = slot {
+        cells[slot] = cell;
+        return slot;
+    }
     let Ok((slot, _)) = cells.insert_full(number, cell) else {
         unreachable!();
     };

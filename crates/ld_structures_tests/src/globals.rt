@@ -272,6 +272,80 @@ fn keeps_number<L: Ledger>(
     first == Ok(Some(value)) && second == first && hint < 3 && id.hint() == hint
 }
 
+#[test]
+fn uris_in_any_order(rt: HostRuntime) -> Result<(), Fail> {
+    in_any_order::<Brand>(rt.alloc(), Blank::new(1))
+}
+
+fn in_any_order<L: Ledger>(alloc: Global, blank: Blank) -> Result<(), Fail>
+    requires name { blank.name ≡ L.name }
+    requires parts { blank.parts ≡ L.parts }
+    requires some { 0 < L.parts }
+{
+    let mut steps = Steps::<L>::new(blank);
+    let mut store = Globals::new(alloc);
+    for (uri, initial) in [("urn:a", "0"), ("urn:b", "1"), ("urn:long", "2")] {
+        let done = declare(
+            alloc,
+            &mut store,
+            uri,
+            GlobalKind::Glob,
+            Kind::Integer,
+            initial,
+        )?;
+        check(done == Ok(()), "a declaration")?;
+    }
+    let mut uris = Vec::new(alloc);
+    for uri in ["urn:long", "urn:b", "urn:x", "urn:a"] {
+        uris.push(Text::of(alloc, uri)?)?;
+    }
+    check(
+        find_in_turn(&store, uris.as_slice(), None, &mut steps),
+        "the initial values",
+    )?;
+    for uri in uris.as_slice() {
+        let done = store.set(uri, None, "5").is_ok();
+        check(done == wanted(uri, None).is_ok(), "setting 5")?;
+    }
+    check(
+        find_in_turn(&store, uris.as_slice(), Some(5), &mut steps),
+        "the value 5",
+    )
+}
+
+/// Whether each uri has its value, whichever uri was asked for before it.
+fn find_in_turn<L: Ledger>(
+    store: &Globals,
+    uris: &[Text],
+    written: Option<i64>,
+    steps: &mut Steps<L>,
+) -> bool {
+    for first in uris {
+        for second in uris {
+            for uri in [first, second] {
+                if number(store, uri, None, steps) != wanted(uri, written) {
+                    return false;
+                }
+            }
+        }
+    }
+    true
+}
+
+/// What the store should answer at the uri: what was written to all of them, or its initial value.
+fn wanted(uri: &Text, written: Option<i64>) -> Result<Option<i64>, GlobalFault> {
+    let initial = match uri.as_str() {
+        "urn:a" => 0,
+        "urn:b" => 1,
+        "urn:long" => 2,
+        _ => return Err(GlobalFault::UnknownGlobal),
+    };
+    match written {
+        Some(value) => Ok(Some(value)),
+        None => Ok(Some(initial)),
+    }
+}
+
 const PERSONS: [&str; 3] = ["ann", "bob", "cay"];
 
 const TEXTS: [&str; 3] = ["0", "1", "2"];

@@ -1,6 +1,4 @@
-use Rattle.std.proofs.Common.{◌≡◌, Ok, Err, option_map, option_copied, sym, ap, subst, ◌∙◌, is_some, true}
-use Rattle.std.proofs.lemmas.Map.Made.{lookup_key_passes}
-use Rattle.std.specs.Str.{bytes_eq}
+use Rattle.std.proofs.Common.{◌≡◌, Ok, Err, option_map, option_copied, refl, sym, ap, subst, ◌∙◌, is_some, true}
 use Rattle.ld_value.specs.Datum.{datum_of}
 use Rattle.ld_globals.specs.Declarations.{declaration_of, suits}
 use Rattle.ld_globals.specs.Kept.{store_of, write_of}
@@ -13,26 +11,22 @@ use Rattle.ld_globals.proofs.globals.Globals.get.Goals as goal
 
 pub returns-in_default-clause-answer : goal.returns-in_default-clause-answer
 returns-in_default-clause-answer g c = let s = c.self.inside in
-    subst (λ store. Err UnknownGlobal ≡ get_answer store (key_at c.args.uri.now.bytes (option_copied c.args.person))) c.self.view_is (get-unknown s.declared.entries s.persons.keys s.cells.entries s.stamp s.spare c.args.uri.now.bytes (option_copied c.args.person) (sym c.in_default.ensures.value))
+    subst (λ store. Err UnknownGlobal ≡ get_answer store (key_at c.args.uri.now.bytes (option_copied c.args.person))) c.self.view_is (get-unknown s.declared.entries s.persons.keys s.cells.entries s.stamp s.spare c.args.uri.now.bytes (option_copied c.args.person) (c.in_default.ensures.none refl))
 
 pub returns-then-not-suits-clause-answer : goal.returns-then-not-suits-clause-answer
 returns-then-not-suits-clause-answer g c =
     let s = c.self.inside in
     let d = c.in-Some.declared.now in
-    subst (λ store. Err NotAllowed ≡ get_answer store (key_at c.args.uri.now.bytes (option_copied c.args.person))) c.self.view_is (get-refused s.declared.entries s.persons.keys s.cells.entries s.stamp s.spare c.args.uri.now.bytes (option_copied c.args.person) d (sym c.in-Some.ensures.value) (ap (suits d.kind) (some-copied c.args.person) ∙ sym c.suits.ensures ∙ c.if-not-suits.true))
+    subst (λ store. Err NotAllowed ≡ get_answer store (key_at c.args.uri.now.bytes (option_copied c.args.person))) c.self.view_is (get-refused s.declared.entries s.persons.keys s.cells.entries s.stamp s.spare c.args.uri.now.bytes (option_copied c.args.person) d c.in-Some.ensures.some.value (ap (suits d.kind) (some-copied c.args.person) ∙ sym c.suits.ensures ∙ c.if-not-suits.true))
 
 pub find_cell-requires-clause-declared : goal.find_cell-requires-clause-declared
-find_cell-requires-clause-declared g c = record {
-  entry = (c.in-Some.field-0-1.now, c.in-Some.declared.now);
-  there = c.in-Some.ensures.entry;
-  same = lookup_key_passes (λ k. bytes_eq c.args.uri.now.bytes k.bytes) c.self.inside.declared.entries c.in-Some.field-0-1.now (sym c.in-Some.ensures.key);
-}
+find_cell-requires-clause-declared g c = let found = c.in-Some.ensures.some in record { entry = (found.key, c.in-Some.declared.now); there = found.there; same = found.same }
 
 pub returns-in-Some-find_cell-clause-answer : goal.returns-in-Some-find_cell-clause-answer
 returns-in-Some-find_cell-clause-answer g c =
     let s = c.self.inside in
     let d = c.in-Some.declared.now in
-    let found = sym c.in-Some.ensures.value in
+    let found = c.in-Some.ensures.some.value in
     let allowed = get-allowed s.declared.entries s.persons.keys s.cells.entries s.stamp s.spare c.args.uri.now.bytes (option_copied c.args.person) d found (ap (suits d.kind) (some-copied c.args.person) ∙ sym c.suits.ensures ∙ c.if-not-suits.false) in
     let value = value-written s.declared.entries s.persons.keys s.cells.entries s.stamp s.spare c.args.uri.now.bytes (option_copied c.args.person) d found (write_of c.in-Some-find_cell.cell.now) (sym c.in-Some-find_cell.ensures) in
     subst (λ store. Ok (option_map (λ v. datum_of v.now) c.as_ref.result) ≡ get_answer store (key_at c.args.uri.now.bytes (option_copied c.args.person))) c.self.view_is (ap Ok (copied datum_of c.as_ref.result ∙ ap (option_map datum_of) c.as_ref.ensures.value ∙ sym value) ∙ sym allowed)
@@ -41,7 +35,7 @@ pub returns-in-None-clause-answer : goal.returns-in-None-clause-answer
 returns-in-None-clause-answer g c =
     let s = c.self.inside in
     let d = c.in-Some.declared.now in
-    let found = sym c.in-Some.ensures.value in
+    let found = c.in-Some.ensures.some.value in
     let allowed = get-allowed s.declared.entries s.persons.keys s.cells.entries s.stamp s.spare c.args.uri.now.bytes (option_copied c.args.person) d found (ap (suits d.kind) (some-copied c.args.person) ∙ sym c.suits.ensures ∙ c.if-not-suits.false) in
     let value = value-initial s.declared.entries s.persons.keys s.cells.entries s.stamp s.spare c.args.uri.now.bytes (option_copied c.args.person) d found (sym c.in-None.ensures) in
     subst (λ store. Ok (option_map (λ v. datum_of v.now) c.as_ref-in-None.result) ≡ get_answer store (key_at c.args.uri.now.bytes (option_copied c.args.person))) c.self.view_is (ap Ok (copied datum_of c.as_ref-in-None.result ∙ ap (option_map datum_of) c.as_ref-in-None.ensures.value ∙ sym value) ∙ sym allowed)
@@ -50,7 +44,7 @@ pub returns-in-Some-find_cell-clause-writable : goal.returns-in-Some-find_cell-c
 returns-in-Some-find_cell-clause-writable g c =
     let s = c.self.inside in
     let d = c.in-Some.declared.now in
-    let found = sym c.in-Some.ensures.value in
+    let found = c.in-Some.ensures.some.value in
     let key = key_at c.args.uri.now.bytes (option_copied c.args.person) in
     let store = store_of s.declared.entries s.persons.keys s.cells.entries s.stamp s.spare in
     let right : suits d.kind (is_some (option_copied c.args.person)) ≡ true = ap (suits d.kind) (some-copied c.args.person) ∙ sym c.suits.ensures ∙ c.if-not-suits.false in
@@ -63,7 +57,7 @@ pub returns-in-None-clause-writable : goal.returns-in-None-clause-writable
 returns-in-None-clause-writable g c =
     let s = c.self.inside in
     let d = c.in-Some.declared.now in
-    let found = sym c.in-Some.ensures.value in
+    let found = c.in-Some.ensures.some.value in
     let key = key_at c.args.uri.now.bytes (option_copied c.args.person) in
     let store = store_of s.declared.entries s.persons.keys s.cells.entries s.stamp s.spare in
     let right : suits d.kind (is_some (option_copied c.args.person)) ≡ true = ap (suits d.kind) (some-copied c.args.person) ∙ sym c.suits.ensures ∙ c.if-not-suits.false in

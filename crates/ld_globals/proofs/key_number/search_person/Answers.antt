@@ -2,7 +2,7 @@ use Rattle.std.proofs.Common.{sym, ap, ◌∙◌, is_some}
 use Rattle.std.specs.Cmp.Lexicographic.{bytes_decides}
 use Rattle.std.specs.Str.{bytes_eq}
 use Rattle.ld_globals.proofs.Looked.{find-passes, none-passes}
-use Rattle.ld_globals.proofs.key_number.number_of.Goals as goal
+use Rattle.ld_globals.proofs.key_number.search_person.Goals as goal
 
 pub returns-in_err-number-clause-none : goal.returns-in_err-number-clause-none
 returns-in_err-number-clause-none c =
