@@ -15,19 +15,19 @@ pub(crate) fn has_form(bytes: &[u8]) -> bool
     follows(b"0000-00-00T00:00:00Z", bytes)
 }
 
-/// Whether the bytes follow the pattern, in which `0` stands for any digit.
+/// Whether the bytes follow the pattern, in which `0` stands for any digit. Every byte is looked
+/// at: without a way out of the loop it becomes a few comparisons of many bytes at once.
 fn follows(pattern: &[u8], bytes: &[u8]) -> bool
     ensures { result ≡ spec_follows pattern.now bytes.now }
 {
     if bytes.len() != pattern.len() {
         return false;
     }
+    let mut follows = true;
     for i in 0..pattern.len() {
-        if !stands_for(pattern[i], bytes[i]) {
-            return false;
-        }
+        follows &= stands_for(pattern[i], bytes[i]);
     }
-    true
+    follows
 }
 
 /// Whether the byte of a pattern stands for this byte.
