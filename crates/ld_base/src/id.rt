@@ -85,12 +85,13 @@ impl Id {
         self.text.as_str()
     }
 
-    /// The same identifier once more.
+    /// The same identifier once more, with the same hint.
     pub fn copy(&self) -> Result<Id, NoMemory>
         ensures { IfOk result (λ id. id ≡ self.now) }
     {
         let text = self.text.clone()?;
-        Ok(Id::of(text))
+        let hint = Cell::new(self.hint.get());
+        Ok(Id { text, hint })
     }
 }
 
