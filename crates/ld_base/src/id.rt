@@ -119,6 +119,18 @@ impl Hash for Id {
     }
 }
 
+/// Of each byte: 2 where an identifier may begin with it, 1 where it may only go on with it, else 0.
+const KINDS: [u8; 256] = [
+    0, 0, 0, 0, 0, 0, 0, 0, 0, 0, 0, 0, 0, 0, 0, 0, 0, 0, 0, 0, 0, 0, 0, 0, 0, 0, 0, 0, 0, 0, 0, 0,
+    0, 0, 0, 0, 0, 0, 0, 0, 0, 0, 0, 0, 0, 1, 1, 0, 1, 1, 1, 1, 1, 1, 1, 1, 1, 1, 0, 0, 0, 0, 0, 0,
+    0, 2, 2, 2, 2, 2, 2, 2, 2, 2, 2, 2, 2, 2, 2, 2, 2, 2, 2, 2, 2, 2, 2, 2, 2, 2, 2, 0, 0, 0, 0, 2,
+    0, 2, 2, 2, 2, 2, 2, 2, 2, 2, 2, 2, 2, 2, 2, 2, 2, 2, 2, 2, 2, 2, 2, 2, 2, 2, 2, 0, 0, 0, 0, 0,
+    0, 0, 0, 0, 0, 0, 0, 0, 0, 0, 0, 0, 0, 0, 0, 0, 0, 0, 0, 0, 0, 0, 0, 0, 0, 0, 0, 0, 0, 0, 0, 0,
+    0, 0, 0, 0, 0, 0, 0, 0, 0, 0, 0, 0, 0, 0, 0, 0, 0, 0, 0, 0, 0, 0, 0, 0, 0, 0, 0, 0, 0, 0, 0, 0,
+    0, 0, 0, 0, 0, 0, 0, 0, 0, 0, 0, 0, 0, 0, 0, 0, 0, 0, 0, 0, 0, 0, 0, 0, 0, 0, 0, 0, 0, 0, 0, 0,
+    0, 0, 0, 0, 0, 0, 0, 0, 0, 0, 0, 0, 0, 0, 0, 0, 0, 0, 0, 0, 0, 0, 0, 0, 0, 0, 0, 0, 0, 0, 0, 0,
+];
+
 /// Whether the bytes have the form of an identifier.
 fn has_form(bytes: &[u8]) -> bool
     ensures { result ≡ has_identifier_form bytes.now }
@@ -158,12 +170,12 @@ fn begins_form(bytes: &[u8]) -> bool
 fn begins(b: u8) -> bool
     ensures { result ≡ begins_identifier b }
 {
-    b.is_ascii_alphabetic() || b == b'_'
+    KINDS[b as usize] == 2
 }
 
 /// Whether an identifier may go on with this character.
 fn continues(b: u8) -> bool
     ensures { result ≡ continues_identifier b }
 {
-    b.is_ascii_alphanumeric() || b == b'_' || b == b'-' || b == b'.'
+    KINDS[b as usize] != 0
 }
