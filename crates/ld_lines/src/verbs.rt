@@ -3,7 +3,7 @@
 
 ghost use Rattle.std.specs.Prelude.{◌≡◌, Some, None, IfOk, Err, IsTrue, codes, false};
 ghost use Rattle.std.specs.Str.{bytes_eq};
-ghost use Rattle.ld_lines.specs.Commands.{command_of_verb, property_command, showing_command, line_of_verb, line_in};
+ghost use Rattle.ld_lines.specs.Commands.{command_of_verb, showing_command, line_of_verb, line_in};
 ghost use Rattle.ld_lines.specs.Elements.{left_of, ReadsForm};
 ghost use Rattle.ld_lines.specs.LineMoment.{moment_of_line};
 ghost use Rattle.ld_value.specs.Calendar.{IsMoment};
@@ -61,7 +61,8 @@ fn read_create(moment: Moment, words: &mut Words<'_>) -> Result<Line, LineFault>
 
 /// The line of the verb `global-set`.
 fn read_global_set(moment: Moment, words: &mut Words<'_>) -> Result<Line, LineFault>
-    ensures reads { ReadsForm (line_of_verb moment (codes "global-set")) words.old result words.new }
+    ensures reads { ReadsForm
+        (line_of_verb moment (codes "global-set")) words.old result words.new }
     ensures moment { IfOk result (λ line. moment_of_line line ≡ moment) }
 {
     Ok(Line::GlobalSet {
@@ -74,7 +75,8 @@ fn read_global_set(moment: Moment, words: &mut Words<'_>) -> Result<Line, LineFa
 
 /// The line of the verb `global-get`.
 fn read_global_get(moment: Moment, words: &mut Words<'_>) -> Result<Line, LineFault>
-    ensures reads { ReadsForm (line_of_verb moment (codes "global-get")) words.old result words.new }
+    ensures reads { ReadsForm
+        (line_of_verb moment (codes "global-get")) words.old result words.new }
     ensures moment { IfOk result (λ line. moment_of_line line ≡ moment) }
 {
     Ok(Line::GlobalGet {
