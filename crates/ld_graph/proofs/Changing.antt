@@ -8,7 +8,7 @@ use Rattle.ld_graph.specs.Edges.{Edges, IsLinked, Changes, edge_room}
 
 -- nothing changes
 pub changes_none : (g : Edges) (site : ℕ) → Changes g g site
-changes_none g site = record { row = get_or g.rows site []; rows = sym (set-get_or g.rows site []); slots = refl; balance = refl }
+changes_none g site = record { row = get_or g.rows site []; rows = sym (set-get_or g.rows site []); slots = refl; opened = refl; balance = refl }
 
 pub changes_range : {old new : Edges} {site : ℕ} → Changes old new site → length new.rows ≡ length old.rows
 changes_range {old} {new} {site} c = ap (λ (x : List (List ℕ)). length x) c.rows ∙ length-set old.rows site c.row
@@ -36,6 +36,7 @@ changes_then {a} {b} {c} {site} p q lt = record {
   row = q.row;
   rows = q.rows ∙ (ap (λ (x : List (List ℕ)). set x site q.row) p.rows ∙ set-set a.rows site p.row q.row);
   slots = q.slots ∙ p.slots;
+  opened = q.opened ∙ p.opened;
   balance = let m = changes_balance p lt in let n = q.balance in omega arith;
 }
 
@@ -91,20 +92,22 @@ pub record EmptyBelow (old new : Edges) (count : ℕ) : Type 0 where
   pub below : (i : ℕ) → i < count → get_or new.rows i [] ≡ []
   pub range : length new.rows ≡ length old.rows
   pub slots : new.slots ≡ old.slots
+  pub opened : new.opened ≡ old.opened
   pub room : edge_room new ≡ edge_room old
 
 pub empty_none : (g : Edges) → EmptyBelow g g 0
-empty_none g = record { below = λ i lt. absurd (omega arith); range = refl; slots = refl; room = refl }
+empty_none g = record { below = λ i lt. absurd (omega arith); range = refl; slots = refl; opened = refl; room = refl }
 
 pub empty_more : {old new new' : Edges} {count : ℕ} → EmptyBelow old new count → get_or new'.rows count [] ≡ []
     → ((i : ℕ) → i ≢ count → get_or new'.rows i [] ≡ get_or new.rows i []) → length new'.rows ≡ length new.rows
-    → new'.slots ≡ new.slots → edge_room new' ≡ edge_room new → EmptyBelow old new' (count + 1)
-empty_more {old} {new} {new'} {count} e here others range slots room = record {
+    → new'.slots ≡ new.slots → new'.opened ≡ new.opened → edge_room new' ≡ edge_room new → EmptyBelow old new' (count + 1)
+empty_more {old} {new} {new'} {count} e here others range slots opened room = record {
   below = λ i lt. elim (cases_eq i count) [
     | inl q ↦ ap (λ (x : ℕ). get_or new'.rows x []) q ∙ here
     | inr ne ↦ others i ne ∙ e.below i (omega arith)
   ];
   range = range ∙ e.range;
   slots = slots ∙ e.slots;
+  opened = opened ∙ e.opened;
   room = room ∙ e.room;
 }

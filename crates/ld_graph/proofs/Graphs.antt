@@ -1,4 +1,4 @@
-use Rattle.std.proofs.Common.{◌≡◌, ◌≢◌, ℕ, ◌+◌, ◌<◌, ◌≤◌, ◌⊎◌, inl, inr, List, [], ◌∷◌, ◌++◌, length, get_or, set, map, Contains, refl, sym, ◌∙◌, ap, subst, arith}
+use Rattle.std.proofs.Common.{◌≡◌, ◌≢◌, ℕ, Bool, ◌+◌, ◌<◌, ◌≤◌, ◌⊎◌, inl, inr, List, [], ◌∷◌, ◌++◌, length, get_or, set, map, Contains, refl, sym, ◌∙◌, ap, subst, arith}
 use Rattle.std.proofs.lemmas.Bool.{cases_eq}
 use Rattle.std.proofs.lemmas.List.{get_or-set_same, get_or-set_other, length-set, get_or_default, get_or-map, length-map}
 use Rattle.ld_graph.specs.declared.edge.Edge.{Edge}
@@ -9,11 +9,11 @@ use Rattle.ld_graph.proofs.Chains.{among_split, follows_within, forget, prior_in
 use Rattle.ld_graph.proofs.Linking.{site_edge, free_edge, free_first_is, linkage_less, linkage_more}
 use Rattle.ld_graph.proofs.Rowed.{among_contains, contains_among, row_edge, edge_row, row_kept, row_less, row_more, rows_at, rows_length, rows_set, free_less, free_more, free_some}
 
-pub seen_sites : (edges : List Edge) (sites slots spare : ℕ) (g : Edges) → seen edges sites slots spare ≡ g → length g.rows ≡ sites
+pub seen_sites : {opened : List Bool} (edges : List Edge) (sites slots spare : ℕ) (g : Edges) → seen edges sites slots spare opened ≡ g → length g.rows ≡ sites
 seen_sites edges sites slots spare g is =
     ap (λ (x : Edges). length x.rows) (sym is) ∙ rows_length (slots_of edges) (edge_sites edges) sites
 
-pub seen_row : (edges : List Edge) (sites slots spare : ℕ) (g : Edges) → seen edges sites slots spare ≡ g → (i : ℕ) → i < sites
+pub seen_row : {opened : List Bool} (edges : List Edge) (sites slots spare : ℕ) (g : Edges) → seen edges sites slots spare opened ≡ g → (i : ℕ) → i < sites
     → get_or g.rows i [] ≡ slots_of_site (slots_of edges) (edge_sites edges) i
 seen_row edges sites slots spare g is i lt =
     ap (λ (x : Edges). get_or x.rows i []) (sym is) ∙ rows_at (slots_of edges) (edge_sites edges) sites i lt
@@ -169,8 +169,8 @@ module _ {edges : List Edge} {firsts site_firsts : List ℕ} {free spare : ℕ} 
         (let there = first_there.0 in omega (arith, length-map edges (λ (e : Edge). e.site)))
         first_there.1 (λ q. let a = g.linked.sites_fit in omega arith))
 
-    pub changes_less : (old : Edges) → seen edges (length site_firsts) (length firsts) spare ≡ old
-        → Changes old (seen edges'' (length (set site_firsts site edge.site_next)) (length firsts') (spare + 1)) site
+    pub changes_less : {opened : List Bool} (old : Edges) → seen edges (length site_firsts) (length firsts) spare opened ≡ old
+        → Changes old (seen edges'' (length (set site_firsts site edge.site_next)) (length firsts') (spare + 1) opened) site
     changes_less old view =
         let fit = g.linked.sites_fit in
         record {
@@ -183,6 +183,7 @@ module _ {edges : List Edge} {firsts site_firsts : List ℕ} {free spare : ℕ} 
               ∙ row_kept (slots_of edges) (edge_sites edges) first none_at none_at j (λ q. ne (sym q ∙ first_there.1)) (λ q. omega arith)))
               ∙ ap (λ (x : Edges). set x.rows site (slots_of_site (slots_of edges'') (edge_sites edges'') site)) view);
           slots = firsts_same ∙ ap (λ (x : Edges). x.slots) view;
+          opened = ap (λ (x : Edges). x.opened) view;
           balance =
               let r = seen_row edges (length site_firsts) (length firsts) spare old view site lt in
               let m = ap (λ (z : List ℕ). length z) r in
@@ -191,7 +192,7 @@ module _ {edges : List Edge} {firsts site_firsts : List ℕ} {free spare : ℕ} 
               omega arith;
         }
 
-    pub less_by_one : (old : Edges) → seen edges (length site_firsts) (length firsts) spare ≡ old
+    pub less_by_one : {opened : List Bool} (old : Edges) → seen edges (length site_firsts) (length firsts) spare opened ≡ old
         → length (get_or (rows_of (slots_of edges'') (edge_sites edges'') (length (set site_firsts site edge.site_next))) site []) + 1 ≡ length (get_or old.rows site [])
     less_by_one old view =
         let r = ap (λ (z : List ℕ). length z) (seen_row edges (length site_firsts) (length firsts) spare old view site lt) in
@@ -253,8 +254,8 @@ module _ {edges : List Edge} {firsts site_firsts : List ℕ} {free spare : ℕ} 
         ∙ row_more (slots_of edges) (edge_sites edges) free slot site site slots_there sites_there
         (λ q. let a = free_is.1 in let b = g.linked.sites_fit in omega arith) refl)
 
-    pub changes_more : (old : Edges) → seen edges (length site_firsts) (length firsts) spare ≡ old
-        → Changes old (seen edges'' (length (set site_firsts site free)) (length (set firsts slot free)) spare') site
+    pub changes_more : {opened : List Bool} (old : Edges) → seen edges (length site_firsts) (length firsts) spare opened ≡ old
+        → Changes old (seen edges'' (length (set site_firsts site free)) (length (set firsts slot free)) spare' opened) site
     changes_more old view =
         let fit = g.linked.sites_fit in
         record {
@@ -267,6 +268,7 @@ module _ {edges : List Edge} {firsts site_firsts : List ℕ} {free spare : ℕ} 
               ∙ row_kept (slots_of edges) (edge_sites edges) free slot site j (λ q. let a = free_is.1 in omega arith) (λ q. ne (sym q))))
               ∙ ap (λ (x : Edges). set x.rows site (slots_of_site (slots_of edges'') (edge_sites edges'') site)) view);
           slots = length-set firsts slot free ∙ ap (λ (x : Edges). x.slots) view;
+          opened = ap (λ (x : Edges). x.opened) view;
           balance =
               let m = ap (λ (z : List ℕ). length z) (seen_row edges (length site_firsts) (length firsts) spare old view site lt) in
               let s = ap (λ (x : Edges). x.spare) view in
@@ -277,7 +279,7 @@ module _ {edges : List Edge} {firsts site_firsts : List ℕ} {free spare : ℕ} 
     row_there : get_or (rows_of (slots_of edges'') (edge_sites edges'') (length (set site_firsts site free))) site [] ≡ slots_of_site (slots_of edges'') (edge_sites edges'') site
     row_there = rows_at (slots_of edges'') (edge_sites edges'') (length (set site_firsts site free)) site (omega (arith, length-set site_firsts site free))
 
-    pub more_by_one : (old : Edges) → seen edges (length site_firsts) (length firsts) spare ≡ old
+    pub more_by_one : {opened : List Bool} (old : Edges) → seen edges (length site_firsts) (length firsts) spare opened ≡ old
         → length (get_or (rows_of (slots_of edges'') (edge_sites edges'') (length (set site_firsts site free))) site []) ≡ length (get_or old.rows site []) + 1
     more_by_one old view =
         let m = ap (λ (z : List ℕ). length z) (seen_row edges (length site_firsts) (length firsts) spare old view site lt) in
@@ -297,7 +299,7 @@ module _ {edges : List Edge} {firsts site_firsts : List ℕ} {free spare : ℕ} 
     sites_long : length (edge_sites edges'') ≡ length (edge_sites edges)
     sites_long = ap (λ (z : List ℕ). length z) sites_more ∙ length-set (edge_sites edges) free site
 
-    pub own_row : (old : Edges) → seen edges (length site_firsts) (length firsts) spare ≡ old → (k : ℕ)
+    pub own_row : {opened : List Bool} (old : Edges) → seen edges (length site_firsts) (length firsts) spare opened ≡ old → (k : ℕ)
         → (Contains (get_or (rows_of (slots_of edges'') (edge_sites edges'') (length (set site_firsts site free))) site []) k → (k ≡ slot) ⊎ IsLinked old k site)
         × ((k ≡ slot) ⊎ IsLinked old k site → Contains (get_or (rows_of (slots_of edges'') (edge_sites edges'') (length (set site_firsts site free))) site []) k)
     own_row old view k =
@@ -334,7 +336,7 @@ module _ {edges : List Edge} {firsts site_firsts : List ℕ} {free spare : ℕ} 
         )
 
 -- a pair that is no edge
-pub no_edge : (edges : List Edge) (sites slots spare : ℕ) (old : Edges) → seen edges sites slots spare ≡ old → (slot site : ℕ) → site < sites
+pub no_edge : {opened : List Bool} (edges : List Edge) (sites slots spare : ℕ) (old : Edges) → seen edges sites slots spare opened ≡ old → (slot site : ℕ) → site < sites
     → (IsLinked old slot site → ⊥) → (h : ℕ) → h < length (slots_of edges) → get_or (slots_of edges) h none_at ≡ slot → get_or (edge_sites edges) h none_at ≡ site → ⊥
 no_edge edges sites slots spare old view slot site lt new h within slot_is site_is =
     new (subst (λ (z : List ℕ). Contains z slot) (sym (seen_row edges sites slots spare old view site lt))

@@ -1,9 +1,10 @@
-use Rattle.std.proofs.Common.{◌≡◌, ◌≢◌, ℕ, zero, suc, ◌+◌, ◌-◌, ◌<◌, ◌≤◌, inl, inr, cond, eqb, List, [], ◌∷◌, ◌++◌, length, get_or, replicate, sum_by, refl, sym, ◌∙◌, ap, subst, arith}
+use Rattle.std.proofs.Common.{◌≡◌, ◌≢◌, ℕ, Bool, true, zero, suc, ◌+◌, ◌-◌, ◌<◌, ◌≤◌, inl, inr, cond, eqb, List, [], ◌∷◌, ◌++◌, length, get_or, replicate, sum_by, refl, sym, ◌∙◌, ap, subst, arith}
 use Rattle.std.proofs.lemmas.Bool.{cases_eq, cases_lt}
 use Rattle.std.proofs.lemmas.List.{get_or_past, get_or_default, get_or_append_left, get_or-append_right, get_or_push, get_or-replicate, length-replicate, length_push, length-append, length-map, map_push}
 use Rattle.std.proofs.lemmas.List.FromFn.{sum_by-map-range_with_len_more}
 use Rattle.ld_graph.specs.declared.edge.Edge.{Edge}
-use Rattle.ld_graph.specs.Edges.{Edges, Grows}
+use Rattle.ld_graph.specs.Table.{has}
+use Rattle.ld_graph.specs.Edges.{Edges, IsOpen, Grows}
 use Rattle.ld_graph.specs.Linked.{none_at, Among, Follows, FollowsBack, AreKeyed, LeadsThrough, LeadsBackThrough, Linkage, slots_of_site, rows_of, free_count}
 use Rattle.ld_graph.specs.Columns.{slots_of, edge_sites, nexts_of, befores_of, site_nexts_of, IsGraph}
 use Rattle.ld_graph.proofs.Chains.{follows_within, forget}
@@ -236,7 +237,7 @@ pairs_more slots sites count (suc more) none =
 
 -- nothing grows
 pub grows_none : (g : Edges) → Grows g g
-grows_none g = record { rows = λ i. refl; sites = omega arith; slots = omega arith; spare = omega arith; pairs = refl }
+grows_none g = record { rows = λ i. refl; sites = omega arith; slots = omega arith; spare = omega arith; pairs = refl; opened = λ i is_open. is_open }
 
 pub grows_then : {a b c : Edges} → Grows a b → Grows b c → Grows a c
 grows_then p q = record {
@@ -245,20 +246,23 @@ grows_then p q = record {
   slots = let x = p.slots in let y = q.slots in omega arith;
   spare = let x = p.spare in let y = q.spare in omega arith;
   pairs = q.pairs ∙ p.pairs;
+  opened = λ i is_open. q.opened i (p.opened i is_open);
 }
 
 -- more slots are in range
 pub grows_slots : (g : Edges) (more : ℕ) → g.slots ≤ more → Grows g (record g { slots = more })
-grows_slots g more le = record { rows = λ i. refl; sites = omega arith; slots = le; spare = omega arith; pairs = refl }
+grows_slots g more le = record { rows = λ i. refl; sites = omega arith; slots = le; spare = omega arith; pairs = refl; opened = λ i is_open. is_open }
 
--- more edges are free
-pub grows_spare : (old new : Edges) → new.rows ≡ old.rows → new.slots ≡ old.slots → old.spare ≤ new.spare → Grows old new
-grows_spare old new rows slots spare = record {
+-- the rows stay, more edges may be free and more sites open
+pub grows_spare : (old new : Edges) → new.rows ≡ old.rows → new.slots ≡ old.slots → old.spare ≤ new.spare
+    → ((i : ℕ) → IsOpen old i → IsOpen new i) → Grows old new
+grows_spare old new rows slots spare opened = record {
   rows = λ i. ap (λ (x : List (List ℕ)). get_or x i []) rows;
   sites = let e = ap (λ (x : List (List ℕ)). length x) rows in omega arith;
   slots = omega arith;
   spare = spare;
   pairs = ap (λ (x : List (List ℕ)). sum_by length x) rows;
+  opened = opened;
 }
 
 module _ {edges : List Edge} {firsts site_firsts : List ℕ} {free spare : ℕ} (g : IsGraph edges firsts site_firsts free spare) where
@@ -269,9 +273,9 @@ module _ {edges : List Edge} {firsts site_firsts : List ℕ} {free spare : ℕ} 
   graph_sites more fits = record { linked = linkage_sites g.linked more fits; spare_is = g.spare_is }
 
   -- more sites are in range
-  pub grows_sites : (old : Edges) → seen edges (length site_firsts) (length firsts) spare ≡ old → (more : ℕ) → length site_firsts + more ≤ none_at
-      → Grows old (seen edges (length site_firsts + more) (length firsts) spare)
-  grows_sites old view more fits = record {
+  pub grows_sites : {opened opened' : List Bool} (old : Edges) → seen edges (length site_firsts) (length firsts) spare opened ≡ old → (more : ℕ) → length site_firsts + more ≤ none_at
+      → ((i : ℕ) → has opened i ≡ true → has opened' i ≡ true) → Grows old (seen edges (length site_firsts + more) (length firsts) spare opened')
+  grows_sites old view more fits opens = record {
     rows = λ i. elim (cases_lt i (length site_firsts)) [
       | inl lt ↦ rows_at (slots_of edges) (edge_sites edges) (length site_firsts + more) i (omega arith)
           ∙ (sym (rows_at (slots_of edges) (edge_sites edges) (length site_firsts) i lt) ∙ ap (λ (x : Edges). get_or x.rows i []) view)
@@ -290,6 +294,7 @@ module _ {edges : List Edge} {firsts site_firsts : List ℕ} {free spare : ℕ} 
     spare = let e = ap (λ (x : Edges). x.spare) view in omega arith;
     pairs = pairs_more (slots_of edges) (edge_sites edges) (length site_firsts) more (λ i le lt. row_beyond g.linked i le (omega arith))
         ∙ ap (λ (x : Edges). sum_by length x.rows) view;
+    opened = λ i is_open. opens i (ap (λ (x : Edges). has x.opened i) view ∙ is_open);
   }
 
   -- one more edge is free

@@ -11,3 +11,4 @@ pub mod Changing
 pub mod Meeting
 pub mod Tables
 pub mod Growing
+pub mod Pages

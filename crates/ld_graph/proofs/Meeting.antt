@@ -1,4 +1,4 @@
-use Rattle.std.proofs.Common.{◌≡◌, ◌≢◌, ◌-◌, ℕ, zero, suc, ◌<◌, ◌≤◌, inl, inr, true, false, eqb, ltb, List, [], ◌∷◌, length, get_or, map, Contains, All, refl, sym, ◌∙◌, ap, subst, arith}
+use Rattle.std.proofs.Common.{◌≡◌, ◌≢◌, ◌-◌, ℕ, Bool, zero, suc, ◌<◌, ◌≤◌, inl, inr, true, false, eqb, ltb, List, [], ◌∷◌, length, get_or, map, Contains, All, refl, sym, ◌∙◌, ap, subst, arith}
 use Rattle.std.proofs.lemmas.Bool.{cases_lt, cases_eq, cond-true, cond-false, lt-ltb, le-ltb, or_cases, eqb-true, ne_eqb}
 use Rattle.std.proofs.lemmas.List.{length-map, get_or-map, get_or_past}
 use Rattle.std.proofs.lemmas.List.Elements.{All-from_get_or}
@@ -106,7 +106,7 @@ pub record AreReaders (old : Edges) (slot : ℕ) (sites : List ℕ) : Type 0 whe
   pub within : All (λ i. i < length old.rows) sites
 
 pub readers_met : {edges : List Edge} {firsts site_firsts : List ℕ} {free spare : ℕ} → IsGraph edges firsts site_firsts free spare
-    → (old : Edges) → seen edges (length site_firsts) (length firsts) spare ≡ old → (slot : ℕ) → slot < length firsts → (at left : ℕ)
+    → {opened : List Bool} (old : Edges) → seen edges (length site_firsts) (length firsts) spare opened ≡ old → (slot : ℕ) → slot < length firsts → (at left : ℕ)
     → get_or firsts slot none_at ≡ at → left ≡ length edges
     → AreReaders old slot (map (λ e. get_or (edge_sites edges) e none_at) (walk left (nexts_of edges) at))
 readers_met {edges} {firsts} {site_firsts} {free} {spare} g old view slot lt at left at_is left_is =
@@ -185,7 +185,7 @@ row_fresh (s ∷ slots) (t ∷ sites) i once =
 
 -- what is true of every graph
 pub row_distinct : {edges : List Edge} {firsts site_firsts : List ℕ} {free spare : ℕ} → IsGraph edges firsts site_firsts free spare
-    → (old : Edges) → seen edges (length site_firsts) (length firsts) spare ≡ old → (i : ℕ) → AreDistinct (get_or old.rows i [])
+    → {opened : List Bool} (old : Edges) → seen edges (length site_firsts) (length firsts) spare opened ≡ old → (i : ℕ) → AreDistinct (get_or old.rows i [])
 row_distinct {edges} {firsts} {site_firsts} {free} {spare} g old view i = elim (cases_lt i (length site_firsts)) [
   | inl lt ↦ subst AreDistinct (sym (seen_row edges (length site_firsts) (length firsts) spare old view i lt))
       (fresh_places (slots_of_site (slots_of edges) (edge_sites edges) i) (row_fresh (slots_of edges) (edge_sites edges) i
@@ -195,7 +195,7 @@ row_distinct {edges} {firsts} {site_firsts} {free} {spare} g old view i = elim (
 ]
 
 pub linked_slot : {edges : List Edge} {firsts site_firsts : List ℕ} {free spare : ℕ} → IsGraph edges firsts site_firsts free spare
-    → (old : Edges) → seen edges (length site_firsts) (length firsts) spare ≡ old → (k i : ℕ) → IsLinked old k i → k < old.slots
+    → {opened : List Bool} (old : Edges) → seen edges (length site_firsts) (length firsts) spare opened ≡ old → (k i : ℕ) → IsLinked old k i → k < old.slots
 linked_slot {edges} {firsts} {site_firsts} {free} {spare} g old view k i linked =
     let n = seen_sites edges (length site_firsts) (length firsts) spare old view in
     let lt : i < length site_firsts = linked_within old k i (length site_firsts) linked n in

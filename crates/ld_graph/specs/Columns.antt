@@ -1,4 +1,4 @@
-use Rattle.std.specs.Prelude.{◌≡◌, ℕ, List, map, set}
+use Rattle.std.specs.Prelude.{◌≡◌, ℕ, Bool, List, map, set}
 use Rattle.ld_graph.specs.declared.edge.Edge.{Edge}
 use Rattle.ld_graph.specs.Linked.{none_at, rows_of, Linkage, free_count}
 use Rattle.ld_graph.specs.Edges.{Edges}
@@ -31,9 +31,10 @@ pub record HaveColumns (edges : List Edge) (slots sites nexts befores site_nexts
   pub befores_are : befores_of edges ≡ befores
   pub site_nexts_are : site_nexts_of edges ≡ site_nexts
 
--- what callers see of edges, so many sites, so many slots and a number of free edges
-abbrev pub seen : List Edge → ℕ → ℕ → ℕ → Edges
-seen edges sites slots spare = record { rows = rows_of (slots_of edges) (edge_sites edges) sites; slots = slots; spare = spare }
+-- what callers see of edges, so many sites, so many slots, a number of free edges and the sites that are open
+abbrev pub seen : List Edge → ℕ → ℕ → ℕ → List Bool → Edges
+seen edges sites slots spare opened =
+    record { rows = rows_of (slots_of edges) (edge_sites edges) sites; slots = slots; spare = spare; opened = opened }
 
 -- edges that are linked, with the first of each slot, of each site and of the free ones, and the number of these
 pub record IsGraph (edges : List Edge) (firsts site_firsts : List ℕ) (free spare : ℕ) : Type 0 where

@@ -4,5 +4,6 @@ pub mod Slots
 pub mod Words
 pub mod Buckets
 pub mod Linked
+pub mod Paged
 pub mod Columns
 pub mod Readings

@@ -1,11 +1,12 @@
 //! A set of pairs of a slot and a site.
 ghost use Rattle.std.specs.Prelude.{◌≡◌, ◌≢◌, ℕ, ◌+◌, ◌^◌, ◌<◌, ◌≤◌, ◌⊎◌, ◌↔◌, true, false, [], length, Contains, All, IfOk, OnErr};
 ghost use Rattle.ld_graph.specs.Slots.{AreDistinct};
-ghost use Rattle.ld_graph.specs.Edges.{Edges, IsLinked, Changes, Grows, SameRange, row_at, edge_room};
+ghost use Rattle.ld_graph.specs.Edges.{Edges, IsLinked, Changes, Grows, SameRange, IsOpen, row_at, edge_room};
 ghost use Rattle.ld_graph.specs.Table.{has};
 
 use crate::dirty::Dirty;
 use crate::edge::{Edge, NONE, set_before, set_edge, set_free, set_next};
+use crate::firsts::Firsts;
 use crate::part::part;
 use crate::readers::{Readers, set_all};
 use crate::slots::SlotList;
@@ -19,13 +20,16 @@ use std::marker::Model;
 /// list of its site, which is only ever taken from its front and so is linked one way; the free
 /// ones stand in a list of their own. So to relink a site costs what its old and new edges are,
 /// whatever the others are, and takes no memory.
+///
+/// A site in range takes a quarter of a byte. Where its list begins stands in a page that it shares
+/// with fifteen other sites, and that `open` adds: a site is opened before it is linked first.
 #[derive(Drop)]
 pub struct Graph {
     edges: Vec<Edge>,
     // the first edge of each slot
     firsts: Vec<u32>,
     // the first edge of each site
-    site_firsts: Vec<u32>,
+    site_firsts: Firsts,
     // the first free edge
     free: u32,
     // how many edges are free
@@ -41,7 +45,7 @@ impl Model for Graph {
     ghost use Rattle.ld_graph.specs.Columns.{seen, IsGraph};
 
     ghost view = { λ g. seen g.edges.items (length g.site_firsts.items) (length g.firsts.items)
-        g.spare };
+        g.spare g.site_firsts.opened };
 
     ghost invariant = { λ g. IsGraph g.edges.items g.firsts.items g.site_firsts.items g.free
         g.spare };
@@ -57,7 +61,7 @@ impl Graph {
         Graph {
             edges: Vec::new(alloc),
             firsts: Vec::new(alloc),
-            site_firsts: Vec::new(alloc),
+            site_firsts: Firsts::new(alloc),
             free: NONE,
             spare: 0,
         }
@@ -80,10 +84,24 @@ impl Graph {
         self.grow_edges(edges)
     }
 
-    /// The site's edges are afterwards those of these slots. It takes no memory, and costs what the
-    /// site's old edges and these slots are, whatever else the graph holds.
+    /// Opens the site: it can be given edges from then on. Where memory is wanting nothing changes.
+    pub fn open(&mut self, site: u32) -> Result<(), NoMemory>
+        requires { site < length self.old.rows }
+        ensures ok { IfOk result (λ _. IsOpen self.new site) }
+        ensures err { OnErr result (self.new ≡ self.old) }
+        ensures rows { self.new.rows ≡ self.old.rows }
+        ensures slots { self.new.slots ≡ self.old.slots }
+        ensures spare { self.new.spare ≡ self.old.spare }
+        ensures grows { Grows self.old self.new }
+    {
+        self.site_firsts.open(site)
+    }
+
+    /// The site's edges are afterwards those of these slots; it is open. It takes no memory, and
+    /// costs what the site's old edges and these slots are, whatever else the graph holds.
     pub fn relink(&mut self, site: u32, slots: &SlotList)
         requires site { site < length self.old.rows }
+        requires opened { IsOpen self.old site }
         requires slots { (k : ℕ) → Contains slots.now.items k → k < self.old.slots }
         requires spare { length slots.now.items ≤ self.old.spare + length (row_at self.old site) }
         ensures own { (k : ℕ) → IsLinked self.new k site ↔ Contains slots.now.items k }
@@ -169,7 +187,7 @@ impl Graph {
     pub fn sites(&self) -> u32
         ensures { result ≡ length self.now.rows }
     {
-        self.site_firsts.len() as u32
+        self.site_firsts.sites()
     }
 
     /// How many more edges there is room for.
@@ -195,10 +213,7 @@ impl Graph {
         ensures ok { IfOk result (λ _. sites ≤ length self.new.rows) }
         ensures grows { Grows self.old self.new }
     {
-        if sites as usize > self.site_firsts.len() {
-            self.site_firsts.resize(sites as usize, NONE)?;
-        }
-        Ok(())
+        self.site_firsts.grow(sites)
     }
 
     /// Makes room for so many more edges.
@@ -238,6 +253,7 @@ impl Graph {
     /// Puts an edge for each of these slots to a site that has none.
     fn put_all(&mut self, site: u32, slots: &SlotList)
         requires site { site < length self.old.rows }
+        requires opened { IsOpen self.old site }
         requires empty { row_at self.old site ≡ [] }
         requires slots { (k : ℕ) → Contains slots.now.items k → k < self.old.slots }
         requires spare { length slots.now.items ≤ self.old.spare }
@@ -259,13 +275,13 @@ impl Graph {
         ensures less { result ≡ true
             → length (row_at self.new site) + 1 ≡ length (row_at self.old site) }
     {
-        let first = self.site_firsts[site as usize];
+        let first = self.site_firsts.get(site);
         if first == NONE {
             return false;
         }
         let edge = self.edges[first as usize];
         part(&mut self.edges, &mut self.firsts, edge);
-        self.site_firsts[site as usize] = edge.site_next;
+        self.site_firsts.replace(site, edge.site_next);
         set_free(&mut self.edges, first, self.free);
         self.free = first;
         self.spare += 1;
@@ -276,6 +292,7 @@ impl Graph {
     fn put_on(&mut self, slot: u32, site: u32)
         requires slot { slot < self.old.slots }
         requires site { site < length self.old.rows }
+        requires opened { IsOpen self.old site }
         requires spare { 0 < self.old.spare }
         requires new { IsLinked self.old slot site → ⊥ }
         ensures changes { Changes self.old self.new site }
@@ -284,7 +301,7 @@ impl Graph {
     {
         let free = self.free;
         let next = self.firsts[slot as usize];
-        let site_next = self.site_firsts[site as usize];
+        let site_next = self.site_firsts.replace(site, free);
         self.free = self.edges[free as usize].site_next;
         let edge = Edge {
             slot,
@@ -296,7 +313,6 @@ impl Graph {
         set_edge(&mut self.edges, free, edge);
         set_before(&mut self.edges, next, free);
         self.firsts[slot as usize] = free;
-        self.site_firsts[site as usize] = free;
         self.spare -= 1;
     }
 }

@@ -3,6 +3,7 @@
 
 pub mod dirty;
 mod edge;
+mod firsts;
 pub mod graph;
 mod level;
 mod levels;

@@ -1,6 +1,6 @@
 //! What no clause says: that calls succeed where there is memory, and answers worked out by hand.
 ghost use Rattle.std.specs.Prelude.{◌≡◌, ℕ, ◌<◌, true, length, Contains};
-ghost use Rattle.ld_graph.specs.Edges.{row_at};
+ghost use Rattle.ld_graph.specs.Edges.{IsOpen, row_at};
 
 mod random;
 
@@ -46,10 +46,30 @@ fn are_in_range(graph: &Graph, site: u32, list: &SlotList) -> bool
     site < graph.sites() && all_below(list.as_slice(), graph.slots())
 }
 
-/// Relinks the site where the condition of the call holds, and answers whether it does.
-fn relink(graph: &mut Graph, site: u32, list: &SlotList) -> bool
-    ensures { result ≡ true → length (row_at graph.new site) ≡ length list.now.items }
+/// Opens the site where it is in range, and answers whether it is open.
+fn opens(graph: &mut Graph, site: u32) -> bool
+    ensures opened { result ≡ true → IsOpen graph.new site }
+    ensures rows { graph.new.rows ≡ graph.old.rows }
+    ensures slots { graph.new.slots ≡ graph.old.slots }
+    ensures spare { graph.new.spare ≡ graph.old.spare }
 {
+    if site >= graph.sites() {
+        return false;
+    }
+    if let Err(_) = graph.open(site) {
+        return false;
+    }
+    true
+}
+
+/// Opens and relinks the site where the condition of the calls holds, and answers whether it does.
+fn relink(graph: &mut Graph, site: u32, list: &SlotList) -> bool
+    ensures count { result ≡ true → length (row_at graph.new site) ≡ length list.now.items }
+    ensures opened { result ≡ true → IsOpen graph.new site }
+{
+    if !opens(graph, site) {
+        return false;
+    }
     if !are_in_range(graph, site, list) || list.len() > graph.spare() as usize {
         return false;
     }
@@ -159,6 +179,23 @@ fn slots_stand_once_in_their_order(rt: HostRuntime) -> Result<(), Fail> {
     put(&mut list, 9);
     put(&mut list, 5);
     assert_eq!(rt; list.as_slice(), [9, 5].as_slice());
+    Ok(())
+}
+
+#[test]
+fn sites_far_apart_are_opened(rt: HostRuntime) -> Result<(), Fail> {
+    let mut graph = Graph::new(rt.alloc());
+    graph.reserve(1, 1_000_000, 6)?;
+    let one = list_of(rt.alloc(), &[0])?;
+    for site in [999_999, 17, 16, 15, 0, 123_463] {
+        assert!(rt; opens(&mut graph, site), "site {site}");
+        assert!(rt; opens(&mut graph, site), "site {site} again");
+        assert!(rt; relink(&mut graph, site, &one), "site {site} linked");
+    }
+    assert!(rt; !opens(&mut graph, 1_000_000));
+    assert_eq!(rt; graph.spare(), 0);
+    let bits = 1 << 63 | 1 << 17 | 1 << 16 | 1 << 15 | 1 | 1 << 7;
+    assert_eq!(rt; readers(&graph, 0), Some(bits));
     Ok(())
 }
 

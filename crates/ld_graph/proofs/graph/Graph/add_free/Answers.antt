@@ -2,6 +2,7 @@ use Rattle.std.proofs.Common.{rules, arith, ◌≡◌, ℕ, ◌+◌, ◌++◌, �
 use Rattle.std.proofs.lemmas.List.{length-map}
 use Rattle.ld_graph.specs.declared.edge.Edge.{Edge}
 use Rattle.ld_graph.specs.Edges.{Edges}
+use Rattle.ld_graph.specs.Table.{has}
 use Rattle.ld_graph.specs.Linked.{none_at, rows_of}
 use Rattle.ld_graph.specs.Columns.{IsGraph, slots_of, edge_sites}
 use Rattle.ld_graph.proofs.Rowed.{free_within}
@@ -39,4 +40,4 @@ returns-clause-grows c =
     grows_spare c.args.self.now _
     (ap (λ (x : List Edge). rows_of (slots_of x) (edge_sites x) (length c.self.inside.site_firsts.items)) items
     ∙ (rows_edge c.self.invariant (new c.self.inside.free) refl refl refl ∙ ap (λ (x : Edges). x.rows) c.self.view_is))
-    (ap (λ (x : Edges). x.slots) c.self.view_is) (omega arith)
+    (ap (λ (x : Edges). x.slots) c.self.view_is) (omega arith) (λ i was. ap (λ (x : Edges). has x.opened i) c.self.view_is ∙ was)
