@@ -12,7 +12,7 @@ use Rattle.indexmap.proofs.MapLemmas.{Found-position, Missing-position, insert_e
 use Rattle.ld_base.specs.Roomy.{Roomy}
 use Rattle.ld_value.specs.Datum.{Datum, datum_of, same_datum}
 use Rattle.ld_globals.specs.Declarations.{Declaration, declaration_of, fits_declared, suits}
-use Rattle.ld_globals.specs.Kept.{uri_and_declaration, IsCell, IsCounted, IsNumbered, IsNumbering, IsNumberOf, IsPersonNumber, IsTied, IsUnknown, IsUriNumber, datum_in, datum_of_cell, key_of, slot_in, store_of, write_number_in, same_number, write_of, written_of}
+use Rattle.ld_globals.specs.Kept.{uri_and_declaration, IsCell, IsCounted, IsNumbered, IsNumbering, IsNumberOf, IsPersonNumber, IsTied, IsUnknown, IsUriNumber, datum_in, datum_of_cell, key_of, slot_of_key, store_of, write_number_in, same_number, write_of, written_of}
 use Rattle.ld_globals.specs.Store.{Key, Store, declared_in, key_at, next_stamp, put_in, same_key, value_at}
 use Rattle.ld_globals.specs.declared.cell.Cell.{Cell}
 use Rattle.ld_globals.specs.declared.declared.Declared.{Declared}
@@ -181,7 +181,7 @@ module _ (declared : List (Roomy × Declared)) (persons : List (List ℕ)) (cell
 
   -- The value of the key is what its cell has, where it has one, and else the initial value.
   pub value-kept : (uri : ℕ) (known : Option (Option ℕ)) → IsUriNumber declared text uri → IfSome known (IsPersonNumber persons person) → (known ≡ None → IsUnknown persons person)
-      → value_at (store_of declared persons cells stamp spare) (key_at text person) ≡ datum_in d.initial cells (slot_in cells uri known)
+      → value_at (store_of declared persons cells stamp spare) (key_at text person) ≡ datum_in d.initial cells (slot_of_key cells uri known)
   value-kept uri None there number unknown = by-cell None (written-unknown declared persons distinct (key_at text person) cells (unknown refl) all)
   value-kept uri (Some p) there number unknown = by (position (same_number k) (keys_of cells)) refl
     where

@@ -71,9 +71,9 @@ abbrev pub same_number : KeyNumber → KeyNumber → Bool
 same_number a b = nat_eq a.uri b.uri && option_eq nat_eq a.person b.person
 
 -- The slot of the cell of the uri and the person with these numbers; none where the person has no number.
-abbrev pub slot_in : List (KeyNumber × Cell) → ℕ → Option (Option ℕ) → Option ℕ
-slot_in cells uri None = None
-slot_in cells uri (Some person) = position (same_number (record { uri = uri; person = person })) (keys_of cells)
+abbrev pub slot_of_key : List (KeyNumber × Cell) → ℕ → Option (Option ℕ) → Option ℕ
+slot_of_key cells uri None = None
+slot_of_key cells uri (Some person) = position (same_number (record { uri = uri; person = person })) (keys_of cells)
 
 -- What is in the cell, or else the initial value.
 abbrev pub datum_of_cell : Option Value → Option (KeyNumber × Cell) → Option Datum

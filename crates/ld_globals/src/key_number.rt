@@ -4,7 +4,7 @@ ghost use Rattle.std.specs.List.{AllByRecursion};
 ghost use Rattle.std.specs.Map.{lookup};
 ghost use Rattle.ld_globals.specs.declared.declared.Declared.{Declared};
 ghost use Rattle.ld_globals.specs.Answers.{key_given};
-ghost use Rattle.ld_globals.specs.Kept.{IsUriNumber, writes_of, IsCell, IsNumbering, IsPersonNumber, IsUnknown, slot_in, write_of};
+ghost use Rattle.ld_globals.specs.Kept.{IsUriNumber, writes_of, IsCell, IsNumbering, IsPersonNumber, IsUnknown, slot_of_key, write_of};
 ghost use Rattle.ld_globals.specs.Store.{same_key};
 
 use crate::cell::Cell;
@@ -51,7 +51,7 @@ pub(crate) fn find_slot(
     uri: usize,
     person: Option<Option<usize>>,
 ) -> Option<usize>
-    ensures { result ≡ slot_in cells.now.entries uri person }
+    ensures { result ≡ slot_of_key cells.now.entries uri person }
 {
     let person = person?;
     cells.get_index_of(&KeyNumber { uri, person })

@@ -8,7 +8,7 @@ ghost use Rattle.indexmap.specs.IndexMap as by_key;
 ghost use Rattle.indexmap.specs.IndexSet as members;
 ghost use Rattle.ld_value.specs.Datum.{datum_of, same_datum};
 ghost use Rattle.ld_globals.specs.Given.{IsLent, given_text};
-ghost use Rattle.ld_globals.specs.Kept.{IsPersonNumber, datum_in, same_number, slot_in};
+ghost use Rattle.ld_globals.specs.Kept.{IsPersonNumber, datum_in, same_number, slot_of_key};
 ghost use Rattle.ld_globals.specs.Store.{last_stamp, next_stamp};
 
 use crate::cell::Cell;
@@ -93,7 +93,7 @@ pub(crate) fn write_cell(
     cell: Cell,
 ) -> usize
     requires spare { 0 < by_key.spare cells.old }
-    requires slot { IfSome slot (λ at. slot_in cells.old.entries number.uri (Some number.person)
+    requires slot { IfSome slot (λ at. slot_of_key cells.old.entries number.uri (Some number.person)
         ≡ Some at) }
     ensures entries { cells.new.entries
         ≡ by_key.insert_entry same_number cells.old.entries number cell }

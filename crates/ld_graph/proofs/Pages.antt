@@ -4,13 +4,13 @@ use Rattle.std.proofs.lemmas.List.{get_or-set_same, get_or-set_other, length-set
 use Rattle.std.proofs.lemmas.List.FromFn.{get_or-map-range_with_len, length-map-range_with_len}
 use Rattle.ld_graph.specs.Linked.{none_at}
 use Rattle.ld_graph.specs.Table.{has}
-use Rattle.ld_graph.specs.Paged.{Paged, entry_at, entries_of, has_page, opened_of, ArePages, paged, Widens}
+use Rattle.ld_graph.specs.Paged.{Paged, paged_entry, entries_of, has_page, opened_of, ArePages, paged, Widens}
 
 pub entries_length : (pages entries : List ℕ) (sites : ℕ) → length (entries_of pages entries sites) ≡ sites
-entries_length pages entries sites = length-map-range_with_len (entry_at pages entries) 0 sites
+entries_length pages entries sites = length-map-range_with_len (paged_entry pages entries) 0 sites
 
-pub entries_at : (pages entries : List ℕ) (sites i d : ℕ) → i < sites → get_or (entries_of pages entries sites) i d ≡ entry_at pages entries i
-entries_at pages entries sites i d lt = get_or-map-range_with_len (entry_at pages entries) 0 sites i i d lt (omega arith)
+pub entries_at : (pages entries : List ℕ) (sites i d : ℕ) → i < sites → get_or (entries_of pages entries sites) i d ≡ paged_entry pages entries i
+entries_at pages entries sites i d lt = get_or-map-range_with_len (paged_entry pages entries) 0 sites i i d lt (omega arith)
 
 pub opened_at : (pages : List ℕ) (sites i : ℕ) → i < sites → has (opened_of pages sites) i ≡ has_page pages i
 opened_at pages sites i lt = get_or-map-range_with_len (has_page pages) 0 sites i i false lt (omega arith)
@@ -74,7 +74,7 @@ module _ {pages entries : List ℕ} {sites : ℕ} (a : ArePages pages entries si
   place_there i some = let lt = page_there (i / 16) some in let whole = a.whole in omega arith
 
   -- the entry of a site without one
-  pub entry_none : (i : ℕ) → get_or pages (i / 16) none_at ≡ none_at → entry_at pages entries i ≡ none_at
+  pub entry_none : (i : ℕ) → get_or pages (i / 16) none_at ≡ none_at → paged_entry pages entries i ≡ none_at
   entry_none i none = get_or_past entries (get_or pages (i / 16) none_at * 16 + i % 16) none_at
       (let whole = a.whole in let few = a.few in omega arith)
 
@@ -88,7 +88,7 @@ module _ {pages entries : List ℕ} {sites : ℕ} (a : ArePages pages entries si
         ne (omega arith)
 
     entry_other : (i : ℕ) → i ≢ site
-        → entry_at pages (set entries (get_or pages (site / 16) none_at * 16 + site % 16) first) i ≡ entry_at pages entries i
+        → paged_entry pages (set entries (get_or pages (site / 16) none_at * 16 + site % 16) first) i ≡ paged_entry pages entries i
     entry_other i ne = get_or-set_other entries (get_or pages (site / 16) none_at * 16 + site % 16)
         (get_or pages (i / 16) none_at * 16 + i % 16) first none_at (other_place i ne)
 
@@ -133,7 +133,7 @@ module _ {pages entries : List ℕ} {sites : ℕ} (a : ArePages pages entries si
     other_page : (p : ℕ) → p ≢ site / 16 → get_or (set pages (site / 16) a.count) p none_at ≡ get_or pages p none_at
     other_page p ne = get_or-set_other pages (site / 16) p a.count none_at ne
 
-    pub entry_same : (i : ℕ) → entry_at (set pages (site / 16) a.count) (entries ++ replicate 16 none_at) i ≡ entry_at pages entries i
+    pub entry_same : (i : ℕ) → paged_entry (set pages (site / 16) a.count) (entries ++ replicate 16 none_at) i ≡ paged_entry pages entries i
     entry_same i = padded entries 16 (get_or (set pages (site / 16) a.count) (i / 16) none_at * 16 + i % 16) none_at
         ∙ elim (cases_eq (i / 16) (site / 16)) [
           | inl here ↦ get_or_past entries (get_or (set pages (site / 16) a.count) (i / 16) none_at * 16 + i % 16) none_at
@@ -201,7 +201,7 @@ module _ {pages entries : List ℕ} {sites : ℕ} (a : ArePages pages entries si
     page_kept : (p : ℕ) → get_or (pages ++ replicate more none_at) p none_at ≡ get_or pages p none_at
     page_kept p = padded pages more p none_at
 
-    entry_kept : (i : ℕ) → entry_at (pages ++ replicate more none_at) entries i ≡ entry_at pages entries i
+    entry_kept : (i : ℕ) → paged_entry (pages ++ replicate more none_at) entries i ≡ paged_entry pages entries i
     entry_kept i = ap (λ (p : ℕ). get_or entries (p * 16 + i % 16) none_at) (page_kept (i / 16))
 
     pub pages_wider : ArePages (pages ++ replicate more none_at) entries sites'

@@ -9,12 +9,12 @@ pub record Paged : Type 0 where
   pub opened : List Bool
 
 -- the entry of a site, by the pages of each sixteen sites and the entries of all pages
-abbrev pub entry_at : List ℕ → List ℕ → ℕ → ℕ
-entry_at pages entries site = get_or entries (get_or pages (site / 16) none_at * 16 + site % 16) none_at
+abbrev pub paged_entry : List ℕ → List ℕ → ℕ → ℕ
+paged_entry pages entries site = get_or entries (get_or pages (site / 16) none_at * 16 + site % 16) none_at
 
 -- the entries of the sites, so many of them
 abbrev pub entries_of : List ℕ → List ℕ → ℕ → List ℕ
-entries_of pages entries sites = map (entry_at pages entries) (range_with_len 0 sites)
+entries_of pages entries sites = map (paged_entry pages entries) (range_with_len 0 sites)
 
 -- the site has a page
 abbrev pub has_page : List ℕ → ℕ → Bool
@@ -33,7 +33,7 @@ pub record ArePages (pages entries : List ℕ) (sites : ℕ) : Type 0 where
   pub covers : sites ≤ 16 * length pages
   pub within : (p : ℕ) → (get_or pages p none_at ≡ none_at) ⊎ (get_or pages p none_at < count)
   pub apart : (p q : ℕ) → get_or pages p none_at ≢ none_at → get_or pages p none_at ≡ get_or pages q none_at → p ≡ q
-  pub beyond : (i : ℕ) → sites ≤ i → entry_at pages entries i ≡ none_at
+  pub beyond : (i : ℕ) → sites ≤ i → paged_entry pages entries i ≡ none_at
 
 -- what the graph sees of pages, entries and so many sites
 abbrev pub paged : List ℕ → List ℕ → ℕ → Paged
