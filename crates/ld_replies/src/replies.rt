@@ -38,8 +38,7 @@ use std::sync::ledger::Ledger;
 /// settlings, and what it asked for. (docs/COMMANDS.md, "Replies")
 ///
 /// # Errors
-/// `NoMemory` leaves what stood in `out`, and behind it maybe a part of what is told; of a tree it
-/// may leave nothing.
+/// `NoMemory` leaves what stood in `out`, and behind it maybe a part of what is told.
 pub fn push_done<L: Ledger>(
     alloc: Global,
     unit: &PreparedUnit,

@@ -11,7 +11,7 @@ use Rattle.ld_lines.specs.declared.stop.LineStop.TheVariants.{ReadFault, InputTo
 use Rattle.ld_world.specs.Answers.{AnswersLine, Leads, line_of}
 use Rattle.ld_world.specs.World.{WorldState}
 use Rattle.ld_top.specs.Sending.{AddsFront}
-use Rattle.ld_top.proofs.Adding.{then_nothing, then_both}
+use Rattle.ld_base.proofs.Pieces.{then_piece-nil, then_piece-append}
 use Rattle.ld_top.proofs.CutReplies.{cut_at}
 use Rattle.ld_top.proofs.HeldLines.{none_at_all, none_ended}
 use Rattle.ld_top.specs.Answering.{AnswersWhat, Answered, AnsweredAll, AnsweredTaken, AnsweredCut, BeginsWithLines}
@@ -25,7 +25,7 @@ pub record IsUnderWay (at_first : WorldState) (first : Option (List ℕ)) (befor
   pub wrote : written ≡ then_piece before text
 
 pub IsUnderWay-first : (world : WorldState) (first before : Option (List ℕ)) (r : LinesRead) (waiting : List ℕ) → r.held ≡ [] → r.taken ≡ 0 → r.ended ≡ false → waiting ≡ [] → IsUnderWay world first before r first world before waiting
-IsUnderWay-first world first before r waiting nothing zero going none = record { bytes = []; lines = []; text = []; handed = Handed-first first r nothing zero going; led = (none, refl); wrote = then_nothing before }
+IsUnderWay-first world first before r waiting nothing zero going none = record { bytes = []; lines = []; text = []; handed = Handed-first first r nothing zero going; led = (none, refl); wrote = sym (then_piece-nil before) }
 
 -- Where nothing waits, all replies were written.
 led_all : {at_first : WorldState} {first before : Option (List ℕ)} {r : LinesRead} {left : Option (List ℕ)} {world : WorldState} {written : Option (List ℕ)} {waiting : List ℕ} (way : IsUnderWay at_first first before r left world written waiting) → waiting ≡ [] → Leads at_first way.lines way.text world
@@ -49,7 +49,7 @@ on {at_first = at_first} {before = before} {next = next} {waiting = waiting} {re
   led = subst (λ t. Leads at_first (way.lines ++ line ∷ []) t next)
       (append_assoc way.text waiting text ∙ ap (λ t. way.text ++ t) parts ∙ sym (append_assoc way.text front rest))
       (Leads-more _ way.lines (way.text ++ waiting) _ line text _ way.led answers);
-  wrote = wrote ∙ ap (λ w. then_piece w front) way.wrote ∙ then_both before way.text front;
+  wrote = wrote ∙ ap (λ w. then_piece w front) way.wrote ∙ then_piece-append before way.text front;
 }
 
 pub IsUnderWay-next : {at_first : WorldState} {first before : Option (List ℕ)} {old new : LinesRead} {left now : Option (List ℕ)} {world next : WorldState} {written after : Option (List ℕ)} {waiting rest : List ℕ} (text : List ℕ) (way : IsUnderWay at_first first before old left world written waiting) (answer : Answer) → HandsOut old left answer new now → AnswersWhat world answer (Ok true) text next → AddsFront written (waiting ++ text) after rest → IsUnderWay at_first first before new now next after rest
@@ -141,7 +141,7 @@ begun {at_first = at_first} {before = before} {new = new} {waiting = waiting} ne
     append_assoc way.text waiting text ∙ ap (λ t. way.text ++ t) parts ∙ sym (append_assoc way.text front back) in
     let cut = cut_at at_first (way.lines ++ line ∷ []) ((way.text ++ waiting) ++ text) next led (way.text ++ front) back all (not_empty way.lines line) in
     let begins = first_lines handed.1 new.ended refl in
-    let wrote = added ∙ ap (λ w. then_piece w front) way.wrote ∙ then_both before way.text front ∙ ap (then_piece before) cut.parts ∙ sym (then_both before cut.text cut.begun) in (
+    let wrote = added ∙ ap (λ w. then_piece w front) way.wrote ∙ then_piece-append before way.text front ∙ ap (then_piece before) cut.parts ∙ sym (then_piece-append before cut.text cut.begun) in (
       handed.0,
       handed.1.left,
       rw (← handed.1.counted) limit,

@@ -21,11 +21,11 @@ use ld_names::names::Names;
 use std::alloc::Global;
 use std::sync::ledger::Ledger;
 
-/// The text with the lines of the person's tree behind it, each behind the end of the line before
-/// it, and their number. The names are those of the unit, and the view has the cells at which the
-/// tree looks; each look is one step. The text is handed over and given back, so that what stands in
-/// it, which is short, may be copied before, and the tree is not. The only error is want of memory,
-/// which lets go of the text. (docs/MEANING.md, "The tree")
+/// Appends the lines of the person's tree to the text, each begun by the line feed that ends the
+/// line before it, and gives the text back with their number. The names are those of the unit, and
+/// the view has the cells at which the tree looks; each look is one step. Since the text is handed
+/// over, the tree is printed where it stays, and is copied nowhere. The only error is want of
+/// memory, which lets go of the text. (docs/MEANING.md, "The tree")
 pub fn tree_text<'a, V: View, L: Ledger>(
     alloc: Global,
     unit: &'a Unit,
