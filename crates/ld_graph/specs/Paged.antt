@@ -24,7 +24,8 @@ has_page pages site = ltb (get_or pages (site / 16) none_at) none_at
 abbrev pub opened_of : List ℕ → ℕ → List Bool
 opened_of pages sites = map (has_page pages) (range_with_len 0 sites)
 
--- each page is one of those that the entries have, no two are the same, and no site beyond the range has an entry
+-- the entries are whole pages, which are few enough to be numbered, as the sites are; there is a number for each sixteen
+-- sites in range, of a page that the entries have or of none; no two are the same, and no site beyond the range has an entry
 pub record ArePages (pages entries : List ℕ) (sites : ℕ) : Type 0 where
   pub count : ℕ
   pub whole : length entries ≡ 16 * count
@@ -39,7 +40,7 @@ pub record ArePages (pages entries : List ℕ) (sites : ℕ) : Type 0 where
 abbrev pub paged : List ℕ → List ℕ → ℕ → Paged
 paged pages entries sites = record { items = entries_of pages entries sites; opened = opened_of pages sites }
 
--- the same entries and more that name no edge, so that all stay that may be named; open sites stay open
+-- the same entries and more that name no edge, no more than can be numbered; open sites stay open
 pub record Widens (old new : Paged) : Type 0 where
   pub more : ℕ
   pub items : new.items ≡ old.items ++ replicate more none_at

@@ -8,8 +8,8 @@ use ld_base::memory::NoMemory;
 use std::alloc::Global;
 use std::marker::Model;
 
-// Each level that has words has a bit for each word of 64 bits of the one below it. For 262,144
-// sites, more than a run may have, the highest level has one word, and for 4,000,000 it has 16.
+// Each level that has words has a bit for each word of 64 bits of the one below it. For 120,000
+// sites, as many as a run may have, the highest level has one word, and for 4,000,000 it has 16.
 const LEVELS: usize = 3;
 
 /// A set of sites below a number, its range, seen by contracts as a table with one entry for each

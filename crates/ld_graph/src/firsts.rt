@@ -55,7 +55,7 @@ impl Firsts {
         self.sites
     }
 
-    /// Brings the sites below the number into range. No site is opened.
+    /// Brings the sites below the number into range. It adds no page.
     pub(crate) fn grow(&mut self, sites: u32) -> Result<(), NoMemory>
         ensures ok { IfOk result (λ _. sites ≤ length self.new.items) }
         ensures widens { Widens self.old self.new }
@@ -122,13 +122,13 @@ fn add_page(entries: &mut Vec<u32>) -> Result<(), NoMemory>
     ensures ok { IfOk result (λ _. entries.new.items ≡ entries.old.items ++ replicate 16 none_at) }
     ensures err { OnErr result (entries.new.items ≡ entries.old.items) }
 {
-    make_room(entries)?;
+    reserve_first_pages(entries)?;
     entries.resize(entries.len() + PAGE as usize, NONE)?;
     Ok(())
 }
 
 /// Makes room for the first pages, so that a small table is never moved.
-fn make_room(entries: &mut Vec<u32>) -> Result<(), NoMemory>
+fn reserve_first_pages(entries: &mut Vec<u32>) -> Result<(), NoMemory>
     ensures { entries.new.items ≡ entries.old.items }
 {
     if !entries.is_empty() {

@@ -97,8 +97,9 @@ impl Graph {
         self.site_firsts.open(site)
     }
 
-    /// The site's edges are afterwards those of these slots; it is open. It takes no memory, and
-    /// costs what the site's old edges and these slots are, whatever else the graph holds.
+    /// The site, which has to be open, has edges to these slots afterwards and to no others. It takes
+    /// no memory, and costs what the site's old edges and these slots are, whatever else the graph
+    /// holds.
     pub fn relink(&mut self, site: u32, slots: &SlotList)
         requires site { site < length self.old.rows }
         requires opened { IsOpen self.old site }
