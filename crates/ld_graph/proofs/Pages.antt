@@ -62,6 +62,14 @@ module _ {pages entries : List ℕ} {sites : ℕ} (a : ArePages pages entries si
     | inr lt ↦ lt
   ]
 
+  -- a site that is seen is in range, and has a place among the pages
+  pub page_within : (f : Paged) → paged pages entries sites ≡ f → (i : ℕ) → i < length f.items → (i < sites) × (i / 16 < length pages)
+  page_within f is i lt = let long = seen_length pages entries sites f is in let covers = a.covers in (omega arith, omega arith)
+
+  -- how many pages there are
+  pub page_count : a.count ≡ length entries / 16
+  page_count = let whole = a.whole in omega arith
+
   pub page_open : (i : ℕ) → i < sites → get_or pages (i / 16) none_at ≢ none_at → has (opened_of pages sites) i ≡ true
   page_open i lt some = opened_at pages sites i lt ∙ lt-ltb (get_or pages (i / 16) none_at) none_at (let lt = page_there (i / 16) some in let few = a.few in omega arith)
 
