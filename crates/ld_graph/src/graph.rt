@@ -5,7 +5,7 @@ ghost use Rattle.ld_graph.specs.Edges.{Edges, IsLinked, Changes, Grows, SameRang
 ghost use Rattle.ld_graph.specs.Table.{has};
 
 use crate::dirty::Dirty;
-use crate::edge::{Edge, NONE, set_before, set_edge, set_free, set_next};
+use crate::edge::{Edge, NONE, set_before, set_edge, set_free};
 use crate::firsts::Firsts;
 use crate::part::part;
 use crate::readers::{Readers, set_all};
