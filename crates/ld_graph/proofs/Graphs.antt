@@ -18,6 +18,18 @@ pub seen_row : {opened : List Bool} (edges : List Edge) (sites slots spare : ℕ
 seen_row edges sites slots spare g is i lt =
     ap (λ (x : Edges). get_or x.rows i []) (sym is) ∙ rows_at (slots_of edges) (edge_sites edges) sites i lt
 
+-- a site that is seen, a slot that is seen, and a free edge where one is seen
+module _ {edges : List Edge} {firsts site_firsts : List ℕ} {free spare : ℕ} (g : IsGraph edges firsts site_firsts free spare)
+    {opened : List Bool} (old : Edges) (view : seen edges (length site_firsts) (length firsts) spare opened ≡ old) where
+  pub site_within : (site : ℕ) → site < length old.rows → site < length site_firsts
+  site_within site lt = let n = seen_sites edges (length site_firsts) (length firsts) spare old view in omega arith
+
+  pub slot_within : (slot : ℕ) → slot < old.slots → slot < length firsts
+  slot_within slot lt = let n = ap (λ (x : Edges). x.slots) view in omega arith
+
+  pub spare_within : 0 < old.spare → 0 < spare
+  spare_within some = let n = ap (λ (x : Edges). x.spare) view in omega arith
+
 -- a list with no number is empty
 pub none_among : (xs : List ℕ) → ((x : ℕ) → Among xs x → ⊥) → xs ≡ []
 none_among [] no_x = refl
