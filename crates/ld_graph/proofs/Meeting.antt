@@ -1,6 +1,6 @@
 use Rattle.std.proofs.Common.{◌≡◌, ◌≢◌, ◌-◌, ℕ, Bool, zero, suc, ◌<◌, ◌≤◌, inl, inr, true, false, eqb, ltb, List, [], ◌∷◌, length, get_or, map, Contains, All, refl, sym, ◌∙◌, ap, subst, arith}
 use Rattle.std.proofs.lemmas.Bool.{cases_lt, cases_eq, cond-true, cond-false, lt-ltb, le-ltb, or_cases, eqb-true, ne_eqb}
-use Rattle.std.proofs.lemmas.List.{length-map, get_or-map, get_or_past}
+use Rattle.std.proofs.lemmas.List.{length-map, get_or-map, get_or_past, get_or_read}
 use Rattle.std.proofs.lemmas.List.Elements.{All-from_get_or}
 use Rattle.std.proofs.lemmas.Map.Steps.{length-le_from_distinct_below}
 use Rattle.std.specs.List.{IsDistinct, AllByRecursion, list_any}
@@ -12,7 +12,7 @@ use Rattle.ld_graph.specs.Columns.{slots_of, edge_sites, nexts_of, IsGraph}
 use Rattle.ld_graph.specs.Readings.{sites_met, walk}
 use Rattle.ld_graph.proofs.Chains.{Fresh, follows_fresh, follows_within, forget}
 use Rattle.ld_graph.proofs.Rowed.{among_contains, contains_among, row_edge, edge_row, row_yes, row_no}
-use Rattle.ld_graph.proofs.Graphs.{seen_sites, seen_row}
+use Rattle.ld_graph.proofs.Graphs.{seen_sites, seen_row, slot_within}
 use Rattle.ld_graph.specs.Columns.{seen}
 
 -- the first edge's site is met first, and then those from the edge after it
@@ -105,7 +105,7 @@ pub record AreReaders (old : Edges) (slot : ℕ) (sites : List ℕ) : Type 0 whe
   pub once : AreDistinct sites
   pub within : All (λ i. i < length old.rows) sites
 
-pub readers_met : {edges : List Edge} {firsts site_firsts : List ℕ} {free spare : ℕ} → IsGraph edges firsts site_firsts free spare
+readers_met : {edges : List Edge} {firsts site_firsts : List ℕ} {free spare : ℕ} → IsGraph edges firsts site_firsts free spare
     → {opened : List Bool} (old : Edges) → seen edges (length site_firsts) (length firsts) spare opened ≡ old → (slot : ℕ) → slot < length firsts → (at left : ℕ)
     → get_or firsts slot none_at ≡ at → left ≡ length edges
     → AreReaders old slot (map (λ e. get_or (edge_sites edges) e none_at) (walk left (nexts_of edges) at))
@@ -161,6 +161,16 @@ readers_met {edges} {firsts} {site_firsts} {free} {spare} g old view slot lt at 
           let b = site_lt (get_or h.edges i 0) (among_place h.edges i (omega arith)) in
           omega arith);
     })
+
+-- the same, from what is read of the edges
+pub readers_read : {edges : List Edge} {firsts site_firsts : List ℕ} {free spare : ℕ} → IsGraph edges firsts site_firsts free spare
+    → {opened : List Bool} (old : Edges) → seen edges (length site_firsts) (length firsts) spare opened ≡ old → (slot : ℕ) → slot < old.slots
+    → (edges' : List Edge) → edges' ≡ edges → (at left : ℕ) → at ≡ get_or firsts slot at → left ≡ length edges
+    → AreReaders old slot (map (λ e. get_or (edge_sites edges') e none_at) (walk left (nexts_of edges') at))
+readers_read {edges} {firsts} g old view slot slot_in edges' same at left at_is left_is =
+    let lt = slot_within g old view slot slot_in in
+    subst (λ (z : List Edge). AreReaders old slot (map (λ e. get_or (edge_sites z) e none_at) (walk left (nexts_of z) at))) (sym same)
+    (readers_met g old view slot lt at left (sym (get_or_read firsts slot at lt at_is none_at)) left_is)
 
 -- a row has no slot twice, where no two edges have the same slot and site
 pub row_fresh : (slots sites : List ℕ) (i : ℕ)
