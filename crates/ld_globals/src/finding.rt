@@ -10,8 +10,10 @@ use indexmap::IndexMap;
 use ld_base::text::Text;
 use std::cell::Cell;
 
-/// Where a uri was found last, and whether the last search found its uri at the place before it or
-/// behind that one. No contract speaks of it: whoever looks there compares the uri.
+/// The place where the last uri was found, and whether the last search through the map found its
+/// uri at the place remembered then, or right behind it. If so, the next uri is looked for right
+/// behind the remembered place and at it, before the map is searched. No contract speaks of this:
+/// whoever looks there compares the uri.
 #[derive(Drop)]
 pub(crate) struct Guess {
     last: Cell<usize>,
@@ -26,7 +28,8 @@ impl Guess {
         }
     }
 
-    /// Keeps where a search found the uri.
+    /// Remembers the place where a search found its uri, and whether that is the place remembered
+    /// so far, or the one right behind it.
     fn note(&self, place: usize) {
         self.fits.set(place.wrapping_sub(self.last.get()) <= 1);
         self.last.set(place);

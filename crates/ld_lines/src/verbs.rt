@@ -174,8 +174,8 @@ fn read_showing_verb(verb: &str, words: &mut Words<'_>) -> Result<RunCommand, Li
     }
 }
 
-/// Whether the verb is this word. Bytes are compared where this is called, so that a word of
-/// another length takes no call.
+/// Whether the verb is this word. Their bytes are compared, and not the texts, since words of
+/// different lengths are then told apart without a call.
 fn is_word(verb: &str, word: &str) -> bool
     ensures value { result ≡ bytes_eq verb.now word.now }
     ensures same { IsTrue result → verb.now ≡ word.now }
