@@ -10,8 +10,8 @@ use indexmap::IndexMap;
 use ld_base::text::Text;
 use std::cell::Cell;
 
-/// The place where the last uri was found, and whether the last search through the map found its
-/// uri at the place remembered then, or right behind it. If so, the next uri is looked for right
+/// The place where a uri was found last, and whether the last search through the map that found one
+/// found it at the place remembered then, or right behind it. If so, the next uri is looked for right
 /// behind the remembered place and at it, before the map is searched. No contract speaks of this:
 /// whoever looks there compares the uri.
 #[derive(Drop)]

@@ -84,8 +84,8 @@ fn keep_person(persons: &mut IndexSet<Id>, id: Id) -> usize
     number
 }
 
-/// Writes the cell of the key with these numbers, which has the slot where it has one, and gives
-/// its slot.
+/// Writes the cell of the key with these numbers: at its slot where it has one, and else at a new
+/// one. It gives the slot.
 pub(crate) fn write_cell(
     cells: &mut IndexMap<KeyNumber, Cell>,
     slot: Option<usize>,
