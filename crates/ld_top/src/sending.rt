@@ -3,6 +3,7 @@
 ghost use Rattle.std.specs.Prelude.{◌≡◌, ◌≤◌, ◌++◌, [], length, true, false, OnErr, OnOk};
 ghost use Rattle.ld_base.specs.Outside.{AddsPrefix, Rose, then_piece};
 ghost use Rattle.ld_top.specs.Sending.{AddsFront};
+ghost use Rattle.ld_top.specs.declared.sending.TheConstants.{WAITING_ROOM};
 
 use ld_base::sink::{Sink, SinkFailed};
 use ld_base::text::Text;
@@ -26,11 +27,11 @@ pub(crate) fn send<K: Sink>(
     waiting: &mut Text,
     sink: &mut K,
 ) -> Result<(), SinkFailed>
-    requires few { length waiting.old.bytes ≤ 16384 }
+    requires few { length waiting.old.bytes ≤ WAITING_ROOM }
     ensures ok { OnOk result (AddsFront (K.written sink.old)
         (waiting.old.bytes ++ reply.now.bytes) (K.written sink.new) waiting.new.bytes) }
     ensures none { OnOk result (may_wait ≡ false → waiting.new.bytes ≡ []) }
-    ensures few { length waiting.new.bytes ≤ 16384 }
+    ensures few { length waiting.new.bytes ≤ WAITING_ROOM }
     ensures err { OnErr result (AddsPrefix (K.written sink.old)
         (waiting.old.bytes ++ reply.now.bytes) (K.written sink.new)) }
     ensures cause { OnErr result (Rose (K.faults sink.old) (K.faults sink.new)) }
@@ -47,10 +48,10 @@ pub(crate) fn send<K: Sink>(
 /// Puts the reply behind those that wait, if it is short and they are few, and says whether it did.
 /// Else, and for want of memory, they stay as they are.
 fn put_behind(reply: &Text, waiting: &mut Text) -> bool
-    requires few { length waiting.old.bytes ≤ 16384 }
+    requires few { length waiting.old.bytes ≤ WAITING_ROOM }
     ensures yes { result ≡ true → waiting.new.bytes ≡ waiting.old.bytes ++ reply.now.bytes }
     ensures no { result ≡ false → waiting.new.bytes ≡ waiting.old.bytes }
-    ensures few { length waiting.new.bytes ≤ 16384 }
+    ensures few { length waiting.new.bytes ≤ WAITING_ROOM }
 {
     let reply = reply.as_str();
     if reply.len() > WAITING_LIMIT || waiting.as_str().len() > WAITING_LIMIT {
@@ -64,11 +65,11 @@ fn put_behind(reply: &Text, waiting: &mut Text) -> bool
 /// # Errors
 /// As `write_waiting`.
 fn write_unless<K: Sink>(may_wait: bool, waiting: &mut Text, sink: &mut K) -> Result<(), SinkFailed>
-    requires few { length waiting.old.bytes ≤ 16384 }
+    requires few { length waiting.old.bytes ≤ WAITING_ROOM }
     ensures ok { OnOk result (AddsFront (K.written sink.old) waiting.old.bytes
         (K.written sink.new) waiting.new.bytes) }
     ensures none { OnOk result (may_wait ≡ false → waiting.new.bytes ≡ []) }
-    ensures few { length waiting.new.bytes ≤ 16384 }
+    ensures few { length waiting.new.bytes ≤ WAITING_ROOM }
     ensures err { OnErr result
         (AddsPrefix (K.written sink.old) waiting.old.bytes (K.written sink.new)) }
     ensures cause { OnErr result (Rose (K.faults sink.old) (K.faults sink.new)) }
