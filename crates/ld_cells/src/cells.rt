@@ -6,11 +6,13 @@ use crate::change::Change;
 use crate::mark::Mark;
 use crate::recorded::{append, put, record, same_cell, take_back};
 use crate::refused::Refused;
+use crate::undo_log::UndoLog;
 use ld_base::memory::NoMemory;
 use ld_base::steps::Steps;
 use ld_value::value::Value;
 use std::alloc::Global;
 use std::marker::Model;
+use std::mem;
 use std::sync::ledger::Ledger;
 
 /// Cells by slot, counted from 0, each with a value or none. Under a mark, what a write replaces is
@@ -45,6 +47,7 @@ impl Cells {
     pub fn new(alloc: Global) -> Cells
         ensures cells { result.cells ≡ [] }
         ensures unmarked { result.kept ≡ None }
+        ensures spare { result.spare ≡ 0 }
     {
         Cells {
             values: Vec::new(alloc),
@@ -66,6 +69,15 @@ impl Cells {
         self.values.reserve(cells as usize)?;
         self.changes.reserve(writes as usize)?;
         Ok(())
+    }
+
+    /// Exchanges the room for recording writes with that of the log. It takes no memory.
+    pub fn exchange(&mut self, log: &mut UndoLog)
+        requires { self.old.kept ≡ None }
+        ensures rest { self.new ≡ record self.old { spare = log.old } }
+        ensures log { log.new ≡ self.old.spare }
+    {
+        mem::swap(&mut self.changes, &mut log.changes);
     }
 
     /// The number of cells.

@@ -6,3 +6,4 @@ mod change;
 mod mark;
 mod recorded;
 pub mod refused;
+pub mod undo_log;

@@ -6,7 +6,7 @@ mod exclusion;
 pub mod fault;
 pub mod limit;
 mod members;
-mod role_tree;
+pub mod role_tree;
 mod room;
 pub mod roster;
 mod seat;

@@ -22,9 +22,10 @@ pub(crate) struct RoleEntry {
     pub(crate) max_persons: Option<u32>,
 }
 
-/// The roles of a unit in document order.
+/// The roles of a unit in document order, which are the same in all its runs, seen by contracts as
+/// their bounds.
 #[derive(Drop)]
-pub(crate) struct RoleTree {
+pub struct RoleTree {
     rows: Vec<RoleEntry>,
 }
 
@@ -42,8 +43,8 @@ impl Model for RoleTree {
 }
 
 impl RoleTree {
-    /// The roles of the unit.
-    pub(crate) fn of(alloc: Global, unit: &Unit) -> Result<RoleTree, NoMemory>
+    /// The roles of the unit. The only error is want of memory.
+    pub fn of(alloc: Global, unit: &Unit) -> Result<RoleTree, NoMemory>
         ensures { IfOk result (λ tree. tree ≡ role_bounds unit.now) }
     {
         let mut path = Vec::new(alloc);

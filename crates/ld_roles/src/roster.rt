@@ -5,22 +5,21 @@ ghost use Rattle.ld_roles.specs.Kept.{IsAsMarked, persons_of};
 ghost use Rattle.ld_roles.specs.Membership.{is_member_among, member_count, short_at_start_among};
 ghost use Rattle.ld_roles.specs.Persons.{changed_at, newcomer, person_number, with_role};
 ghost use Rattle.ld_roles.specs.Refusals.{assign_fault, drop_fault, enrol_fault, short_of};
-ghost use Rattle.ld_roles.specs.RoleBounds.{role_bounds};
 
 use crate::change::Change;
 use crate::exclusion::is_excluded;
 use crate::fault::{AssignFault, DropFault, EnrolFault, Short};
 use crate::limit::SEATS;
 use crate::members::count_members;
+use crate::role_tree::RoleTree;
 use crate::room::has_no_room;
 use crate::seats::Seats;
 use crate::shortage::{first_short, short_once_dropped};
 use ld_base::id::Id;
-use ld_base::memory::NoMemory;
 use ld_base::numbers::{PersonNo, RoleNo};
-use ld_model::unit::Unit;
 use std::alloc::Global;
 use std::marker::Model;
+use std::rc::Rc;
 
 /// The persons of a run in the order of enrolment, and the roles that they hold, seen by contracts
 /// as the bounds of the unit's roles, the persons, and the persons at the mark, if there is one.
@@ -52,15 +51,14 @@ impl Model for Roster {
 }
 
 impl Roster {
-    /// A roster for the unit's roles, without persons and without a mark.
-    pub fn new(alloc: Global, unit: &Unit) -> Result<Roster, NoMemory>
-        ensures { IfOk result (λ roster. roster
-            ≡ record { roles = role_bounds unit.now; rows = []; kept = None }) }
+    /// A roster for these roles, without persons and without a mark. It takes no memory.
+    pub fn new(alloc: Global, roles: Rc<RoleTree>) -> Roster
+        ensures { result ≡ record { roles = roles.value; rows = []; kept = None } }
     {
-        Ok(Roster {
+        Roster {
             mark: None,
-            seats: Seats::new(alloc, unit)?,
-        })
+            seats: Seats::new(alloc, roles),
+        }
     }
 
     /// Adds the person last and gives the next number. A refusal changes nothing.

@@ -3,7 +3,6 @@ ghost use Rattle.std.specs.Prelude.{◌≡◌, ◌<◌, ◌≤◌, ◌++◌, ◌
 ghost use Rattle.ld_roles.specs.Kept.{persons_of};
 ghost use Rattle.ld_roles.specs.Membership.{is_member_among};
 ghost use Rattle.ld_roles.specs.Persons.{changed_at, holds_role, newcomer, person_number, with_role};
-ghost use Rattle.ld_roles.specs.RoleBounds.{role_bounds};
 ghost use Rattle.ld_roles.specs.Seats.{new_row, with_held};
 
 use crate::limit::SEATS;
@@ -12,16 +11,17 @@ use crate::seat::Seat;
 use indexmap::IndexMap;
 use ld_base::id::Id;
 use ld_base::memory::NoMemory;
-use ld_model::unit::Unit;
 use std::alloc::Global;
 use std::marker::Model;
+use std::rc::Rc;
 
-/// The roles of a unit, and the persons of a run in the order of enrolment.
+/// The roles of a unit, which its runs share, and the persons of a run in the order of enrolment.
 #[derive(Drop)]
 pub(crate) struct Seats {
     alloc: Global,
-    persons: IndexMap<Id, Seat>,
-    roles: RoleTree,
+    // Boxed, since the map makes room for nine persons from the first one on.
+    persons: IndexMap<Id, Box<Seat>>,
+    roles: Rc<RoleTree>,
 }
 
 impl Model for Seats {
@@ -30,22 +30,21 @@ impl Model for Seats {
 
     ghost Value = { Seated };
 
-    ghost view = { λ s. record { roles = s.roles; rows = map row_of s.persons.entries } };
+    ghost view = { λ s. record { roles = s.roles.value; rows = map row_of s.persons.entries } };
 
-    ghost invariant = { λ s. IsSeating s.roles s.persons.entries };
+    ghost invariant = { λ s. IsSeating s.roles.value s.persons.entries };
 }
 
 impl Seats {
-    /// The roles of the unit, and no persons.
-    pub(crate) fn new(alloc: Global, unit: &Unit) -> Result<Seats, NoMemory>
-        ensures { IfOk result (λ seats. seats
-            ≡ record { roles = role_bounds unit.now; rows = [] }) }
+    /// These roles, and no persons.
+    pub(crate) fn new(alloc: Global, roles: Rc<RoleTree>) -> Seats
+        ensures { result ≡ record { roles = roles.value; rows = [] } }
     {
-        Ok(Seats {
+        Seats {
             alloc,
-            roles: RoleTree::of(alloc, unit)?,
             persons: IndexMap::new(alloc),
-        })
+            roles,
+        }
     }
 
     /// The roles.
@@ -127,7 +126,8 @@ impl Seats {
         ensures err { OnErr result (self.new ≡ self.old) }
     {
         let seat = Seat::new(self.alloc, &self.roles)?;
-        self.persons.insert(name, seat)?;
+        let boxed = Box::new(self.alloc, seat)?;
+        self.persons.insert(name, boxed)?;
         Ok(())
     }
 
@@ -156,7 +156,7 @@ impl Seats {
 }
 
 /// The name and the seat of the person of this number.
-fn entry<'a>(persons: &'a IndexMap<Id, Seat>, person: usize) -> (&'a Id, &'a Seat)
+fn entry<'a>(persons: &'a IndexMap<Id, Box<Seat>>, person: usize) -> (&'a Id, &'a Box<Seat>)
     requires { person < length persons.now.entries }
     ensures { slice_get persons.now.entries person ≡ Some (result.0.now, result.1.now) }
 {

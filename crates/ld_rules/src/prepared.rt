@@ -6,6 +6,7 @@ ghost use Rattle.ld_names.specs.Rules.{rules_of};
 ghost use Rattle.ld_names.specs.ThingView.{entry_of};
 ghost use Rattle.ld_names.specs.Things.{things_of};
 ghost use Rattle.ld_refs.specs.Checks.{IsValid};
+ghost use Rattle.ld_roles.specs.RoleBounds.{role_bounds};
 ghost use Rattle.ld_state.specs.Beginnings.{AreOfUnit};
 ghost use Rattle.ld_state.specs.Layout.{layout_of};
 ghost use Rattle.ld_rules.specs.PreparedParts.{IsMadeOf};
@@ -23,14 +24,15 @@ use ld_names::rule::Rule;
 use ld_names::thing::{ThingEntry, list_things};
 use ld_parts::listing::Listing;
 use ld_refs::check::Checked;
+use ld_roles::role_tree::RoleTree;
 use ld_state::beginnings::Beginnings;
 use ld_state::slots::Slots;
 use std::alloc::Global;
 use std::marker::Model;
 use std::rc::Rc;
 
-/// A valid unit with its names, its rules, the slots of its runs' cells, and
-/// the roles that reach each activity. It is made once, and contracts see it as the unit.
+/// A valid unit with its names, its rules and roles, the slots of its runs' cells, and the roles
+/// that reach each activity. It is made once, and contracts see it as the unit.
 pub struct PreparedUnit {
     unit: Unit,
     made: Made,
@@ -42,6 +44,7 @@ struct Made {
     rules: Vec<Rule>,
     reach: Reach,
     slots: Rc<Slots>,
+    roles: Rc<RoleTree>,
     /// Of each thing whether it is visible at first, where it is shown and hidden.
     shown: Vec<Option<bool>>,
     /// Of each property its uri, as the store of global values takes it.
@@ -56,6 +59,7 @@ impl Drop for Made {
             rules: _,
             reach: _,
             slots: _,
+            roles: _,
             shown: _,
             uris: _,
         } = self;
@@ -135,6 +139,13 @@ impl PreparedUnit {
         &self.made.slots
     }
 
+    /// The unit's roles, which its runs share. It takes no memory.
+    pub fn roles(&self) -> &Rc<RoleTree>
+        ensures { result.now.value ≡ role_bounds self.now }
+    {
+        &self.made.roles
+    }
+
     /// What the beginnings of the cells of the unit's runs are made from. It takes no memory.
     pub fn beginnings(&self) -> Beginnings<'_>
         ensures unit { result.unit.now ≡ self.now }
@@ -170,11 +181,13 @@ fn make(alloc: Global, unit: &Unit, names: Names, rules: Vec<Rule>) -> Result<Ma
     let reach = Reach::of(alloc, unit, &names)?;
     let (slots, shown) = lay_out(alloc, unit, &rules)?;
     let uris = uris_of(alloc, unit.properties.as_slice())?;
+    let roles = RoleTree::of(alloc, unit)?;
     Ok(Made {
         names,
         rules,
         reach,
         slots: Rc::new(alloc, slots)?,
+        roles: Rc::new(alloc, roles)?,
         shown,
         uris,
     })

@@ -15,6 +15,7 @@ use crate::stages::step;
 use ld_base::memory::NoMemory;
 use ld_base::steps::Steps;
 use ld_base::text::Text;
+use ld_cells::undo_log::UndoLog;
 use ld_globals::globals::Globals;
 use ld_lines::command::RunCommand;
 use ld_replies::telling::tell_refusal;
@@ -100,7 +101,46 @@ impl Run {
     /// Does the command at the moment, or refuses it: `out` is emptied and then holds the reply
     /// block. The run takes in the store's values of its global properties, and the store takes
     /// them back. Where memory is wanting the block says so, and the command counts as not given.
+    /// The writes to cells that a refusal takes back are recorded in the room of `undo_log`, which may
+    /// grow.
     pub fn apply<L: Ledger>(
+        &mut self,
+        alloc: Global,
+        globals: &mut Globals,
+        undo_log: &mut UndoLog,
+        moment: Moment,
+        command: &RunCommand,
+        out: &mut Text,
+        steps: &mut Steps<L>,
+    )
+        requires serves { Serves globals.old self.old.unit }
+        requires moment { IsMoment moment.0 }
+        requires room { 128 ≤ room_of out.old }
+        ensures unit { self.new.unit ≡ self.old.unit }
+        ensures answers { AnswersCommand self.old.unit (run_of self.old.state)
+            (values_of globals.old) moment.0 command.now out.new.bytes (run_of self.new.state)
+            (values_of globals.new) }
+        ensures declared { globals.new.declared ≡ globals.old.declared }
+        ensures reached { IsReached self.new.unit (run_of self.new.state) }
+        ensures room { 128 ≤ room_of out.new }
+        ensures own { self.new.state.spare ≡ self.old.state.spare }
+    {
+        self.exchange(undo_log);
+        self.answer(alloc, globals, moment, command, out, steps);
+        self.exchange(undo_log);
+    }
+
+    /// Exchanges the room in which the state records writes with that of the log.
+    fn exchange(&mut self, undo_log: &mut UndoLog)
+        ensures unit { self.new.unit ≡ self.old.unit }
+        ensures state { self.new.state ≡ record self.old.state { spare = undo_log.old } }
+        ensures log { undo_log.new ≡ self.old.state.spare }
+    {
+        self.state.exchange(undo_log);
+    }
+
+    /// Does the command at the moment, or refuses it.
+    fn answer<L: Ledger>(
         &mut self,
         alloc: Global,
         globals: &mut Globals,
@@ -161,6 +201,7 @@ fn begin<L: Ledger>(
     State::new(
         alloc,
         unit.slots().clone()?,
+        unit.roles().clone()?,
         &unit.beginnings(),
         &stored,
         moment,

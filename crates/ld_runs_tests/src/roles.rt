@@ -10,15 +10,18 @@ use ld_base::id::Id;
 use ld_base::numbers::{PersonNo, RoleNo};
 use ld_expr::cells::role_number;
 use ld_roles::fault::{AssignFault, DropFault, EnrolFault, Short};
+use ld_roles::role_tree::RoleTree;
 use ld_roles::roster::Roster;
 use ld_rules::prepared::PreparedUnit;
 use std::alloc::Global;
+use std::rc::Rc;
 use std::test::Fail;
 
 #[test]
 fn a_role_is_given(rt: HostRuntime) -> Result<(), Fail> {
     let unit = full(rt.alloc())?;
-    let roster = Roster::new(rt.alloc(), unit.unit())?;
+    let roles = RoleTree::of(rt.alloc(), unit.unit())?;
+    let roster = Roster::new(rt.alloc(), Rc::new(rt.alloc(), roles)?);
     give(rt.alloc(), &unit, roster)
 }
 

@@ -10,6 +10,7 @@ use ld_base::memory::NoMemory;
 use ld_base::numbers::{PersonNo, PropNo, RuleNo};
 use ld_base::steps::Steps;
 use ld_base::text::Text;
+use ld_cells::undo_log::UndoLog;
 use ld_model::cell::{CellName, Owner};
 use ld_model::view::View;
 use ld_roles::limit::SEATS;
@@ -45,7 +46,7 @@ fn state_of(alloc: Global, unit: &PreparedUnit) -> Result<State, NoMemory>
     }
     let slots = unit.slots().clone()?;
     let from = unit.beginnings();
-    State::new(alloc, slots, &from, &[], Moment(5))
+    State::new(alloc, slots, unit.roles().clone()?, &from, &[], Moment(5))
 }
 
 /// Whether the unit has no properties.
@@ -229,14 +230,17 @@ fn sends(alloc: Global, state: &mut State) -> usize
     state.outbox().len()
 }
 
-/// How many notices there are once one more was taken back.
+/// How many notices there are once one more was taken back, with the room of a log for recording.
 fn takes_back(alloc: Global, state: &mut State) -> usize
     requires unmarked { state.old.kept ≡ None }
     ensures unmarked { state.new.kept ≡ None }
 {
+    let mut log = UndoLog::new(alloc);
+    state.exchange(&mut log);
     state.mark();
     let _sent = sends(alloc, state);
     state.undo();
+    state.exchange(&mut log);
     state.outbox().len()
 }
 

@@ -5,6 +5,7 @@ ghost use Rattle.ld_model.specs.declared.unit.Unit.{Unit as Course};
 ghost use Rattle.ld_roles.specs.Kept.{persons_of};
 ghost use Rattle.ld_roles.specs.Persons.{holds_role};
 ghost use Rattle.ld_roles.specs.Refusals.{assign_fault, enrol_fault};
+ghost use Rattle.ld_roles.specs.RoleBounds.{role_bounds};
 ghost use Rattle.ld_roles.specs.declared.limit.TheConstants.{SEATS};
 ghost use Rattle.ld_state.specs.Beginnings.{AreOfUnit, stored_for};
 ghost use Rattle.ld_state.specs.GlobalValues.{GlobalValues};
@@ -24,8 +25,10 @@ use ld_base::memory::NoMemory;
 use ld_base::numbers::{PersonNo, RoleNo};
 use ld_base::steps::Steps;
 use ld_cells::cells::Cells;
+use ld_cells::undo_log::UndoLog;
 use ld_model::cell::CellName;
 use ld_model::view::View;
+use ld_roles::role_tree::RoleTree;
 use ld_roles::roster::Roster;
 use ld_value::moment::Moment;
 use ld_value::value::Value;
@@ -60,16 +63,18 @@ impl Model for State {
 
 impl State {
     /// The state of a run of the unit that is made at this moment: without persons, and with no
-    /// mark. `slots` are the unit's, and `stored` has what the store holds of each global property.
+    /// mark. `slots` and `roles` are the unit's, and `stored` has what the store holds of each global property.
     pub fn new(
         alloc: Global,
         slots: Rc<Slots>,
+        roles: Rc<RoleTree>,
         from: &Beginnings<'_>,
         stored: &[Option<Value>],
         moment: Moment,
     ) -> Result<State, NoMemory>
         requires unit { AreOfUnit from.now }
         requires slots { slots.value ≡ layout_of from.now.unit.now }
+        requires roles { roles.value ≡ role_bounds from.now.unit.now }
         requires stored { (store : GlobalValues)
             × (cells_of stored.now ≡ stored_for store None from.now.unit.now.properties) }
         ensures run { (store : GlobalValues)
@@ -85,7 +90,7 @@ impl State {
             cells,
             sent: None,
             outbox: Vec::new(alloc),
-            roster: Roster::new(alloc, from.unit)?,
+            roster: Roster::new(alloc, roles),
         })
     }
 
@@ -310,6 +315,15 @@ impl State {
         self.cells.keep();
         self.roster.keep();
         self.sent = None;
+    }
+
+    /// Exchanges the room for recording writes to cells with that of the log. It takes no memory.
+    pub fn exchange(&mut self, log: &mut UndoLog)
+        requires { self.old.kept ≡ None }
+        ensures rest { self.new ≡ record self.old { spare = log.old } }
+        ensures log { log.new ≡ self.old.spare }
+    {
+        self.cells.exchange(log);
     }
 
     /// Makes room for so many writes under a mark. It changes nothing else, also where memory is

@@ -1,9 +1,10 @@
 //! Cells, that calls succeed where there is memory, and cells beside a plain list.
-ghost use Rattle.std.specs.Prelude.{◌≡◌, ◌<◌, OnOk};
+ghost use Rattle.std.specs.Prelude.{◌≡◌, ◌<◌, None, OnOk};
 
 use ld_base::memory::NoMemory;
 use ld_base::steps::Steps;
 use ld_cells::cells::Cells;
+use ld_cells::undo_log::UndoLog;
 use ld_value::value::Value;
 use std::marker::Brand;
 use std::process::Abort;
@@ -99,6 +100,32 @@ fn writes_and_cells_are_taken_back(rt: HostRuntime) -> Result<(), Fail> {
     put_all(&rt, &mut cells, &puts)?;
     cells.undo();
     hold::<Brand>(&rt, &cells, &[Some(1), None, Some(3)], Blank::new(1));
+    Ok(())
+}
+
+#[test]
+fn one_undo_log_serves_two(rt: HostRuntime) -> Result<(), Fail> {
+    let mut log = UndoLog::new(rt.alloc());
+    let mut first = Cells::new(rt.alloc());
+    let mut second = Cells::new(rt.alloc());
+    put_all(&rt, &mut first, &[(0, Some(1), true)])?;
+    put_all(&rt, &mut second, &[(0, Some(3), true)])?;
+    take_back(&rt, &mut first, &mut log)?;
+    take_back(&rt, &mut second, &mut log)?;
+    hold::<Brand>(&rt, &first, &[Some(1)], Blank::new(1));
+    hold::<Brand>(&rt, &second, &[Some(3)], Blank::new(1));
+    Ok(())
+}
+
+/// Writes to the first cell, recorded in the room of the log, and takes it back.
+fn take_back(rt: &impl Abort, cells: &mut Cells, log: &mut UndoLog) -> Result<(), NoMemory>
+    requires { cells.old.kept ≡ None }
+{
+    cells.exchange(log);
+    cells.mark();
+    put_all(rt, cells, &[(0, Some(2), true)])?;
+    cells.undo();
+    cells.exchange(log);
     Ok(())
 }
 

@@ -13,6 +13,7 @@ use ld_base::id::Id;
 use ld_base::memory::NoMemory;
 use ld_base::steps::Steps;
 use ld_base::text::Text;
+use ld_cells::undo_log::UndoLog;
 use ld_checks::refusal::Refusal;
 use ld_globals::globals::Globals;
 use ld_lines::command::RunCommand;
@@ -66,6 +67,7 @@ pub(crate) fn ask_run<L: Ledger>(
     alloc: Global,
     globals: &mut Globals,
     runs: &mut IndexMap<Id, Run>,
+    undo_log: &mut UndoLog,
     moment: Moment,
     name: &Id,
     command: &RunCommand,
@@ -88,6 +90,6 @@ pub(crate) fn ask_run<L: Ledger>(
     let Some(run) = runs.get_mut(name) else {
         return refuse(Refusal::UnknownRun, out);
     };
-    run.apply(alloc, globals, moment, command, out, steps);
+    run.apply(alloc, globals, undo_log, moment, command, out, steps);
     Ok(())
 }

@@ -19,6 +19,7 @@ use ld_base::id::Id;
 use ld_base::memory::NoMemory;
 use ld_base::steps::Steps;
 use ld_base::text::Text;
+use ld_cells::undo_log::UndoLog;
 use ld_checks::refusal::Refusal;
 use ld_globals::globals::Globals;
 use ld_json::fault::ReadFault;
@@ -38,13 +39,16 @@ use std::rc::Rc;
 use std::sync::ledger::Ledger;
 
 /// Published units, the store of the values of their global properties, and the runs that were made
-/// of them by their names. (docs/MEANING.md, "Histories") What reads the lines is kept beside them,
-/// and is no part of what the world means.
+/// of them by their names. (docs/MEANING.md, "Histories") What reads the lines, and the room in
+/// which a command's writes are recorded, are kept beside them, and are no part of what the world
+/// means.
 pub struct World {
     units: Vec<Rc<PreparedUnit>>,
     globals: Globals,
     runs: IndexMap<Id, Run>,
     commands: CommandReader,
+    /// Lent to the run that does a command.
+    undo_log: UndoLog,
 }
 
 // By hand, so that a function which lets one go calls this and is not proved over each field anew.
@@ -55,6 +59,7 @@ impl Drop for World {
             globals: _,
             runs: _,
             commands: _,
+            undo_log: _,
         } = self;
     }
 }
@@ -92,6 +97,7 @@ impl World {
             globals: Globals::new(alloc),
             runs: IndexMap::new(alloc),
             commands: CommandReader::new(alloc),
+            undo_log: UndoLog::new(alloc),
         }
     }
 
@@ -247,6 +253,9 @@ impl World {
         ensures room { 128 ≤ room_of out.new }
     {
         let (globals, runs) = (&mut self.globals, &mut self.runs);
-        ask_run(alloc, globals, runs, moment, name, command, out, steps)
+        let undo_log = &mut self.undo_log;
+        ask_run(
+            alloc, globals, runs, undo_log, moment, name, command, out, steps,
+        )
     }
 }

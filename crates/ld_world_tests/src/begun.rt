@@ -150,6 +150,7 @@ pub(crate) fn begin<L: Ledger>(
     State::new(
         alloc,
         unit.slots().clone()?,
+        unit.roles().clone()?,
         &unit.beginnings(),
         &stored,
         Moment(5),

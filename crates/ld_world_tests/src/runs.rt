@@ -7,6 +7,7 @@ use crate::begun::{Subject, test};
 use crate::units::{check, id};
 use ld_base::steps::Steps;
 use ld_base::text::Text;
+use ld_cells::undo_log::UndoLog;
 use ld_globals::globals::Globals;
 use ld_lines::command::RunCommand;
 use ld_rules::prepared::PreparedUnit;
@@ -74,5 +75,14 @@ fn apply<L: Ledger>(
     ensures declared { globals.new.declared ≡ globals.old.declared }
     ensures room { 128 ≤ room_of out.new }
 {
-    run.apply(alloc, globals, Moment(6), &command, out, steps);
+    let mut undo_log = UndoLog::new(alloc);
+    run.apply(
+        alloc,
+        globals,
+        &mut undo_log,
+        Moment(6),
+        &command,
+        out,
+        steps,
+    );
 }

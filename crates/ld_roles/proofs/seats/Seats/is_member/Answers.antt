@@ -8,13 +8,14 @@ use Rattle.ld_roles.proofs.seats.Seats.is_member.Goals as goal
 
 pub index-requires : goal.index-requires
 index-requires c =
-    let roles : length c.self.inside.roles ≡ length c.args.self.now.roles = ap (λ seats. length seats.roles) c.self.view_is in
-    omega (arith, roles, c.requires.role, count_noted (seated_at c.self.invariant c.args.person _ c.entry.ensures))
+    let roles : length c.self.inside.roles.value ≡ length c.args.self.now.roles = ap (λ seats. length seats.roles) c.self.view_is in
+    let noted = count_noted (seated_at c.self.invariant c.args.person _ c.entry.ensures) in
+    omega (arith, roles, c.requires.role, ap (λ seat. length seat.member.items) c.deref.ensures, noted)
 
 pub returns : goal.returns
 returns c =
-    let roles : length c.self.inside.roles ≡ length c.args.self.now.roles = ap (λ seats. length seats.roles) c.self.view_is in
-    let within : c.args.role < length c.self.inside.roles = omega arith in
-    let noted = noted_among c.self.invariant c.args.person c.args.role _ c.entry.ensures within in
-    c.index.ensures ∙ get_or_from_slice_get c.entry.result.1.now.member.items c.args.role _ c.index.result.now noted
+    let roles : length c.self.inside.roles.value ≡ length c.args.self.now.roles = ap (λ seats. length seats.roles) c.self.view_is in
+    let within : c.args.role < length c.self.inside.roles.value = omega arith in
+    let noted = rw (← c.deref.ensures) at (noted_among c.self.invariant c.args.person c.args.role _ c.entry.ensures within) in
+    c.index.ensures ∙ get_or_from_slice_get c.deref.result.now.member.items c.args.role _ c.index.result.now noted
     ∙ ap (λ seats. is_member_among seats.roles (persons_of seats.rows) c.args.role c.args.person) c.self.view_is
