@@ -4,6 +4,7 @@ ghost use Rattle.std.specs.Prelude.{◌≡◌, ◌<◌};
 
 use ld_base::id::Id;
 use ld_base::items::Items;
+use ld_base::memory::NoMemory;
 use ld_base::steps::Steps;
 use ld_base::text::Text;
 use ld_globals::declared::{Declared, GlobalKind};
@@ -284,33 +285,51 @@ fn in_any_order<L: Ledger>(alloc: Global, blank: Blank) -> Result<(), Fail>
 {
     let mut steps = Steps::<L>::new(blank);
     let mut store = Globals::new(alloc);
+    declare_three(alloc, &mut store)?;
+    find_any(alloc, &mut store, &mut steps)
+}
+
+/// Declares three uris of one value each.
+fn declare_three(alloc: Global, store: &mut Globals) -> Result<(), Fail> {
     for (uri, initial) in [("urn:a", "0"), ("urn:b", "1"), ("urn:long", "2")] {
-        let done = declare(
-            alloc,
-            &mut store,
-            uri,
-            GlobalKind::Glob,
-            Kind::Integer,
-            initial,
-        )?;
+        let done = declare(alloc, store, uri, GlobalKind::Glob, Kind::Integer, initial)?;
         check(done == Ok(()), "a declaration")?;
     }
+    Ok(())
+}
+
+/// Asks for each of the three uris, and for one that is not declared, before and after they are set.
+fn find_any<L: Ledger>(
+    alloc: Global,
+    store: &mut Globals,
+    steps: &mut Steps<L>,
+) -> Result<(), Fail> {
+    let uris = four_uris(alloc)?;
+    check(
+        find_in_turn(store, uris.as_slice(), None, steps)
+            && set_all(store, uris.as_slice())
+            && find_in_turn(store, uris.as_slice(), Some(5), steps),
+        "the values before and after",
+    )
+}
+
+/// The three uris and one more.
+fn four_uris(alloc: Global) -> Result<Vec<Text>, NoMemory> {
     let mut uris = Vec::new(alloc);
     for uri in ["urn:long", "urn:b", "urn:x", "urn:a"] {
         uris.push(Text::of(alloc, uri)?)?;
     }
-    check(
-        find_in_turn(&store, uris.as_slice(), None, &mut steps),
-        "the initial values",
-    )?;
-    for uri in uris.as_slice() {
-        let done = store.set(uri, None, "5").is_ok();
-        check(done == wanted(uri, None).is_ok(), "setting 5")?;
+    Ok(uris)
+}
+
+/// Whether 5 is taken for each uri that is declared, and for no other.
+fn set_all(store: &mut Globals, uris: &[Text]) -> bool {
+    for uri in uris {
+        if store.set(uri, None, "5").is_ok() != wanted(uri, None).is_ok() {
+            return false;
+        }
     }
-    check(
-        find_in_turn(&store, uris.as_slice(), Some(5), &mut steps),
-        "the value 5",
-    )
+    true
 }
 
 /// Whether each uri has its value, whichever uri was asked for before it.
