@@ -128,17 +128,17 @@ module _ {slots before heads : List ℕ} (d : IsIndexed slots before heads) (slo
   indexed_push new last count e n = rw (← e, ← n) (record {
     distinct = distinct_push slots slot d.distinct new;
     lengths = length_push before (get_or heads b 0) ∙ (ap (λ (x : ℕ). x + 1) d.lengths ∙ sym (length_push slots slot));
-    some = rw (length-set heads b (length slots + 1)) d.some;
+    some = λ _. rw (length-set heads b (length slots + 1)) (omega arith);
     lasts = rw (length-set heads b (length slots + 1), length_push slots slot) new_lasts;
     befores = rw (length-set heads b (length slots + 1)) new_befores;
   })
 
 -- an empty list
-pub indexed_none : (heads : List ℕ) → 0 < length heads → ((b : ℕ) → b < length heads → get_or heads b 0 ≡ 0) → IsIndexed [] [] heads
-indexed_none heads some zeros = record {
+pub indexed_none : (heads : List ℕ) → ((b : ℕ) → b < length heads → get_or heads b 0 ≡ 0) → IsIndexed [] [] heads
+indexed_none heads zeros = record {
   distinct = λ i j li lj e. absurd (omega arith);
   lengths = refl;
-  some = some;
+  some = λ lt. absurd (omega arith);
   lasts = λ b lt. rw (zeros b lt) (record {
     within = omega arith;
     own = λ p. absurd (omega arith);
@@ -177,8 +177,8 @@ emptied_more {slots} {heads0} {heads} {count} m b is lt =
 pub emptied_all : {slots before heads0 heads : List ℕ} {count : ℕ} → IsIndexed slots before heads0 → Emptied slots heads0 heads count
     → length slots ≤ count → IsIndexed [] [] heads
 emptied_all {slots} {before} {heads0} {heads} {count} d m le =
-    let len = m.len in let some = d.some in
-    indexed_none heads (omega arith) (λ b lt. elim (m.others b) [
+    let len = m.len in
+    indexed_none heads (λ b lt. elim (m.others b) [
       | inl zero ↦ zero
       | inr same ↦ elim (cases_eq (get_or heads0 b 0) 0) [
         | inl none ↦ same ∙ none

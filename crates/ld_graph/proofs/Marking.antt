@@ -170,21 +170,14 @@ pub some_levels : (levels : List (List ℕ)) → 0 < length (lowest levels) → 
 some_levels [] some = some
 some_levels (level ∷ above) some = omega arith
 
--- no bit of a row of one word is set where none of its first word is
-pub one_word : (words : List ℕ) (at : ℕ) → length words ≡ 1 → at / 64 < length words
-    → ((n : ℕ) → n / 64 ≡ at / 64 → bit words n ≡ false) → (n : ℕ) → bit words n ≡ false
-one_word words at one within none n = elim (cases_lt (n / 64) 1) [
-  | inl lt ↦ none n (omega arith)
-  | inr le ↦ bit_beyond words n (omega arith)
-]
-
+-- no bit is set where there is no word
 pub no_bits : (n : ℕ) → bit [] n ≡ false
 no_bits n = no_bit n
 
-pub empty_table : IsTable ([] ∷ [] ∷ [] ∷ []) 0
+pub empty_table : IsTable ([] ∷ [] ∷ []) 0
 empty_table = record {
   levels_there = omega arith;
-  are_levels = (omega arith, λ _. no_marks, (omega arith, λ _. no_marks, (omega arith, λ _. no_marks, tt)));
+  are_levels = (omega arith, λ _. no_marks, (omega arith, λ _. no_marks, tt));
   fits = omega arith;
   covers = omega arith;
   none_beyond = λ n _. no_bit n;

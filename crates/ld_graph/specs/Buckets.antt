@@ -19,7 +19,7 @@ pub record LastBelow (slots : List ℕ) (buckets bound bucket link : ℕ) : Type
 pub record IsIndexed (slots before heads : List ℕ) : Type 0 where
   pub distinct : AreDistinct slots
   pub lengths : length before ≡ length slots
-  pub some : 0 < length heads
+  pub some : 0 < length slots → 0 < length heads
   pub lasts : (b : ℕ) → b < length heads → LastBelow slots (length heads) (length slots) b (get_or heads b 0)
   pub befores : (p : ℕ) → p < length slots → LastBelow slots (length heads) p (bucket_at slots (length heads) p) (get_or before p 0)
 
@@ -28,6 +28,7 @@ pub record IsSlotList (slots before heads : List ℕ) (room slots_room before_ro
   pub indexed : IsIndexed slots before heads
   pub fits : room < 2 ^ 32
   pub within : length slots ≤ room
+  pub buckets : 0 < room → 0 < length heads
   pub slots_within : room ≤ slots_room
   pub before_within : room ≤ before_room
 

@@ -8,19 +8,18 @@ use ld_base::memory::NoMemory;
 use std::alloc::Global;
 use std::marker::Model;
 
-// Each level that has words has a bit for each word of 64 bits of the one below it. For 120,000
-// sites, as many as a run may have, the highest level has one word, and for 4,000,000 it has 16.
-const LEVELS: usize = 3;
+// The upper level, where it has words, has a bit for each word of 64 bits of the lower one. For
+// 120,000 sites, as many as a run may have, it has 30 words.
+const LEVELS: usize = 2;
 
 /// A set of sites below a number, its range, seen by contracts as a table with one entry for each
 /// number of the range.
 ///
-/// The bits of the sites stand in words of 64. Above them stand smaller levels, in which a bit says
-/// that a word of the level below is not zero. So `next_from` passes over the empty words below the
-/// top level without a look at them; the top level, where a word stands for 2^18 sites, is walked
-/// word by word. Levels above one of a single word take no memory: a set that first comes into
-/// range with few sites has few levels, and keeps to them. Where it is known that no site is in the
-/// set, none of them is looked at.
+/// The bits of the sites stand in words of 64. Above them stands a smaller level, in which a bit
+/// says that a word is not zero. So `next_from` passes over empty words without a look at them; the
+/// upper level, where a word stands for 4,096 sites, is walked word by word. Above a few words there
+/// is no such level, which takes no memory then: a set that first comes into range with few sites
+/// keeps to one level. Where it is known that no site is in the set, no word is looked at.
 #[derive(Drop)]
 pub struct Dirty {
     range: u32,
@@ -49,7 +48,7 @@ impl Dirty {
         let mut dirty = Dirty {
             range: 0,
             may_have_some: false,
-            levels: [Level::new(alloc), Level::new(alloc), Level::new(alloc)],
+            levels: [Level::new(alloc), Level::new(alloc)],
         };
         dirty.grow(sites)?;
         Ok(dirty)

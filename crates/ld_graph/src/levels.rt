@@ -6,6 +6,9 @@ ghost use Rattle.ld_graph.specs.Words.{bit, lowest, AreLevels};
 use crate::level::Level;
 use ld_base::memory::NoMemory;
 
+/// No level marks so few words of another: they are looked at one by one.
+const FEW: usize = 16;
+
 /// Sets a bit of the lowest level.
 pub(crate) fn set_at(levels: &mut [Level], at: usize)
     requires levels { AreLevels levels.old }
@@ -46,7 +49,21 @@ pub(crate) fn clear_at(levels: &mut [Level], at: usize) -> bool
     if are_in_use(above) {
         return clear_at(above, at / 64);
     }
-    lower.len() == 1
+    is_zero(lower)
+}
+
+/// Whether no bit of the level is set; false where it has more than a few words.
+fn is_zero(level: &Level) -> bool
+    requires { length level.now ≤ 2 ^ 32 }
+    ensures { result ≡ true → (n : ℕ) → bit level.now n ≡ false }
+{
+    if level.len() > FEW {
+        return false;
+    }
+    match next_in(level, 0) {
+        Some(_) => false,
+        None => true,
+    }
 }
 
 /// Whether the first of the levels has words.
@@ -70,7 +87,7 @@ fn are_to_mark(lower: &Level, above: &[Level], words: usize) -> bool
     if are_in_use(above) {
         return true;
     }
-    lower.len() == 0 && words > 1
+    lower.len() == 0 && words > FEW
 }
 
 /// Brings at least so many words into the lowest level, and what marks them into those above. Where

@@ -54,6 +54,19 @@ impl SlotList {
         })
     }
 
+    /// An empty list without room, which takes no memory.
+    pub fn new(alloc: Global) -> SlotList
+        ensures empty { result.items ≡ [] }
+        ensures room { result.room ≡ 0 }
+    {
+        SlotList {
+            slots: Vec::new(alloc),
+            before: Vec::new(alloc),
+            heads: Vec::new(alloc),
+            room: 0,
+        }
+    }
+
     /// Puts a slot at the end, if it is not in the list.
     pub fn put(&mut self, slot: u32)
         requires { Contains self.old.items slot ⊎ (length self.old.items < self.old.room) }
@@ -73,6 +86,9 @@ impl SlotList {
         ensures empty { self.new.items ≡ [] }
         ensures room { self.new.room ≡ self.old.room }
     {
+        if self.slots.is_empty() {
+            return;
+        }
         empty_buckets(&mut self.heads, &self.slots);
         self.slots.clear();
         self.before.clear();
@@ -114,6 +130,9 @@ impl SlotList {
         ensures yes { result ≡ true → Contains self.now.items slot }
         ensures no { result ≡ false → Contains self.now.items slot → ⊥ }
     {
+        if self.slots.is_empty() {
+            return false;
+        }
         let mut link = self.heads[bucket_of(slot, self.heads.len())];
         'bucket: while link > 0 {
             let index = (link - 1) as usize;

@@ -1,6 +1,6 @@
-use Rattle.std.proofs.Common.{rules, arith, ◌≡◌, ◌/◌, ◌<◌, ◌∷◌, length, subst}
-use Rattle.ld_graph.specs.Words.{lowest, AreLevels}
-use Rattle.ld_graph.proofs.Marking.{marks_kept, one_word}
+use Rattle.std.proofs.Common.{rules, arith, ◌≡◌, ◌∷◌, subst}
+use Rattle.ld_graph.specs.Words.{AreLevels}
+use Rattle.ld_graph.proofs.Marking.{marks_kept}
 use Rattle.ld_graph.proofs.levels.+clear_at.Goals as goal
 
 pub returns-then-not-zero-clause-levels : goal.returns-then-not-zero-clause-levels
@@ -14,9 +14,4 @@ returns-then-not-zero-clause-levels t c =
     )
 
 pub returns-clause-none : goal.returns-clause-none
-returns-clause-none t c one =
-    let first : c.args.levels.now ≡ c.in-Some.lower.now ∷ c.in-Some.above.now = search rules in
-    let len = c.clear-zero.ensures.len in
-    let within = subst (λ ls. c.args.at / 64 < length (lowest ls)) first c.requires.within in
-    let single : length c.clear-zero.new.self ≡ 1 = search rules in
-    one_word c.clear-zero.new.self c.args.at single (omega arith) (c.clear-zero.ensures.zero (search rules))
+returns-clause-none t c none n = c.is_zero.ensures (search rules) n

@@ -3,7 +3,7 @@ use Rattle.ld_graph.proofs.Marking.{none_had, empty_table, no_bits}
 use Rattle.ld_graph.proofs.dirty.Dirty.new.Goals as goal
 
 pub invariant_of-dirty : goal.invariant_of-dirty
-invariant_of-dirty c = rw (c.new.ensures, c.new-2.ensures, c.new-3.ensures) (empty_table, λ _ n. no_bits n)
+invariant_of-dirty c = rw (c.new.ensures, c.new-2.ensures) (empty_table, λ _ n. no_bits n)
 
 pub returns-clause-fresh : goal.returns-clause-fresh
 returns-clause-fresh c =

@@ -1,5 +1,5 @@
 use Rattle.std.proofs.Common.{rules, arith, ◌≡◌, ◌<◌, [], ◌∷◌, ◌++◌, length, sym}
-use Rattle.std.proofs.lemmas.List.{get_or_read, length_push}
+use Rattle.std.proofs.lemmas.List.{get_or_read, length-set, length_push}
 use Rattle.ld_graph.proofs.Bucketed.{indexed_push}
 use Rattle.ld_graph.proofs.slots.SlotList.add.Goals as goal
 
@@ -21,6 +21,7 @@ invariant_of-self c =
           (sym (get_or_read c.self.inside.heads.items c.bucket_of-bucket.result c.index-last.result.now below (search rules) 0)) (search rules));
       fits = c.self.invariant.fits;
       within = rw slots (let e = length_push c.self.inside.slots.items c.args.slot in omega arith);
+      buckets = λ _. rw (length-set c.self.inside.heads.items c.bucket_of-bucket.result c.len-2.result) (omega arith);
       slots_within = omega arith;
       before_within = omega arith;
     }
