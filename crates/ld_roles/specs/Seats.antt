@@ -1,6 +1,5 @@
 -- How a roster keeps the persons.
-use Rattle.std.specs.Prelude.{◌≡◌, ◌≤◌, ℕ, List, All, length, map, replicate, set, Bool, false, nat_eq, if◌then◌else◌}
-use Rattle.std.specs.Global.{Box}
+use Rattle.std.specs.Prelude.{◌≡◌, ◌≤◌, ℕ, List, [], ◌∷◌, Option, None, Some, All, length, map, replicate, set, Bool, false, nat_eq, if◌then◌else◌}
 use Rattle.std.specs.List.{list_any}
 use Rattle.ld_roles.specs.Kept.{PersonRow, held_in}
 use Rattle.ld_roles.specs.RoleBounds.{RoleBounds}
@@ -27,8 +26,13 @@ pub record Seated : Type 0 where
   pub rows : List PersonRow
 
 -- The person of this name in this seat, and of each role whether the person holds it.
-abbrev pub row_of : List ℕ × Box Seat → PersonRow
-row_of entry = record { name = entry.0; held = entry.1.value.holds.items }
+abbrev pub row_of : List ℕ × Seat → PersonRow
+row_of entry = record { name = entry.0; held = entry.1.holds.items }
+
+-- The first person, if there is one, and the others.
+abbrev pub seated_in : Option (List ℕ × Seat) → List (List ℕ × Seat) → List (List ℕ × Seat)
+seated_in None others = others
+seated_in (Some first) others = first ∷ others
 
 -- One who holds none of the roles.
 abbrev pub new_row : List RoleBounds → List ℕ → PersonRow
@@ -38,7 +42,8 @@ new_row roles name = record { name = name; held = replicate (length roles) false
 abbrev pub with_held : ℕ → Bool → PersonRow → PersonRow
 with_held role held row = record { name = row.name; held = set row.held role held }
 
--- All are seated, and no more than there are seats.
-pub record IsSeating (roles : List RoleBounds) (persons : List (List ℕ × Box Seat)) : Type 0 where
-  pub seated : All (λ entry. IsSeated roles entry.1.value) persons
-  pub few : length persons ≤ SEATS
+-- All are seated, the first one before the others, and no more than there are seats.
+pub record IsSeating (roles : List RoleBounds) (first : Option (List ℕ × Seat)) (others : List (List ℕ × Seat)) : Type 0 where
+  pub in_order : first ≡ None → others ≡ []
+  pub seated : All (λ entry. IsSeated roles entry.1) (seated_in first others)
+  pub few : length (seated_in first others) ≤ SEATS

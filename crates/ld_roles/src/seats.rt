@@ -3,7 +3,7 @@ ghost use Rattle.std.specs.Prelude.{◌≡◌, ◌<◌, ◌≤◌, ◌++◌, ◌
 ghost use Rattle.ld_roles.specs.Kept.{persons_of};
 ghost use Rattle.ld_roles.specs.Membership.{is_member_among};
 ghost use Rattle.ld_roles.specs.Persons.{changed_at, holds_role, newcomer, person_number, with_role};
-ghost use Rattle.ld_roles.specs.Seats.{new_row, with_held};
+ghost use Rattle.ld_roles.specs.Seats.{IsSeated, new_row, row_of, with_held};
 
 use crate::limit::SEATS;
 use crate::role_tree::RoleTree;
@@ -19,20 +19,24 @@ use std::rc::Rc;
 #[derive(Drop)]
 pub(crate) struct Seats {
     alloc: Global,
-    // Boxed, since the map makes room for nine persons from the first one on.
-    persons: IndexMap<Id, Box<Seat>>,
+    /// The first person, beside the others: a map makes room for nine at once.
+    first: Option<(Id, Seat)>,
+    others: IndexMap<Id, Seat>,
     roles: Rc<RoleTree>,
 }
 
 impl Model for Seats {
     ghost use Rattle.std.specs.Prelude.{map};
-    ghost use Rattle.ld_roles.specs.Seats.{Seated, IsSeating, row_of};
+    ghost use Rattle.ld_roles.specs.Seats.{Seated, IsSeating, row_of, seated_in};
 
     ghost Value = { Seated };
 
-    ghost view = { λ s. record { roles = s.roles.value; rows = map row_of s.persons.entries } };
+    ghost view = { λ s. record {
+      roles = s.roles.value;
+      rows = map row_of (seated_in s.first s.others.entries);
+    } };
 
-    ghost invariant = { λ s. IsSeating s.roles.value s.persons.entries };
+    ghost invariant = { λ s. IsSeating s.roles.value s.first s.others.entries };
 }
 
 impl Seats {
@@ -42,7 +46,8 @@ impl Seats {
     {
         Seats {
             alloc,
-            persons: IndexMap::new(alloc),
+            first: None,
+            others: IndexMap::new(alloc),
             roles,
         }
     }
@@ -59,20 +64,30 @@ impl Seats {
         ensures count { result ≡ length self.now.rows }
         ensures few { result ≤ SEATS }
     {
-        self.persons.len()
+        match &self.first {
+            Some(_) => self.others.len() + 1,
+            None => 0,
+        }
     }
 
-    /// The number of the person of this name. A person alone is looked at, without a search.
+    /// The number of the person of this name. The first one is looked at, and only the others are
+    /// searched for.
     pub(crate) fn number(&self, name: &Id) -> Option<usize>
         ensures number { result ≡ person_number (persons_of self.now.rows) name.now }
         ensures within { IfSome result (λ number. number < length self.now.rows) }
         ensures few { IfSome result (λ number. number < SEATS) }
     {
-        if self.persons.len() == 1 {
-            let (only, _) = entry(&self.persons, 0);
-            return if name == only { Some(0) } else { None };
+        let Some((first, _)) = &self.first else {
+            return None;
+        };
+        if name == first {
+            return Some(0);
         }
-        self.persons.get_index_of(name)
+        if self.others.is_empty() {
+            return None;
+        }
+        let place = self.others.get_index_of(name)?;
+        Some(place + 1)
     }
 
     /// The name of the person.
@@ -80,7 +95,7 @@ impl Seats {
         requires { person < length self.now.rows }
         ensures { Some result.now ≡ option_map (λ row. row.name) (slice_get self.now.rows person) }
     {
-        let (name, _) = entry(&self.persons, person);
+        let (name, _) = self.entry(person);
         name
     }
 
@@ -100,7 +115,7 @@ impl Seats {
             ≡ option_map (λ row. row.held) (slice_get self.now.rows person) }
         ensures count { length result.now ≡ length self.now.roles }
     {
-        let (_, seat) = entry(&self.persons, person);
+        let (_, seat) = self.entry(person);
         &seat.holds
     }
 
@@ -110,7 +125,7 @@ impl Seats {
         requires role { role < length self.now.roles }
         ensures { result ≡ is_member_among self.now.roles (persons_of self.now.rows) role person }
     {
-        let (_, seat) = entry(&self.persons, person);
+        let (_, seat) = self.entry(person);
         seat.member[role]
     }
 
@@ -126,8 +141,11 @@ impl Seats {
         ensures err { OnErr result (self.new ≡ self.old) }
     {
         let seat = Seat::new(self.alloc, &self.roles)?;
-        let boxed = Box::new(self.alloc, seat)?;
-        self.persons.insert(name, boxed)?;
+        if let None = &self.first {
+            self.first = Some((name, seat));
+            return Ok(());
+        }
+        self.others.insert(name, seat)?;
         Ok(())
     }
 
@@ -136,7 +154,9 @@ impl Seats {
         ensures rows { self.new.rows ≡ take (length self.old.rows - 1) self.old.rows }
         ensures roles { self.new.roles ≡ self.old.roles }
     {
-        let _last = self.persons.pop();
+        if let None = self.others.pop() {
+            self.first = None;
+        }
     }
 
     /// Gives the person the role, or takes it away.
@@ -148,20 +168,34 @@ impl Seats {
             ≡ changed_at (with_role role held) person (persons_of self.old.rows) }
         ensures roles { self.new.roles ≡ self.old.roles }
     {
-        let Some(seat) = self.persons.get_index_mut(person) else {
+        if person == 0 {
+            let Some((_, seat)) = &mut self.first else {
+                unreachable!();
+            };
+            seat.set(&self.roles, role, held);
+            return;
+        }
+        let Some(seat) = self.others.get_index_mut(person - 1) else {
             unreachable!();
         };
         seat.set(&self.roles, role, held);
     }
-}
 
-/// The name and the seat of the person of this number.
-fn entry<'a>(persons: &'a IndexMap<Id, Box<Seat>>, person: usize) -> (&'a Id, &'a Box<Seat>)
-    requires { person < length persons.now.entries }
-    ensures { slice_get persons.now.entries person ≡ Some (result.0.now, result.1.now) }
-{
-    match persons.get_index(person) {
-        Some(entry) => entry,
-        None => unreachable!(),
+    /// The name and the seat of the person of this number.
+    fn entry(&self, person: usize) -> (&Id, &Seat)
+        requires { person < length self.now.rows }
+        ensures row { slice_get self.now.rows person ≡ Some (row_of (result.0.now, result.1.now)) }
+        ensures seated { IsSeated self.now.roles result.1.now }
+    {
+        if person == 0 {
+            let Some((name, seat)) = &self.first else {
+                unreachable!();
+            };
+            return (name, seat);
+        }
+        let Some(entry) = self.others.get_index(person - 1) else {
+            unreachable!();
+        };
+        entry
     }
 }
