@@ -83,8 +83,7 @@ fn judge_by<V: View, L: Ledger>(
     judge_rule(unit, names, reach, rule, site.owner, view, steps)
 }
 
-/// Whether what the rule says yes to stays so. Only a condition is judged anew each time. It takes
-/// no memory.
+/// Whether what the rule says yes to stays so: all but a condition's does. It takes no memory.
 pub fn says_for_good(rule: Rule) -> bool
     ensures { result ≡ says_for_good rule }
 {

@@ -93,7 +93,7 @@ impl Run {
             ≡ made_at SEATS unit.value (values_of globals.now) moment.0) }
         ensures reached { IfOk result (λ run. IsReached run.unit (run_of run.state)) }
     {
-        let links = RunLinks::new(alloc)?;
+        let links = RunLinks::new(alloc);
         let state = begin(alloc, &unit, globals, moment, steps)?;
         Ok(Run { unit, state, links })
     }

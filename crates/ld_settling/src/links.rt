@@ -1,5 +1,5 @@
 //! The links of a run.
-ghost use Rattle.std.specs.Prelude.{◌≡◌, ◌*◌, ◌+◌, ◌^◌, ◌<◌, ◌≤◌, ◌⊎◌, ℕ, true, [], get_or, length, Contains, IfOk, OnOk};
+ghost use Rattle.std.specs.Prelude.{◌≡◌, ◌*◌, ◌+◌, ◌^◌, ◌<◌, ◌≤◌, ◌⊎◌, ℕ, true, [], get_or, length, Contains, OnOk};
 ghost use Rattle.ld_graph.specs.Edges.{IsLinked};
 ghost use Rattle.ld_graph.specs.Table.{has};
 ghost use Rattle.ld_cascade.specs.Wiring.{LinksFollow, IsEmpty, IsSameTable, Wiring};
@@ -41,18 +41,19 @@ impl Model for RunLinks {
 }
 
 impl RunLinks {
-    /// The links of a run that is not started: no site and no slot is in range.
-    pub fn new(alloc: Global) -> Result<RunLinks, NoMemory>
-        ensures sites { IfOk result (λ links. links.sites ≡ 0) }
-        ensures slots { IfOk result (λ links. links.edges.slots ≡ 0) }
-        ensures dirty { IfOk result (λ links. IsEmpty links.dirty) }
-        ensures loose { IfOk result (λ links. IsEmpty links.loose) }
-        ensures relinked { IfOk result (λ links. IsEmpty links.relinked) }
+    /// The links of a run that is not started: no site and no slot is in range, which takes no
+    /// memory.
+    pub fn new(alloc: Global) -> RunLinks
+        ensures sites { result.sites ≡ 0 }
+        ensures slots { result.edges.slots ≡ 0 }
+        ensures dirty { IsEmpty result.dirty }
+        ensures loose { IsEmpty result.loose }
+        ensures relinked { IsEmpty result.relinked }
     {
-        Ok(RunLinks {
+        RunLinks {
             links: Links::new(alloc),
-            list: SlotList::with_room(alloc, 0)?,
-        })
+            list: SlotList::new(alloc),
+        }
     }
 
     /// Sets the sites dirty that read one of the slots. Where these are told of all that changed

@@ -124,9 +124,7 @@ fn reads_one<L: Ledger>(
     requires sound { IsSoundRun unit.now (run_of state.now) }
     requires there { Contains (sites_of unit.now (length state.now.rows)) (site_of site) }
 {
-    let Ok(mut list) = SlotList::with_room(alloc, 0) else {
-        return false;
-    };
+    let mut list = SlotList::new(alloc);
     let Ok(()) = site_reads(alloc, unit, site, state, &mut list, steps) else {
         return false;
     };
@@ -156,7 +154,7 @@ fn go_linked<L: Ledger>(
     requires own { IsStateOf unit.now state.old }
     requires sound { IsSoundRun unit.now (run_of state.old) }
 {
-    let mut links = RunLinks::new(alloc)?;
+    let mut links = RunLinks::new(alloc);
     links.begin();
     links.take_back();
     go_with(alloc, unit, state, &mut links, steps)

@@ -33,6 +33,6 @@ invariant_of-result g c = (
   c.in_ok-state.ensures.unmarked,
   subst (AreNoticesOf c.args.unit.value) (sym c.in_ok-state.ensures.silent) (λ k other below. absurd (omega (arith, below))),
   returns-clause-reached g c,
-  made_links c.args.unit.value (run_of c.in_ok-state.state) c.in_ok-links.links (values_of c.args.globals.now) c.args.moment.0
+  made_links c.args.unit.value (run_of c.in_ok-state.state) c.new-links.result (values_of c.args.globals.now) c.args.moment.0
       (returns-clause-state g c),
 )
