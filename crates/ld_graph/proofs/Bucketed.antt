@@ -128,7 +128,6 @@ module _ {slots before heads : List ℕ} (d : IsIndexed slots before heads) (slo
   indexed_push new last count e n = rw (← e, ← n) (record {
     distinct = distinct_push slots slot d.distinct new;
     lengths = length_push before (get_or heads b 0) ∙ (ap (λ (x : ℕ). x + 1) d.lengths ∙ sym (length_push slots slot));
-    some = λ _. rw (length-set heads b (length slots + 1)) (omega arith);
     lasts = rw (length-set heads b (length slots + 1), length_push slots slot) new_lasts;
     befores = rw (length-set heads b (length slots + 1)) new_befores;
   })
@@ -138,7 +137,6 @@ pub indexed_none : (heads : List ℕ) → ((b : ℕ) → b < length heads → ge
 indexed_none heads zeros = record {
   distinct = λ i j li lj e. absurd (omega arith);
   lengths = refl;
-  some = λ lt. absurd (omega arith);
   lasts = λ b lt. rw (zeros b lt) (record {
     within = omega arith;
     own = λ p. absurd (omega arith);

@@ -19,11 +19,10 @@ pub record LastBelow (slots : List ℕ) (buckets bound bucket link : ℕ) : Type
 pub record IsIndexed (slots before heads : List ℕ) : Type 0 where
   pub distinct : AreDistinct slots
   pub lengths : length before ≡ length slots
-  pub some : 0 < length slots → 0 < length heads
   pub lasts : (b : ℕ) → b < length heads → LastBelow slots (length heads) (length slots) b (get_or heads b 0)
   pub befores : (p : ℕ) → p < length slots → LastBelow slots (length heads) p (bucket_at slots (length heads) p) (get_or before p 0)
 
--- such a list with a bound on its length, and room for as many in its vectors
+-- such a list with a bound on its length, and room for as many in its vectors; where it has room, it has buckets
 pub record IsSlotList (slots before heads : List ℕ) (room slots_room before_room : ℕ) : Type 0 where
   pub indexed : IsIndexed slots before heads
   pub fits : room < 2 ^ 32

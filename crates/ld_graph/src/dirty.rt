@@ -17,9 +17,9 @@ const LEVELS: usize = 2;
 ///
 /// The bits of the sites stand in words of 64. Above them stands a smaller level, in which a bit
 /// says that a word is not zero. So `next_from` passes over empty words without a look at them; the
-/// upper level, where a word stands for 4,096 sites, is walked word by word. Above a few words there
-/// is no such level, which takes no memory then: a set that first comes into range with few sites
-/// keeps to one level. Where it is known that no site is in the set, no word is looked at.
+/// upper level, where a word stands for 4,096 sites, is walked word by word. A set that first comes
+/// into range with few words has no such level, and no memory for one: it is walked word by word,
+/// however far it grows. A set that is known to be empty is not looked at.
 #[derive(Drop)]
 pub struct Dirty {
     range: u32,
@@ -105,8 +105,8 @@ impl Dirty {
         Ok(())
     }
 
-    /// Takes every site out of the set, in time that grows with their number and not with the
-    /// range.
+    /// Takes every site out of the set, in time that grows with their number, and with that of the
+    /// words of the highest level.
     pub fn empty(&mut self)
         ensures { self.new ≡ replicate (length self.old) false }
     {

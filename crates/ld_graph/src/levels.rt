@@ -6,8 +6,9 @@ ghost use Rattle.ld_graph.specs.Words.{bit, lowest, AreLevels};
 use crate::level::Level;
 use ld_base::memory::NoMemory;
 
-/// No level marks so few words of another: they are looked at one by one.
-const FEW: usize = 16;
+/// So few words of a level are looked at one by one, also to know that all are zero: no other level
+/// marks them.
+const FEW: usize = 32;
 
 /// Sets a bit of the lowest level.
 pub(crate) fn set_at(levels: &mut [Level], at: usize)

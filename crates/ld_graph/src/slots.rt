@@ -12,7 +12,7 @@ use std::marker::Model;
 ///
 /// A slot is found by the bucket that it falls into. There are four times as many buckets as the
 /// list has room for slots, or more, so most of them are empty; their number is a power of two, so
-/// that a mask picks one.
+/// that a mask picks one. A list without room may have none.
 #[derive(Drop)]
 pub struct SlotList {
     slots: Vec<u32>,

@@ -142,6 +142,34 @@ fn sites_are_found_in_order(rt: HostRuntime) -> Result<(), Fail> {
     Ok(())
 }
 
+/// Whether a set of so many sites, 1,000 or more, has two that are put into it until they are taken
+/// out, and then a third one.
+fn has_its_sites(alloc: Global, sites: u32) -> Result<bool, Fail> {
+    let mut dirty = Dirty::new(alloc, sites)?;
+    if dirty.range() < 1_000 {
+        return Ok(false);
+    }
+    dirty.set(64);
+    dirty.set(999);
+    let both = dirty.next_from(0) == Some(64) && dirty.next_from(65) == Some(999);
+    let last = dirty.next_from(1_000) == None;
+    dirty.clear(64);
+    let other = dirty.next_from(0) == Some(999);
+    dirty.empty();
+    let none = dirty.next_from(0) == None;
+    dirty.set(3);
+    Ok(both && last && other && none && dirty.next_from(0) == Some(3))
+}
+
+// 32 words of sites, and 33, which have a level above.
+#[test]
+fn sites_of_a_few_words_are_found(rt: HostRuntime) -> Result<(), Fail> {
+    for sites in [1_000, 2_047, 2_048] {
+        assert!(rt; has_its_sites(rt.alloc(), sites)?, "{sites}");
+    }
+    Ok(())
+}
+
 #[test]
 fn a_site_is_found_until_it_is_cleared(rt: HostRuntime) -> Result<(), Fail> {
     let mut dirty = Dirty::new(rt.alloc(), 3)?;
@@ -179,6 +207,18 @@ fn slots_stand_once_in_their_order(rt: HostRuntime) -> Result<(), Fail> {
     put(&mut list, 9);
     put(&mut list, 5);
     assert_eq!(rt; list.as_slice(), [9, 5].as_slice());
+    Ok(())
+}
+
+#[test]
+fn a_new_list_has_no_room(rt: HostRuntime) -> Result<(), Fail> {
+    let mut list = SlotList::new(rt.alloc());
+    put(&mut list, 7);
+    assert_eq!(rt; list.room(), 0);
+    assert_eq!(rt; list.len(), 0);
+    assert!(rt; !list.contains(7));
+    list.clear();
+    assert_eq!(rt; list.as_slice(), [].as_slice());
     Ok(())
 }
 
