@@ -1,4 +1,5 @@
 pub mod Identifier
+pub mod IdText
 pub mod Roomy
 pub mod Outside
 pub mod Maybe

@@ -1,15 +1,17 @@
 //! Identifiers of units, runs, persons and the parts of a unit.
 #![tactic(auto, unfolding(crate::specs::Identifier::begins_identifier, crate::specs::Identifier::continues_identifier))]
 
-ghost use Rattle.std.specs.Prelude.{◌≡◌, List, ℕ, IfOk, IfSome, IfNone, IsTrue, string_bytes, false, IfErr};
+ghost use Rattle.std.specs.Prelude.{◌≡◌, ◌≤◌, List, ℕ, length, IfOk, IfSome, IfNone, IsOk, IsTrue, false, IfErr};
 ghost use Rattle.std.specs.Str.{IsUtf8, bytes_eq};
 ghost use Rattle.std.specs.List.{list_all};
 ghost use Rattle.std.specs.Hash as fed;
 ghost use Rattle.std.specs.Cmp.Rules.{comparing, hashing};
 ghost use Rattle.std.proofs.Common.{rules};
 ghost use Rattle.ld_base.specs.Identifier.{IsIdentifier, has_identifier_form, begins_well, begins_identifier, continues_identifier};
+ghost use Rattle.ld_base.specs.IdText.{letters_of};
 ghost use Rattle.ld_base.specs.Maybe.{provided};
 
+use crate::id_text::IdText;
 use crate::memory::NoMemory;
 use std::alloc::Global;
 use std::cell::Cell;
@@ -18,16 +20,25 @@ use std::marker::Model;
 
 /// An identifier, seen by contracts as its bytes. It also keeps a number at which it may be found,
 /// of which no contract speaks: whoever uses it looks whether the identifier is there.
-#[derive(Drop)]
 pub struct Id {
-    text: String,
+    text: IdText,
     hint: Cell<u32>,
 }
 
+// By hand, so that a function which lets one go calls this and is not proved over each field anew.
+impl Drop for Id {
+    fn drop(self) {
+        let Self { text: _, hint: _ } = self;
+    }
+}
+
 impl Model for Id {
+    ghost use Rattle.std.specs.Prelude.{List, ℕ};
+    ghost use Rattle.ld_base.specs.IdText.{letters_of};
+
     ghost Value = { List ℕ };
 
-    ghost view = { λ s. string_bytes s.text };
+    ghost view = { λ s. letters_of s.text };
 }
 
 impl Id {
@@ -41,25 +52,25 @@ impl Id {
             return Ok(None);
         }
         match str::from_utf8(bytes) {
-            Ok(text) => Ok(Some(Id::of(String::from_str(alloc, text)?))),
+            Ok(text) => Ok(Some(Id::of(IdText::of(alloc, text)?))),
             Err(_) => unreachable!(),
         }
     }
 
-    /// The identifier that the text is, if it is one. It takes no memory: the text is kept as it
-    /// is.
-    pub fn from_text(text: String) -> Option<Id>
-        ensures { result ≡ provided (has_identifier_form (string_bytes text)) (string_bytes text) }
+    /// The identifier that the text is, if it is one.
+    pub fn from_text(alloc: Global, text: &str) -> Result<Option<Id>, NoMemory>
+        ensures value { IfOk result (λ o. o ≡ provided (has_identifier_form text.now) text.now) }
+        ensures within { length text.now ≤ 16 → IsOk result }
     {
         if !has_form(text.as_bytes()) {
-            return None;
+            return Ok(None);
         }
-        Some(Id::of(text))
+        Ok(Some(Id::of(IdText::of(alloc, text)?)))
     }
 
     /// The identifier of this text.
-    fn of(text: String) -> Id
-        ensures { result ≡ string_bytes text }
+    fn of(text: IdText) -> Id
+        ensures { result ≡ letters_of text }
     {
         Id {
             text,
@@ -89,7 +100,7 @@ impl Id {
     pub fn copy(&self) -> Result<Id, NoMemory>
         ensures { IfOk result (λ id. id ≡ self.now) }
     {
-        let text = self.text.clone()?;
+        let text = self.text.copy()?;
         let hint = Cell::new(self.hint.get());
         Ok(Id { text, hint })
     }
@@ -101,7 +112,7 @@ impl PartialEq for Id {
     ghost laws = { Prim.search (comparing, rules) };
 
     fn eq(&self, other: &Id) -> bool {
-        self.text == other.text
+        self.text.as_str() == other.text.as_str()
     }
 }
 
@@ -115,7 +126,7 @@ impl Hash for Id {
     ghost respects_eq = { Prim.search (hashing, rules) };
 
     fn hash<H: Hasher>(&self, state: &mut H) {
-        self.text.hash(state)
+        self.text.as_str().hash(state)
     }
 }
 

@@ -9,6 +9,7 @@ pub mod file;
 pub mod fired;
 pub mod folder_shelf;
 pub mod id;
+mod id_text;
 pub mod items;
 pub mod memory;
 pub mod memory_shelf;

@@ -17,6 +17,8 @@ yes|A
 yes|z
 yes|_
 yes|aZ09_-.
+yes|of-16-characters
+yes|of-17-characters.
 yes|xxxxxxxxxxxxxxxxxxxxxxxxxxxxxxxxxxxxxxxxxxxxxxxxxxxxxxxxxxxxxxxx
 no|xxxxxxxxxxxxxxxxxxxxxxxxxxxxxxxxxxxxxxxxxxxxxxxxxxxxxxxxxxxxxxxxx
 no|
@@ -40,6 +42,14 @@ fn is_identifier(alloc: Global, text: &str) -> Result<bool, NoMemory> {
             id.remember(7);
             Ok(id.as_str() == text && id.copy()? == id && id.hint() == 7)
         }
+        None => Ok(false),
+    }
+}
+
+/// Whether the text itself makes an identifier, which has that text.
+fn is_identifier_text(alloc: Global, text: &str) -> Result<bool, NoMemory> {
+    match Id::from_text(alloc, text)? {
+        Some(id) => Ok(id.as_str() == text),
         None => Ok(false),
     }
 }
@@ -111,10 +121,9 @@ fn texts_have_room(rt: HostRuntime) -> Result<(), Fail> {
 fn identifiers_have_a_form(rt: HostRuntime) -> Result<(), Fail> {
     for line in IDENTIFIERS.lines() {
         let (wanted, text) = cut(line)?;
-        assert!(rt;
-            is_identifier(rt.alloc(), text)? == (wanted == "yes"),
-            "{text}"
-        );
+        let wanted = wanted == "yes";
+        assert!(rt; is_identifier(rt.alloc(), text)? == wanted, "{text}");
+        assert!(rt; is_identifier_text(rt.alloc(), text)? == wanted, "{text}");
     }
     Ok(())
 }

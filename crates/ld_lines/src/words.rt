@@ -134,8 +134,8 @@ fn identifier_of(alloc: Global, text: &str) -> Result<Id, LineFault>
     ensures ok { IfOk result (λ id. identifier_in text.now ≡ Some id) }
     ensures bad { result ≡ Err LineFault.BadLine → identifier_in text.now ≡ None }
 {
-    let Ok(text) = String::from_str(alloc, text) else {
+    let Ok(id) = Id::from_text(alloc, text) else {
         return Err(LineFault::NoMemory);
     };
-    Id::from_text(text).ok_or(LineFault::BadLine)
+    id.ok_or(LineFault::BadLine)
 }
