@@ -22,11 +22,12 @@ use Rattle.ld_firing.proofs.SeatsSweep.{sweep_fires}
 use Rattle.ld_firing.proofs.Walks.{no_length}
 use Rattle.ld_run.specs.Changes.{directly_changed, has_change}
 use Rattle.ld_checks.specs.Checks.{is_started}
-use Rattle.ld_checks.specs.Commands.{Admitted, gets, shows_tree, shows_outbox, reports, ticks}
 use Rattle.ld_run.specs.Reached.{IsReached, made, left_by}
 use Rattle.ld_run.specs.RunStep.{DoneCommand, run_step}
 use Rattle.ld_run.proofs.LawsKept.{begun}
-use Rattle.ld_laws.proofs.LawsUnmoved.{HasStages, stages_of, either_settled}
+use Rattle.ld_run.proofs.LinkedRuns.{still_there}
+use Rattle.ld_run.proofs.Settlings.{either_settled}
+use Rattle.ld_laws.proofs.LawsUnmoved.{HasStages, stages_of}
 
 -- ---- a settling ends at rest
 
@@ -54,29 +55,21 @@ settling_rests unit s x is = by (turns_within (run_system unit) s unit.turns) re
 
 -- ---- a command does
 
-nothing_done : (unit : Course) (store : GlobalValues) (t : RunState) (moment : ℤ) (command : Admitted) → has_change command ≡ false → directly_changed unit store t moment command ≡ t
-nothing_done unit store t moment (gets name) none = refl
-nothing_done unit store t moment (shows_tree p) none = refl
-nothing_done unit store t moment (shows_outbox p) none = refl
-nothing_done unit store t moment reports none = refl
-nothing_done unit store t moment ticks none = refl
-nothing_done unit store t moment _ none = different none
-
 -- In a run that is started, no rule would fire after a command.
 started_rests : (unit : Course) (s : RunState) (store : GlobalValues) (moment : ℤ) (asked : RunCommand) (d : DoneCommand)
     → run_step unit s store moment asked ≡ Ok d → is_started d.state ≡ true → sweep_firings (run_system unit) d.state ≡ []
 started_rests unit s store moment asked d is started =
-    rests_at (sym stages.state)
-    (elim (either_settled unit (has_change d.command && is_started changed) changed stages.second stages.settled_second) [
-      | inl moved ↦ settling_rests unit changed stages.second moved.1
-      | inr stayed ↦ rests_at (sym (unchanged stayed.0 stayed.1)) (first_rests (ap is_started (sym (unchanged stayed.0 stayed.1) ∙ sym stages.state) ∙ started))
+    rests_at (sym stages.settlings.state)
+    (elim (either_settled unit (has_change d.command && is_started changed) changed stages.settlings.second stages.settlings.settled_second) [
+      | inl moved ↦ settling_rests unit changed stages.settlings.second moved.1
+      | inr stayed ↦ rests_at (sym (unchanged stayed.0 stayed.1)) (first_rests (ap is_started (sym (unchanged stayed.0 stayed.1) ∙ sym stages.settlings.state) ∙ started))
     ])
   where
     stages : HasStages unit s store moment asked d
     stages = stages_of unit s store moment asked d is
 
     changed : RunState
-    changed = directly_changed unit store stages.first.state moment d.command
+    changed = directly_changed unit store stages.settlings.first.state moment d.command
 
     rests_at : {t u : RunState} → t ≡ u → sweep_firings (run_system unit) t ≡ [] → sweep_firings (run_system unit) u ≡ []
     rests_at same rests = subst (λ (v : RunState). sweep_firings (run_system unit) v ≡ []) same rests
@@ -85,14 +78,14 @@ started_rests unit s store moment asked d is started =
     no_change true b none now = different (sym now ∙ none)
     no_change false b none now = refl
 
-    unchanged : (has_change d.command && is_started changed) ≡ false → stages.second.state ≡ changed → stages.second.state ≡ stages.first.state
+    unchanged : (has_change d.command && is_started changed) ≡ false → stages.settlings.second.state ≡ changed → stages.settlings.second.state ≡ stages.settlings.first.state
     unchanged none stayed =
-        stayed ∙ nothing_done unit store stages.first.state moment d.command
-        (no_change (has_change d.command) (is_started changed) none (ap is_started (sym stayed ∙ sym stages.state) ∙ started))
+        stayed ∙ sym (still_there unit store stages.settlings.first.state moment d.command
+        (no_change (has_change d.command) (is_started changed) none (ap is_started (sym stayed ∙ sym stages.settlings.state) ∙ started)))
 
-    first_rests : is_started stages.first.state ≡ true → sweep_firings (run_system unit) stages.first.state ≡ []
-    first_rests now = elim (either_settled unit (is_started s) (begun unit store s moment) stages.first stages.settled_first) [
-      | inl moved ↦ settling_rests unit (begun unit store s moment) stages.first moved.1
+    first_rests : is_started stages.settlings.first.state ≡ true → sweep_firings (run_system unit) stages.settlings.first.state ≡ []
+    first_rests now = elim (either_settled unit (is_started s) (begun unit store s moment) stages.settlings.first stages.settlings.settled_first) [
+      | inl moved ↦ settling_rests unit (begun unit store s moment) stages.settlings.first moved.1
       | inr stayed ↦ different (sym now ∙ ap is_started stayed.1 ∙ stayed.0)
     ]
 

@@ -41,7 +41,8 @@ use Rattle.ld_laws.proofs.LawsActs.{step_opens_now}
 use Rattle.ld_run.proofs.LawsKept.{Fits, fits}
 use Rattle.ld_laws.proofs.LawsOpeners.{IsOpener, verdict_yes, yes_is_opened}
 use Rattle.ld_laws.proofs.LawsRest.{marks_tell_tests}
-use Rattle.ld_laws.proofs.LawsUnmoved.{HasStages, stages_of, either_settled}
+use Rattle.ld_run.proofs.Settlings.{either_settled}
+use Rattle.ld_laws.proofs.LawsUnmoved.{HasStages, stages_of}
 use Rattle.ld_laws.proofs.LawsUnstarted.{untouched_until_started}
 use Rattle.ld_run.proofs.SeatsOfChecks.{Each, each_then}
 use Rattle.ld_run.proofs.SeatsOfSteps.{KeepsSeats, step_keeps}
@@ -69,19 +70,19 @@ is_start unit s store moment d is =
 pub start_starts : (unit : Course) (s : RunState) (store : GlobalValues) (moment : ℤ) (d : DoneCommand)
     → run_step unit s store moment Start ≡ Ok d → d.state.cells Started ≡ Some (moment_datum moment)
 start_starts unit s store moment d is =
-    ap (λ (t : RunState). t.cells Started) stages.state
+    ap (λ (t : RunState). t.cells Started) stages.settlings.state
     ∙ second
-    ∙ ap (λ command. (directly_changed unit store stages.first.state moment command).cells Started) (is_start unit s store moment d is).is
+    ∙ ap (λ command. (directly_changed unit store stages.settlings.first.state moment command).cells Started) (is_start unit s store moment d is).is
   where
     stages : HasStages unit s store moment Start d
     stages = stages_of unit s store moment Start d is
 
     changed : RunState
-    changed = directly_changed unit store stages.first.state moment d.command
+    changed = directly_changed unit store stages.settlings.first.state moment d.command
 
-    second : stages.second.state.cells Started ≡ (directly_changed unit store stages.first.state moment d.command).cells Started
-    second = elim (either_settled unit (has_change d.command && is_started changed) changed stages.second stages.settled_second) [
-      | inl moved ↦ settling_leaves_start unit changed stages.second moved.1
+    second : stages.settlings.second.state.cells Started ≡ (directly_changed unit store stages.settlings.first.state moment d.command).cells Started
+    second = elim (either_settled unit (has_change d.command && is_started changed) changed stages.settlings.second stages.settlings.settled_second) [
+      | inl moved ↦ settling_leaves_start unit changed stages.settlings.second moved.1
       | inr stayed ↦ ap (λ (t : RunState). t.cells Started) stayed.1
     ]
 

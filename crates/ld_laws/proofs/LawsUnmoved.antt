@@ -1,7 +1,6 @@
 -- The stages of a command that was done; and that a command which tells of no turns, or leaves a run unstarted, sets
 -- nothing off in it.
-use Rattle.std.proofs.Common.{◌≡◌, refl, sym, ap, subst, ◌∙◌, ℕ, ◌+◌, ℤ, ◌⊎◌, inl, inr, length, Option, Some, None, Result, Ok, Err, ok_or, Bool, true, false, ◌&&◌, is_some, if◌then◌else◌, option_map, arith}
-use Rattle.ld_cascade.specs.Settling.{after_sweeps}
+use Rattle.std.proofs.Common.{◌≡◌, refl, sym, ap, subst, ◌∙◌, ℕ, ℤ, inl, inr, length, Option, Some, None, Result, Ok, Err, Bool, true, false, ◌&&◌, is_some, if◌then◌else◌}
 use Rattle.ld_value.specs.Datum.{Datum, moment_datum}
 use Rattle.ld_model.specs.Cells.{same_cell}
 use Rattle.ld_model.specs.declared.cell.CellName.{CellName}
@@ -13,80 +12,48 @@ use Rattle.ld_expr.specs.Owners.{of_person}
 use Rattle.ld_expr.specs.Seen.{mark_cell, opened_cell, act_opened_cell}
 use Rattle.ld_state.specs.GlobalValues.{GlobalValues}
 use Rattle.ld_state.specs.RunState.{RunState, with_cell, is_cell_of}
-use Rattle.ld_state.proofs.Elements.{none_is_some, some_same, different}
+use Rattle.ld_state.proofs.Elements.{different}
 use Rattle.ld_rules.specs.LawWords.{HasOwner, is_property}
-use Rattle.ld_firing.specs.RunSettling.{Settlement, settlement_after, turns_within, run_settling}
-use Rattle.ld_firing.specs.RunSystem.{run_system}
+use Rattle.ld_firing.specs.RunSettling.{Settlement}
 use Rattle.ld_firing.proofs.LawsKept.{FiringsKeep, settling_keeps}
 use Rattle.ld_firing.proofs.LawsOpenings.{told_apart, settling_leaves_start}
 use Rattle.ld_run.specs.Changes.{directly_changed, has_change}
 use Rattle.ld_checks.specs.Checks.{admitted, is_started}
 use Rattle.ld_checks.specs.Commands.{Admitted, enrols, assigns, drops, starts, opens, completes, sets, clears, gets, shows_tree, shows_outbox, reports, ticks}
-use Rattle.ld_checks.specs.Refusals.{Refusal, TurnBudget}
-use Rattle.ld_run.specs.RunStep.{DoneCommand, run_step, settled, open_for_it}
+use Rattle.ld_checks.specs.Refusals.{Refusal}
+use Rattle.ld_run.specs.RunStep.{DoneCommand, done_by, run_step, settled}
 use Rattle.ld_run.proofs.LawsKept.{Fits, fits, touches, change_leaves, begun}
+use Rattle.ld_run.proofs.Settlings.{HasSettlings, each_itself, each_settling, either_settled, no_turns}
 use Rattle.ld_run.proofs.Joining.{not_joining}
 use Rattle.ld_laws.proofs.LawsOpenings.{step_leaves_start}
-use Rattle.ld_run.proofs.SeatsOfChecks.{Each, each_then}
+use Rattle.ld_run.proofs.SeatsOfChecks.{Each}
 use Rattle.ld_run.proofs.SeatsOfSteps.{bound_where}
 
 -- ---- the stages of a step
 
--- A command that was done: the checks admit it, a started run settles first, the command changes the run, and
--- what is started then settles again where it did.
+-- A command that was done: the checks admit it, and then it settles and changes the run.
 pub record HasStages (unit : Course) (s : RunState) (store : GlobalValues) (moment : ℤ) (asked : RunCommand) (d : DoneCommand) : Type 0 where
-  pub first : Settlement
-  pub second : Settlement
   pub checked : admitted unit s moment asked ≡ Ok d.command
-  pub settled_first : settled (is_started s) unit (begun unit store s moment) ≡ Ok first
-  pub settled_second :
-      settled (has_change d.command && is_started (directly_changed unit store first.state moment d.command)) unit
-      (directly_changed unit store first.state moment d.command) ≡ Ok second
-  pub state : d.state ≡ second.state
-  pub turns : d.turns ≡ first.turns + second.turns
+  pub settlings : HasSettlings unit s store moment d.command d
 
-each_itself : {A : Type 0} (r : Result A Refusal) → Each (λ x. r ≡ Ok x) r
-each_itself (Ok x) = refl
-each_itself (Err refusal) = tt
+each_so : {A : Type 0} {P Q : A → Type 0} (r : Result A Refusal) → ((x : A) → P x → Q x) → Each P r → Each Q r
+each_so (Ok x) so each = so x each
+each_so (Err refusal) so each = tt
 
 each_staged : (unit : Course) (s : RunState) (store : GlobalValues) (moment : ℤ) (asked : RunCommand)
     → Each (HasStages unit s store moment asked) (run_step unit s store moment asked)
 unfolding run_step
 each_staged unit s store moment asked =
-    let P = HasStages unit s store moment asked in
-    bound_where (λ (command : Admitted). admitted unit s moment asked ≡ Ok command) P (admitted unit s moment asked) _ (each_itself (admitted unit s moment asked)) λ command checked.
-    let first_of = settled (is_started s) unit (begun unit store s moment) in
-    bound_where (λ (x : Settlement). first_of ≡ Ok x) P first_of _ (each_itself first_of) λ first is_first.
-    let changed = directly_changed unit store first.state moment command in
-    let second_of = settled (has_change command && is_started changed) unit changed in
-    each_then P (open_for_it unit first.state command) _
-    (bound_where (λ (x : Settlement). second_of ≡ Ok x) P second_of _ (each_itself second_of) λ second is_second. record {
-      first = first;
-      second = second;
-      checked = checked;
-      settled_first = is_first;
-      settled_second = is_second;
-      state = refl;
-      turns = refl;
-    })
+    bound_where (λ (command : Admitted). admitted unit s moment asked ≡ Ok command) (HasStages unit s store moment asked)
+    (admitted unit s moment asked) (done_by unit s store moment) (each_itself (admitted unit s moment asked)) λ command checked.
+    each_so (done_by unit s store moment command) (λ d both. record {
+      checked = checked ∙ ap Ok (sym both.told);
+      settlings = subst (λ (one : Admitted). HasSettlings unit s store moment one d) (sym both.told) both;
+    }) (each_settling unit s store moment command)
 
 pub stages_of : (unit : Course) (s : RunState) (store : GlobalValues) (moment : ℤ) (asked : RunCommand) (d : DoneCommand)
     → run_step unit s store moment asked ≡ Ok d → HasStages unit s store moment asked d
 stages_of unit s store moment asked d is = subst (Each (HasStages unit s store moment asked)) is (each_staged unit s store moment asked)
-
-ok_same : {A : Type 0} {x y : A} → ◌≡◌ {A = Result A Refusal} (Ok x) (Ok y) → x ≡ y
-ok_same is = cc
-
--- A run that is to settle comes to its settling, and one that is not stays as it is.
-pub either_settled : (unit : Course) (settles : Bool) (t : RunState) (x : Settlement) → settled settles unit t ≡ Ok x
-    → ((settles ≡ true) × (run_settling unit t ≡ Some x)) ⊎ ((settles ≡ false) × (x.state ≡ t))
-either_settled unit false t x is = inr (refl, ap (λ (y : Settlement). y.state) (sym (ok_same is)))
-either_settled unit true t x is = by (run_settling unit t) refl is
-  where
-    by : (found : Option Settlement) → run_settling unit t ≡ found → ok_or found TurnBudget ≡ Ok x
-        → ((true ≡ true) × (run_settling unit t ≡ Some x)) ⊎ ((true ≡ false) × (x.state ≡ t))
-    by None none is = absurd (cc)
-    by (Some y) some is = inl (refl, some ∙ ap Some (ok_same is))
 
 settled_keeps : (unit : Course) (P : RunState → Type 0) → FiringsKeep unit P → (settles : Bool) (t : RunState) (x : Settlement) → settled settles unit t ≡ Ok x → P t → P x.state
 settled_keeps unit P kept settles t x is holds = elim (either_settled unit settles t x is) [
@@ -103,44 +70,19 @@ pub kept_from_begin : (unit : Course) (s : RunState) (store : GlobalValues) (mom
 kept_from_begin unit s store moment asked d P is kept changes holds =
     let stages = stages_of unit s store moment asked d is in
     let fit : Fits s d.command = subst (Each (Fits s)) stages.checked (fits unit s moment asked) in
-    let changed = directly_changed unit store stages.first.state moment d.command in
-    subst P (sym stages.state)
-    (settled_keeps unit P kept (has_change d.command && is_started changed) changed stages.second stages.settled_second
-    (changes stages.first.state fit (settled_keeps unit P kept (is_started s) (begun unit store s moment) stages.first stages.settled_first holds)))
+    let changed = directly_changed unit store stages.settlings.first.state moment d.command in
+    subst P (sym stages.settlings.state)
+    (settled_keeps unit P kept (has_change d.command && is_started changed) changed stages.settlings.second stages.settlings.settled_second
+    (changes stages.settlings.first.state fit (settled_keeps unit P kept (is_started s) (begun unit store s moment) stages.settlings.first stages.settlings.settled_first holds)))
 
 -- ---- a command that tells of no turns
-
-sweeps_none : (unit : Course) (t : RunState) (turns : ℕ) → turns ≡ 0 → after_sweeps (run_system unit) t turns ≡ t
-unfolding after_sweeps
-sweeps_none unit t turns none = ap (after_sweeps (run_system unit) t) none
-
-settling_of_none : (unit : Course) (t : RunState) (x : Settlement) → run_settling unit t ≡ Some x → x.turns ≡ 0 → x.state ≡ t
-unfolding run_settling
-settling_of_none unit t x is none = by (turns_within (run_system unit) t unit.turns) is
-  where
-    by : (found : Option ℕ) → option_map (settlement_after unit t) found ≡ Some x → x.state ≡ t
-    by None missing = none_is_some missing
-    by (Some turns) some =
-        let same : settlement_after unit t turns ≡ x = some_same some in
-        ap (λ (y : Settlement). y.state) (sym same) ∙ sweeps_none unit t turns (ap (λ (y : Settlement). y.turns) same ∙ none)
-
-settled_none : (unit : Course) (settles : Bool) (t : RunState) (x : Settlement) → settled settles unit t ≡ Ok x → x.turns ≡ 0 → x.state ≡ t
-settled_none unit settles t x is none = elim (either_settled unit settles t x is) [
-  | inl moved ↦ settling_of_none unit t x moved.1 none
-  | inr stayed ↦ stayed.1
-]
 
 -- A command that tells of no turns did its own change alone: no rule fired.
 pub no_turns_step : (unit : Course) (s : RunState) (store : GlobalValues) (moment : ℤ) (asked : RunCommand) (d : DoneCommand)
     → run_step unit s store moment asked ≡ Ok d → d.turns ≡ 0
     → d.state ≡ directly_changed unit store (begun unit store s moment) moment d.command
 no_turns_step unit s store moment asked d is none =
-    let stages = stages_of unit s store moment asked d is in
-    let changed = directly_changed unit store stages.first.state moment d.command in
-    stages.state
-    ∙ settled_none unit (has_change d.command && is_started changed) changed stages.second stages.settled_second (omega (arith, stages.turns, none))
-    ∙ ap (λ (t : RunState). directly_changed unit store t moment d.command)
-    (settled_none unit (is_started s) (begun unit store s moment) stages.first stages.settled_first (omega (arith, stages.turns, none)))
+    no_turns unit s store moment d.command d (stages_of unit s store moment asked d is).settlings none
 
 -- ---- a command that leaves the run unstarted
 
@@ -160,7 +102,7 @@ pub unstarted_step : (unit : Course) (s : RunState) (store : GlobalValues) (mome
     → run_step unit s store moment asked ≡ Ok d → is_started d.state ≡ false
     → d.state ≡ directly_changed unit store (begun unit store s moment) moment d.command
 unstarted_step unit s store moment asked d is still =
-    stages.state ∙ second ∙ ap (λ (t : RunState). directly_changed unit store t moment d.command) first
+    stages.settlings.state ∙ second ∙ ap (λ (t : RunState). directly_changed unit store t moment d.command) first
   where
     stages : HasStages unit s store moment asked d
     stages = stages_of unit s store moment asked d is
@@ -169,19 +111,19 @@ unstarted_step unit s store moment asked d is still =
     both_so true b is = is
     both_so false b is = different (sym is)
 
-    first : stages.first.state ≡ begun unit store s moment
-    first = elim (either_settled unit (is_started s) (begun unit store s moment) stages.first stages.settled_first) [
+    first : stages.settlings.first.state ≡ begun unit store s moment
+    first = elim (either_settled unit (is_started s) (begun unit store s moment) stages.settlings.first stages.settlings.settled_first) [
       | inl moved ↦ different (sym moved.0 ∙ unstarted_before unit s store moment asked d is still)
       | inr stayed ↦ stayed.1
     ]
 
     changed : RunState
-    changed = directly_changed unit store stages.first.state moment d.command
+    changed = directly_changed unit store stages.settlings.first.state moment d.command
 
-    second : stages.second.state ≡ directly_changed unit store stages.first.state moment d.command
-    second = elim (either_settled unit (has_change d.command && is_started changed) changed stages.second stages.settled_second) [
+    second : stages.settlings.second.state ≡ directly_changed unit store stages.settlings.first.state moment d.command
+    second = elim (either_settled unit (has_change d.command && is_started changed) changed stages.settlings.second stages.settlings.settled_second) [
       | inl moved ↦ different (sym (both_so (has_change d.command) (is_started changed) moved.0)
-          ∙ sym (ap is_some (settling_leaves_start unit changed stages.second moved.1)) ∙ sym (ap is_started stages.state) ∙ still)
+          ∙ sym (ap is_some (settling_leaves_start unit changed stages.settlings.second moved.1)) ∙ sym (ap is_started stages.settlings.state) ∙ still)
       | inr stayed ↦ stayed.1
     ]
 

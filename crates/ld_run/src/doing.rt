@@ -19,6 +19,7 @@ ghost use Rattle.ld_run.specs.RunStep.{at_moment, done_by, is_thing_open, open_f
 ghost use Rattle.ld_run.specs.StageView.{done_with};
 
 use crate::changes::change_directly;
+use crate::command_room::Scratch;
 use crate::settling::{Relinking, both, how_to_relink, is_started, settle_if, settles_after};
 use ld_base::memory::NoMemory;
 use ld_base::numbers::{PersonNo, ThingNo};
@@ -47,6 +48,7 @@ pub(crate) fn do_admitted<L: Ledger>(
     state: &mut State,
     links: &mut RunLinks,
     globals: &Globals,
+    scratch: &mut Scratch,
     moment: Moment,
     command: &Admitted<'_>,
     steps: &mut Steps<L>,
@@ -79,21 +81,14 @@ pub(crate) fn do_admitted<L: Ledger>(
     ensures follows { renews_sites (admitted_of command.now) ≡ false
         → LinksFollow links.old links.new }
 {
-    let mut refreshed = Vec::new(alloc);
-    if let Err(_) = refresh(alloc, unit, state, globals, moment, &mut refreshed, steps) {
+    scratch.changed.clear();
+    let refreshed = &mut scratch.changed;
+    if let Err(_) = refresh(alloc, unit, state, globals, moment, refreshed, steps) {
         return Err(Refusal::NoMemory);
     }
     let started = is_started(unit, state, steps);
-    let first = match settle_if(
-        alloc,
-        started,
-        Relinking::Told,
-        unit,
-        state,
-        links,
-        &refreshed,
-        steps,
-    ) {
+    let told = Relinking::Told;
+    let first = match settle_if(alloc, started, told, unit, state, links, scratch, steps) {
         Ok(settled) => settled,
         Err(refusal) => return Err(refusal),
     };
@@ -101,22 +96,14 @@ pub(crate) fn do_admitted<L: Ledger>(
         return Err(Refusal::NotOpen);
     }
     let before = state.persons();
-    let mut changed = Vec::new(alloc);
-    if let Err(_) = change_directly(
-        alloc,
-        unit,
-        state,
-        globals,
-        moment,
-        command,
-        &mut changed,
-        steps,
-    ) {
+    scratch.changed.clear();
+    let changed = &mut scratch.changed;
+    if let Err(_) = change_directly(alloc, unit, state, globals, moment, command, changed, steps) {
         return Err(Refusal::NoMemory);
     }
     let settles = settles_after(unit, state, command, steps);
     let how = how_to_relink(command, before);
-    let second = match settle_if(alloc, settles, how, unit, state, links, &changed, steps) {
+    let second = match settle_if(alloc, settles, how, unit, state, links, scratch, steps) {
         Ok(settled) => settled,
         Err(refusal) => return Err(refusal),
     };

@@ -11,6 +11,7 @@ ghost use Rattle.ld_sharing.specs.StoreView.{Serves, values_of};
 ghost use Rattle.ld_run.specs.Reached.{IsReached};
 ghost use Rattle.ld_run.specs.RunView.{AnswersCommand};
 
+use crate::command_room::{CommandRoom, Scratch};
 use crate::stages::step;
 use ld_base::memory::NoMemory;
 use ld_base::steps::Steps;
@@ -101,13 +102,12 @@ impl Run {
     /// Does the command at the moment, or refuses it: `out` is emptied and then holds the reply
     /// block. The run takes in the store's values of its global properties, and the store takes
     /// them back. Where memory is wanting the block says so, and the command counts as not given.
-    /// The writes to cells that a refusal takes back are recorded in the room of `undo_log`, which may
-    /// grow.
+    /// Lists that it makes on its way stand in the room that is lent.
     pub fn apply<L: Ledger>(
         &mut self,
         alloc: Global,
         globals: &mut Globals,
-        undo_log: &mut UndoLog,
+        lent: &mut CommandRoom,
         moment: Moment,
         command: &RunCommand,
         out: &mut Text,
@@ -125,9 +125,10 @@ impl Run {
         ensures room { 128 ≤ room_of out.new }
         ensures own { self.new.state.spare ≡ self.old.state.spare }
     {
-        self.exchange(undo_log);
-        self.answer(alloc, globals, moment, command, out, steps);
-        self.exchange(undo_log);
+        self.exchange(&mut lent.undo_log);
+        let scratch = &mut lent.scratch;
+        self.answer(alloc, globals, scratch, moment, command, out, steps);
+        self.exchange(&mut lent.undo_log);
     }
 
     /// Exchanges the room in which the state records writes with that of the log.
@@ -144,6 +145,7 @@ impl Run {
         &mut self,
         alloc: Global,
         globals: &mut Globals,
+        scratch: &mut Scratch,
         moment: Moment,
         command: &RunCommand,
         out: &mut Text,
@@ -166,6 +168,7 @@ impl Run {
             &mut self.state,
             &mut self.links,
             globals,
+            scratch,
             moment,
             command,
             out,

@@ -15,6 +15,7 @@ ghost use Rattle.ld_replies.specs.Printing.{AreNoticesOf, IsPrintable};
 ghost use Rattle.ld_checks.specs.RefusalView.{RefusesWith, refusal_of};
 ghost use Rattle.ld_run.specs.RunStep.{settled};
 
+use crate::command_room::Scratch;
 use ld_base::memory::NoMemory;
 use ld_base::steps::Steps;
 use ld_cascade::settled::{Settled, Stop};
@@ -39,8 +40,8 @@ pub(crate) enum Relinking {
     Renewed,
 }
 
-/// Settles the run, where it is to. Its links are told what changed before, or all of its sites are
-/// renewed.
+/// Settles the run, where it is to. Its links are told what changed before, which the scratch
+/// has, or all of its sites are renewed.
 pub(crate) fn settle_if<L: Ledger>(
     alloc: Global,
     settles: bool,
@@ -48,7 +49,7 @@ pub(crate) fn settle_if<L: Ledger>(
     unit: &PreparedUnit,
     state: &mut State,
     links: &mut RunLinks,
-    changed: &[u32],
+    scratch: &mut Scratch,
     steps: &mut Steps<L>,
 ) -> Result<Settled, Refusal<'static>>
     requires own { IsStateOf unit.now state.old }
@@ -56,7 +57,7 @@ pub(crate) fn settle_if<L: Ledger>(
     requires fitting { HasFittingGlobals unit.now (run_of state.old) }
     requires notices { AreNoticesOf unit.now state.old.outbox }
     requires told { settles ≡ true
-        → MayRelink how unit.now (run_of state.old) changed.now links.old }
+        → MayRelink how unit.now (run_of state.old) scratch.old.changed.items links.old }
     requires linked { settles ≡ false → HasLinks unit.now (run_of state.old) links.old }
     ensures settled { IfOk result (λ totals. settled settles unit.now (run_of state.old)
         ≡ Ok (settlement_of totals (run_of state.new))) }
@@ -75,10 +76,10 @@ pub(crate) fn settle_if<L: Ledger>(
     if !settles {
         return Ok(NO_SETTLING);
     }
-    if let Err(_) = relink(how, unit, state, links, changed) {
+    if let Err(_) = relink(how, unit, state, links, &scratch.changed) {
         return Err(Refusal::NoMemory);
     }
-    match settle(alloc, unit, state, links, steps) {
+    match settle(alloc, unit, state, links, &mut scratch.reads, steps) {
         Ok(totals) => Ok(totals),
         Err(Stop::TurnBudget) => Err(Refusal::TurnBudget),
         Err(Stop::NoMemory) => Err(Refusal::NoMemory),
@@ -133,6 +134,15 @@ pub(crate) fn settles_after<L: Ledger>(
         return false;
     }
     is_started(unit, state, steps)
+}
+
+/// Whether the command left the run as it was when it had taken in the moment and the store's
+/// values: it changes nothing, and no rule fired.
+pub(crate) fn leaves_unmoved(command: &Admitted<'_>, totals: Settled) -> bool
+    ensures change { result ≡ true → has_change (admitted_of command.now) ≡ false }
+    ensures turns { result ≡ true → totals.turns ≡ 0 }
+{
+    !has_change(command) && totals.turns == 0
 }
 
 /// Whether the command changes the run directly, and not by what it sets off alone.

@@ -20,7 +20,9 @@ ghost use Rattle.ld_run.specs.RunView.{done_text};
 ghost use Rattle.ld_run.specs.RunStep.{DoneCommand, done_by, run_step};
 ghost use Rattle.ld_run.specs.StageView.{done_with};
 
+use crate::command_room::Scratch;
 use crate::doing::do_admitted;
+use crate::settling::leaves_unmoved;
 use ld_base::memory::NoMemory;
 use ld_base::steps::Steps;
 use ld_base::text::Text;
@@ -48,6 +50,7 @@ pub(crate) fn step<'a, L: Ledger>(
     state: &mut State,
     links: &mut RunLinks,
     globals: &mut Globals,
+    scratch: &mut Scratch,
     moment: Moment,
     command: &'a RunCommand,
     out: &mut Text,
@@ -80,7 +83,7 @@ pub(crate) fn step<'a, L: Ledger>(
 {
     match admit(alloc, unit, state, moment, command, steps) {
         Ok(admitted) => try_admitted(
-            alloc, unit, state, links, globals, moment, &admitted, out, steps,
+            alloc, unit, state, links, globals, scratch, moment, &admitted, out, steps,
         ),
         Err(refusal) => Err(refusal),
     }
@@ -94,6 +97,7 @@ fn try_admitted<'a, L: Ledger>(
     state: &mut State,
     links: &mut RunLinks,
     globals: &mut Globals,
+    scratch: &mut Scratch,
     moment: Moment,
     command: &Admitted<'_>,
     out: &mut Text,
@@ -130,7 +134,7 @@ fn try_admitted<'a, L: Ledger>(
     state.mark();
     links.begin();
     match do_and_tell(
-        alloc, unit, state, links, globals, moment, command, out, steps,
+        alloc, unit, state, links, globals, scratch, moment, command, out, steps,
     ) {
         Ok(writes) => {
             state.keep();
@@ -153,6 +157,7 @@ fn do_and_tell<L: Ledger>(
     state: &mut State,
     links: &mut RunLinks,
     globals: &mut Globals,
+    scratch: &mut Scratch,
     moment: Moment,
     command: &Admitted<'_>,
     out: &mut Text,
@@ -190,12 +195,18 @@ fn do_and_tell<L: Ledger>(
     ensures follows { renews_sites (admitted_of command.now) ≡ false
         → LinksFollow links.old links.new }
 {
-    let totals = match do_admitted(alloc, unit, state, links, globals, moment, command, steps) {
+    let totals = match do_admitted(
+        alloc, unit, state, links, globals, scratch, moment, command, steps,
+    ) {
         Ok(totals) => totals,
         Err(refusal) => return Err(refusal),
     };
     if let Err(_) = tell(alloc, unit, state, command, totals, out, steps) {
         return Err(Refusal::NoMemory);
+    }
+    if leaves_unmoved(command, totals) {
+        // The store has the values of a run that is as it was when it had taken them in.
+        return Ok(Vec::new(alloc));
     }
     match prepare(alloc, unit, state, globals, steps) {
         Ok(writes) => Ok(writes),

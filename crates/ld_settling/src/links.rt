@@ -14,7 +14,6 @@ ghost use Rattle.ld_settling.specs.RunLinking.{AreAmong, AreDirty, AreLinksOf, A
 
 use ld_base::memory::NoMemory;
 use ld_cascade::links::Links;
-use ld_graph::slots::SlotList;
 use ld_model::view::View;
 use ld_roles::limit::SEATS;
 use ld_rules::prepared::PreparedUnit;
@@ -28,8 +27,6 @@ use std::marker::Model;
 #[derive(Drop)]
 pub struct RunLinks {
     pub(crate) links: Links,
-    /// Lends a site's reads.
-    pub(crate) list: SlotList,
 }
 
 impl Model for RunLinks {
@@ -52,7 +49,6 @@ impl RunLinks {
     {
         RunLinks {
             links: Links::new(alloc),
-            list: SlotList::new(alloc),
         }
     }
 

@@ -13,6 +13,7 @@ use ld_base::steps::Steps;
 use ld_cascade::links::Links;
 use ld_cascade::settle::settle as cascade;
 use ld_cascade::settled::{Settled, Stop};
+use ld_graph::slots::SlotList;
 use ld_rules::prepared::PreparedUnit;
 use ld_state::state::State;
 use std::alloc::Global;
@@ -22,13 +23,14 @@ use std::sync::ledger::Ledger;
 /// mark differ, until a sweep fires nothing. Only dirty sites are judged, and those that read what
 /// a firing changes. It answers `TurnBudget` exactly where one sweep more than the unit's turns
 /// fires. After either error the state is another one of the same persons, with the same mark: it
-/// has to be taken back, and then the links by `take_back`. (docs/MEANING.md, "Firing, sweeping,
-/// settling")
+/// has to be taken back, and then the links by `take_back`. The list, which may grow, is room for
+/// the reads of a site. (docs/MEANING.md, "Firing, sweeping, settling")
 pub fn settle<L: Ledger>(
     alloc: Global,
     unit: &PreparedUnit,
     state: &mut State,
     links: &mut RunLinks,
+    list: &mut SlotList,
     steps: &mut Steps<L>,
 ) -> Result<Settled, Stop>
     requires own { IsStateOf unit.now state.old }
@@ -50,7 +52,7 @@ pub fn settle<L: Ledger>(
         alloc,
         unit,
         state,
-        list: &mut links.list,
+        list,
     };
     settle_sites(alloc, &mut sites, &mut links.links, steps)
 }

@@ -13,12 +13,12 @@ use ld_base::id::Id;
 use ld_base::memory::NoMemory;
 use ld_base::steps::Steps;
 use ld_base::text::Text;
-use ld_cells::undo_log::UndoLog;
 use ld_checks::refusal::Refusal;
 use ld_globals::globals::Globals;
 use ld_lines::command::RunCommand;
 use ld_replies::telling::refuse;
 use ld_rules::prepared::PreparedUnit;
+use ld_run::command_room::CommandRoom;
 use ld_run::run::Run;
 use ld_value::moment::Moment;
 use std::alloc::Global;
@@ -67,7 +67,7 @@ pub(crate) fn ask_run<L: Ledger>(
     alloc: Global,
     globals: &mut Globals,
     runs: &mut IndexMap<Id, Run>,
-    undo_log: &mut UndoLog,
+    room: &mut CommandRoom,
     moment: Moment,
     name: &Id,
     command: &RunCommand,
@@ -90,6 +90,6 @@ pub(crate) fn ask_run<L: Ledger>(
     let Some(run) = runs.get_mut(name) else {
         return refuse(Refusal::UnknownRun, out);
     };
-    run.apply(alloc, globals, undo_log, moment, command, out, steps);
+    run.apply(alloc, globals, room, moment, command, out, steps);
     Ok(())
 }

@@ -19,7 +19,6 @@ use ld_base::id::Id;
 use ld_base::memory::NoMemory;
 use ld_base::steps::Steps;
 use ld_base::text::Text;
-use ld_cells::undo_log::UndoLog;
 use ld_checks::refusal::Refusal;
 use ld_globals::globals::Globals;
 use ld_json::fault::ReadFault;
@@ -31,6 +30,7 @@ use ld_lines::lines::LINE_LIMIT;
 use ld_refs::check::Checked;
 use ld_replies::telling::{refuse, say_no_memory};
 use ld_rules::prepared::PreparedUnit;
+use ld_run::command_room::CommandRoom;
 use ld_run::run::Run;
 use ld_value::moment::Moment;
 use std::alloc::Global;
@@ -39,8 +39,8 @@ use std::rc::Rc;
 use std::sync::ledger::Ledger;
 
 /// Published units, the store of the values of their global properties, and the runs that were made
-/// of them by their names. (docs/MEANING.md, "Histories") What reads the lines, and the room in
-/// which a command's writes are recorded, are kept beside them, and are no part of what the world
+/// of them by their names. (docs/MEANING.md, "Histories") What reads the lines, and the room for the
+/// lists that a command makes on its way, are kept beside them, and are no part of what the world
 /// means.
 pub struct World {
     units: Vec<Rc<PreparedUnit>>,
@@ -48,7 +48,7 @@ pub struct World {
     runs: IndexMap<Id, Run>,
     commands: CommandReader,
     /// Lent to the run that does a command.
-    undo_log: UndoLog,
+    command_room: CommandRoom,
 }
 
 // By hand, so that a function which lets one go calls this and is not proved over each field anew.
@@ -59,7 +59,7 @@ impl Drop for World {
             globals: _,
             runs: _,
             commands: _,
-            undo_log: _,
+            command_room: _,
         } = self;
     }
 }
@@ -97,7 +97,7 @@ impl World {
             globals: Globals::new(alloc),
             runs: IndexMap::new(alloc),
             commands: CommandReader::new(alloc),
-            undo_log: UndoLog::new(alloc),
+            command_room: CommandRoom::new(alloc),
         }
     }
 
@@ -253,9 +253,9 @@ impl World {
         ensures room { 128 ≤ room_of out.new }
     {
         let (globals, runs) = (&mut self.globals, &mut self.runs);
-        let undo_log = &mut self.undo_log;
+        let room = &mut self.command_room;
         ask_run(
-            alloc, globals, runs, undo_log, moment, name, command, out, steps,
+            alloc, globals, runs, room, moment, name, command, out, steps,
         )
     }
 }

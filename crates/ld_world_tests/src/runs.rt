@@ -7,10 +7,10 @@ use crate::begun::{Subject, test};
 use crate::units::{check, id};
 use ld_base::steps::Steps;
 use ld_base::text::Text;
-use ld_cells::undo_log::UndoLog;
 use ld_globals::globals::Globals;
 use ld_lines::command::RunCommand;
 use ld_rules::prepared::PreparedUnit;
+use ld_run::command_room::CommandRoom;
 use ld_run::run::Run;
 use ld_value::moment::Moment;
 use std::alloc::Global;
@@ -75,14 +75,6 @@ fn apply<L: Ledger>(
     ensures declared { globals.new.declared ≡ globals.old.declared }
     ensures room { 128 ≤ room_of out.new }
 {
-    let mut undo_log = UndoLog::new(alloc);
-    run.apply(
-        alloc,
-        globals,
-        &mut undo_log,
-        Moment(6),
-        &command,
-        out,
-        steps,
-    );
+    let mut room = CommandRoom::new(alloc);
+    run.apply(alloc, globals, &mut room, Moment(6), &command, out, steps);
 }

@@ -225,7 +225,8 @@ fn settle_so<L: Ledger>(
     ensures sound { OnOk result (IsSoundRun unit.now (run_of state.new)) }
     ensures linked { OnOk result (AreLinksOf unit.now (run_of state.new) links.new) }
 {
-    let settled = settle(alloc, unit, state, links, steps)?;
+    let mut list = SlotList::new(alloc);
+    let settled = settle(alloc, unit, state, links, &mut list, steps)?;
     let wanted = Settled {
         turns: fired,
         fired: fired as u64,

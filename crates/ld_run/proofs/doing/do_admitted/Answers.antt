@@ -1,9 +1,9 @@
-use Rattle.std.proofs.Common.{◌∙◌, [], ℕ, Ok, Result, ap, ap₂, refl, subst, sym}
+use Rattle.std.proofs.Common.{◌∙◌, ℕ, Ok, Result, ap, ap₂, refl, subst, sym}
 use Rattle.ld_cascade.specs.Settling.{Sums}
 use Rattle.ld_cascade.proofs.Edges.{follows_then}
 use Rattle.ld_roles.specs.Kept.{persons_of}
 use Rattle.ld_firing.specs.RunSystem.{IsSoundRun}
-use Rattle.ld_firing.specs.Telling.{Tells, TellsPersons}
+use Rattle.ld_firing.specs.Telling.{Tells}
 use Rattle.ld_firing.proofs.SeenInStates.{persons_counted}
 use Rattle.ld_firing.specs.SettledView.{settlement_of}
 use Rattle.ld_state.specs.RunState.{RunState}
@@ -58,8 +58,7 @@ settle_if-requires-clause-told g c settles =
       earlier = s;
       sound = c.requires.sound;
       links = (c.requires.linked (sym started ∙ settles)).links;
-      tells = subst (λ slots. Tells unit s t [] slots) (sym c.deref.ensures.value)
-          (subst (λ slots. Tells unit s t slots c.refresh.new.changed.items) c.new-refreshed.ensures.items c.in_default.ensures.told);
+      tells = subst (λ slots. Tells unit s t slots c.refresh.new.changed.items) c.clear.ensures.items c.in_default.ensures.told;
     }
 
 pub settle_if-requires-clause-linked : goal.settle_if-requires-clause-linked
@@ -154,13 +153,13 @@ settle_if-requires-2-clause-told g c settles =
     let possible = possible_stays unit (run_of c.args.state.now) s same closed command c.requires.possible in
     let how = c.how_to_relink-how.ensures
     ∙ ap (relinking_of command) (c.persons-before.ensures ∙ sym (persons_counted c.settle_if.new.state)) in
-    let tells = tells_by unit s t c.deref-2.result.now command
-    (λ plain others. subst (λ slots. Tells unit s t [] slots) (sym c.deref-2.ensures.value)
-    (subst (λ slots. Tells unit s t slots c.change_directly.new.changed.items) c.new-changed.ensures.items (told.told plain others)))
-    (λ persons. subst (λ slots. TellsPersons unit s t slots) (sym c.deref-2.ensures.value) (told.told_persons persons c.new-changed.ensures.items)) in
-    subst (λ (relinking : Relinking). MayRelink relinking unit t c.deref-2.result.now c.settle_if.new.links) (sym how)
+    let slots = c.change_directly.new.changed.items in
+    let tells = tells_by unit s t slots command
+    (λ plain others. subst (λ before. Tells unit s t before slots) c.clear-2.ensures.items (told.told plain others))
+    (λ persons. told.told_persons persons c.clear-2.ensures.items) in
+    subst (λ (relinking : Relinking). MayRelink relinking unit t slots c.settle_if.new.links) (sym how)
     (links_before unit (values_of c.args.globals.now) s t c.args.moment.0 command c.settle_if.new.links
-    told.run c.in-Ok.ensures.linked c.in-Ok.ensures.sound possible c.deref-2.result.now tells
+    told.run c.in-Ok.ensures.linked c.in-Ok.ensures.sound possible slots tells
     (sym c.settles_after-settles.ensures ∙ settles))
 
 pub settle_if-requires-2-clause-linked : goal.settle_if-requires-2-clause-linked

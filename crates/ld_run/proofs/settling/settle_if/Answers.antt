@@ -1,5 +1,6 @@
-use Rattle.std.proofs.Common.{ap}
+use Rattle.std.proofs.Common.{ap, subst, sym}
 use Rattle.ld_state.specs.StateView.{run_of}
+use Rattle.ld_run.specs.Linked.{MayRelink}
 use Rattle.ld_run.specs.RunStep.{settled}
 use Rattle.ld_firing.specs.SettledView.{settlement_of}
 use Rattle.ld_cascade.proofs.Edges.{follows_self, follows_then}
@@ -11,6 +12,12 @@ use Rattle.ld_run.proofs.settling.settle_if.Goals as goal
 pub returns-then-not-settles-clause-settled : goal.returns-then-not-settles-clause-settled
 returns-then-not-settles-clause-settled g c =
     ap (λ b. settled b c.args.unit.now (run_of c.args.state.now)) c.if-not-settles.true
+
+-- The slots are those of the scratch.
+pub relink-requires-clause-told : goal.relink-requires-clause-told
+relink-requires-clause-told g c =
+    subst (λ slots. MayRelink c.args.how c.args.unit.now (run_of c.args.state.now) slots c.args.links.now) (sym c.deref.ensures.value)
+    (c.requires.told c.if-not-settles.false)
 
 pub returns-in-Ok-clause-fitting : goal.returns-in-Ok-clause-fitting
 returns-in-Ok-clause-fitting g c =
