@@ -1,7 +1,7 @@
 -- What a person who joins leaves as it was: the cells of the run and of the others, who is a member of which role,
 -- and so all that the others are shown.
 use mathlib.Core.Path.{fun_ext}
-use Rattle.std.proofs.Common.{◌≡◌, refl, ap, ap₂, subst, ◌∙◌, ℕ, ◌+◌, ◌<◌, ℤ, List, [], ◌∷◌, ◌++◌, map, flat_map, filter, length, Option, Some, None, Ok, Bool, true, false, cond, codes, decimal, is_some, option_map, if◌then◌else◌, length-append}
+use Rattle.std.proofs.Common.{◌≡◌, refl, ap, ap₂, subst, ◌∙◌, ℕ, ◌+◌, ◌<◌, ℤ, List, [], ◌∷◌, ◌++◌, map, flat_map, filter, length, Option, Some, None, Ok, Bool, true, false, cond, codes, decimal, is_some, option_map, length-append}
 use Rattle.std.specs.Prelude.{⊤}
 use Rattle.ld_base.specs.Maybe.{◌>>=◌}
 use Rattle.ld_base.specs.Numbers.{numbers_below}

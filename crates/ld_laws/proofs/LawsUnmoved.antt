@@ -1,17 +1,16 @@
 -- The stages of a command that was done; and that a command which tells of no turns, or leaves a run unstarted, sets
 -- nothing off in it.
-use Rattle.std.proofs.Common.{◌≡◌, refl, sym, ap, subst, ◌∙◌, ℕ, ℤ, inl, inr, length, Option, Some, None, Result, Ok, Err, Bool, true, false, ◌&&◌, is_some, if◌then◌else◌}
-use Rattle.ld_value.specs.Datum.{Datum, moment_datum}
+use Rattle.std.proofs.Common.{◌≡◌, refl, sym, ap, subst, ◌∙◌, ℕ, ℤ, inl, inr, length, Option, Some, None, Result, Ok, Err, Bool, true, false, ◌&&◌, is_some}
+use Rattle.ld_value.specs.Datum.{Datum}
 use Rattle.ld_model.specs.Cells.{same_cell}
 use Rattle.ld_model.specs.declared.cell.CellName.{CellName}
 use Rattle.ld_model.specs.declared.cell.CellName.TheVariants.{Prop, Vis, Member, Chosen, Opened, ActOpened, Started, Mark, Now, Roster}
 use Rattle.ld_model.specs.declared.cell.Owner.{Owner}
 use Rattle.ld_model.specs.declared.unit.Unit.{Unit as Course}
 use Rattle.ld_lines.specs.declared.command.RunCommand.{RunCommand}
-use Rattle.ld_expr.specs.Owners.{of_person}
 use Rattle.ld_expr.specs.Seen.{mark_cell, opened_cell, act_opened_cell}
 use Rattle.ld_state.specs.GlobalValues.{GlobalValues}
-use Rattle.ld_state.specs.RunState.{RunState, with_cell, is_cell_of}
+use Rattle.ld_state.specs.RunState.{RunState, is_cell_of}
 use Rattle.ld_state.proofs.Elements.{different}
 use Rattle.ld_rules.specs.LawWords.{HasOwner, is_property}
 use Rattle.ld_firing.specs.RunSettling.{Settlement}
@@ -23,6 +22,7 @@ use Rattle.ld_checks.specs.Commands.{Admitted, enrols, assigns, drops, starts, o
 use Rattle.ld_checks.specs.Refusals.{Refusal}
 use Rattle.ld_run.specs.RunStep.{DoneCommand, done_by, run_step, settled}
 use Rattle.ld_run.proofs.LawsKept.{Fits, fits, touches, change_leaves, begun}
+use Rattle.ld_run.proofs.LawsNotices.{changed_outbox}
 use Rattle.ld_run.proofs.Settlings.{HasSettlings, each_itself, each_settling, either_settled, no_turns}
 use Rattle.ld_run.proofs.Joining.{not_joining}
 use Rattle.ld_laws.proofs.LawsOpenings.{step_leaves_start}
@@ -194,25 +194,6 @@ pub unstarted_leaves_opening : (unit : Course) (s : RunState) (store : GlobalVal
     → d.state.cells (opened_cell thing owner) ≡ s.cells (opened_cell thing owner)
 unstarted_leaves_opening unit s store moment asked d thing owner is still has =
     unstarted_leaves unit s store moment asked d (opened_cell thing owner) is still refl refl (not_joining s owner has)
-
-changed_outbox : (unit : Course) (store : GlobalValues) (t : RunState) (moment : ℤ) (command : Admitted) → (directly_changed unit store t moment command).outbox ≡ t.outbox
-changed_outbox unit store t moment (enrols name) = refl
-changed_outbox unit store t moment (assigns p role) = refl
-changed_outbox unit store t moment (drops p role) = refl
-changed_outbox unit store t moment starts = refl
-changed_outbox unit store t moment (opens p thing) = by (is_some (t.cells (opened_cell thing (of_person p))))
-  where
-    by : (b : Bool) → (if b then t else with_cell t (opened_cell thing (of_person p)) (Some (moment_datum moment))).outbox ≡ t.outbox
-    by true = refl
-    by false = refl
-changed_outbox unit store t moment (completes p thing) = refl
-changed_outbox unit store t moment (sets name value) = refl
-changed_outbox unit store t moment (clears name) = refl
-changed_outbox unit store t moment (gets name) = refl
-changed_outbox unit store t moment (shows_tree p) = refl
-changed_outbox unit store t moment (shows_outbox p) = refl
-changed_outbox unit store t moment reports = refl
-changed_outbox unit store t moment ticks = refl
 
 -- It sends no notice.
 pub unstarted_sends_nothing : (unit : Course) (s : RunState) (store : GlobalValues) (moment : ℤ) (asked : RunCommand) (d : DoneCommand)
