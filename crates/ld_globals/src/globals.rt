@@ -149,15 +149,15 @@ impl Globals {
     }
 
     /// Gives the key the value. It takes no memory, and one of the writes that are to spare.
-    pub fn put(&mut self, uri: Text, person: Option<Id>, value: Option<Value>)
+    pub fn put(&mut self, uri: &Text, person: Option<Id>, value: Option<Value>)
         requires spare { 0 < self.old.spare }
-        requires writable { IsWritable self.old (key_at uri.bytes person)
+        requires writable { IsWritable self.old (key_at uri.now.bytes person)
             (option_map datum_of value) }
-        ensures put { self.new ≡ spend (put_in self.old (key_at uri.bytes person)
+        ensures put { self.new ≡ spend (put_in self.old (key_at uri.now.bytes person)
             (option_map datum_of value)) }
         ensures kept { KeepsWrites self.old self.new }
     {
-        let Ok(_) = self.give(&uri, Given::own(person), value) else {
+        let Ok(_) = self.give(uri, Given::own(person), value) else {
             unreachable!();
         };
     }

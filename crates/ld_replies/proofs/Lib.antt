@@ -2,6 +2,7 @@ pub mod CellsOfStates
 pub mod Listed
 pub mod PartsShown
 pub mod Placed
+pub mod PlainValues
 pub mod Printable
 pub mod RefusalTexts
 pub mod ReportThere

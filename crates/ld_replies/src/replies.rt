@@ -56,8 +56,7 @@ pub fn push_done<L: Ledger>(
         ++ (told_line unit.now (run_of state.now) (admitted_of command.now) totals.turns (sums_in totals))) }
     ensures room { KeepsRoom out.old out.new }
 {
-    out.push("ok ")?;
-    out.push(verb_of(command))?;
+    out.push(beginning_of(command))?;
     push_sums(totals, out)?;
     match command {
         Admitted::Gets(cell) => push_cell(alloc, unit, state, *cell, out, steps),
@@ -87,24 +86,24 @@ pub fn push_refusal(refusal: Refusal<'_>, out: &mut Text) -> Result<(), NoMemory
     Ok(())
 }
 
-/// The verb of the command.
-fn verb_of(command: &Admitted<'_>) -> &'static str
-    ensures { result.now ≡ verb_of (admitted_of command.now) }
+/// What a reply begins with: `ok`, and the verb of the command.
+fn beginning_of(command: &Admitted<'_>) -> &'static str
+    ensures { result.now ≡ codes "ok " ++ verb_of (admitted_of command.now) }
 {
     match command {
-        Admitted::Enrols(_) => "enrol",
-        Admitted::Assigns(_, _) => "assign",
-        Admitted::Drops(_, _) => "drop",
-        Admitted::Starts => "start",
-        Admitted::Opens(_, _) => "open",
-        Admitted::Completes(_, _) => "complete",
-        Admitted::Sets(_, _) => "set",
-        Admitted::Clears(_) => "clear",
-        Admitted::Gets(_) => "get",
-        Admitted::ShowsTree(_) => "tree",
-        Admitted::ShowsOutbox(_) => "outbox",
-        Admitted::Reports => "report",
-        Admitted::Ticks => "tick",
+        Admitted::Enrols(_) => "ok enrol",
+        Admitted::Assigns(_, _) => "ok assign",
+        Admitted::Drops(_, _) => "ok drop",
+        Admitted::Starts => "ok start",
+        Admitted::Opens(_, _) => "ok open",
+        Admitted::Completes(_, _) => "ok complete",
+        Admitted::Sets(_, _) => "ok set",
+        Admitted::Clears(_) => "ok clear",
+        Admitted::Gets(_) => "ok get",
+        Admitted::ShowsTree(_) => "ok tree",
+        Admitted::ShowsOutbox(_) => "ok outbox",
+        Admitted::Reports => "ok report",
+        Admitted::Ticks => "ok tick",
     }
 }
 

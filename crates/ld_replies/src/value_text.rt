@@ -1,8 +1,8 @@
 //! The text of a property's value.
-ghost use Rattle.std.specs.Prelude.{◌≡◌, ◌++◌, IfSome, OnOk, option_copied, option_map};
+ghost use Rattle.std.specs.Prelude.{◌≡◌, ◌++◌, IfSome, OnOk, false, option_copied, option_map};
 ghost use Rattle.ld_base.specs.Roomy.{KeepsRoom};
 ghost use Rattle.ld_json.specs.Print.{json_text};
-ghost use Rattle.ld_value.specs.Datum.{datum_of};
+ghost use Rattle.ld_value.specs.Datum.{datum_of, is_text_datum};
 ghost use Rattle.ld_value.specs.Values.{HasText, text_of};
 ghost use Rattle.ld_replies.specs.Replies.{printed_value};
 
@@ -34,7 +34,21 @@ fn push_known(alloc: Global, value: &Value, out: &mut Text) -> Result<(), NoMemo
         (out.new.bytes ≡ out.old.bytes ++ json_text (text_of (datum_of value.now))) }
     ensures room { KeepsRoom out.old out.new }
 {
-    let mut text = Text::new(alloc);
-    print_value(value, &mut text)?;
-    print_text(alloc, text.as_str(), out)
+    match value {
+        Value::Text(text) => print_text(alloc, text.as_str(), out),
+        _ => push_scalar(value, out),
+    }
+}
+
+/// Appends a value that is no text as a JSON text: none of its characters needs an escape.
+fn push_scalar(value: &Value, out: &mut Text) -> Result<(), NoMemory>
+    requires text { HasText (datum_of value.now) }
+    requires scalar { is_text_datum (datum_of value.now) ≡ false }
+    ensures text { OnOk result
+        (out.new.bytes ≡ out.old.bytes ++ json_text (text_of (datum_of value.now))) }
+    ensures room { KeepsRoom out.old out.new }
+{
+    out.push("\"")?;
+    print_value(value, out)?;
+    out.push("\"")
 }

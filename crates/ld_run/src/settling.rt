@@ -1,5 +1,5 @@
 //! The settlings of a command.
-ghost use Rattle.std.specs.Prelude.{◌≡◌, ◌+◌, ◌&&◌, IfErr, IfOk, Ok, OnOk, false, true};
+ghost use Rattle.std.specs.Prelude.{◌≡◌, ◌+◌, ◌&&◌, ◌==◌, not, IfErr, IfOk, Ok, OnOk, false, true};
 ghost use Rattle.ld_state.specs.StateView.{IsStateOf, run_of};
 ghost use Rattle.ld_firing.specs.RunSystem.{IsSoundRun};
 ghost use Rattle.ld_firing.specs.SettledView.{settlement_of, sums_in};
@@ -139,8 +139,7 @@ pub(crate) fn settles_after<L: Ledger>(
 /// Whether the command left the run as it was when it had taken in the moment and the store's
 /// values: it changes nothing, and no rule fired.
 pub(crate) fn leaves_unmoved(command: &Admitted<'_>, totals: Settled) -> bool
-    ensures change { result ≡ true → has_change (admitted_of command.now) ≡ false }
-    ensures turns { result ≡ true → totals.turns ≡ 0 }
+    ensures { result ≡ not (has_change (admitted_of command.now)) && (totals.turns == 0) }
 {
     !has_change(command) && totals.turns == 0
 }

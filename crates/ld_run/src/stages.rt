@@ -151,9 +151,9 @@ fn try_admitted<'a, L: Ledger>(
 
 /// Does an admitted command, tells it, and gives the writes by which the store is to take the run's
 /// values. After a refusal the state is another one with the same mark.
-fn do_and_tell<L: Ledger>(
+fn do_and_tell<'u, L: Ledger>(
     alloc: Global,
-    unit: &PreparedUnit,
+    unit: &'u PreparedUnit,
     state: &mut State,
     links: &mut RunLinks,
     globals: &mut Globals,
@@ -162,7 +162,7 @@ fn do_and_tell<L: Ledger>(
     command: &Admitted<'_>,
     out: &mut Text,
     steps: &mut Steps<L>,
-) -> Result<Vec<Write>, Refusal<'static>>
+) -> Result<Vec<Write<'u>>, Refusal<'static>>
     requires own { IsStateOf unit.now state.old }
     requires sound { IsSoundRun unit.now (run_of state.old) }
     requires fitting { HasFittingGlobals unit.now (run_of state.old) }

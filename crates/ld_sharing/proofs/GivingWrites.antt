@@ -74,7 +74,7 @@ module _ (unit : Course) (s : RunState) (store : Store) (sound : IsSoundRun unit
       → AllByRecursion (IsWritableTo new) writes
   all_writable new same [] each = tt
   all_writable new same (write ∷ writes) each = (
-    writable_still store new same (key_at write.uri.bytes write.person) (option_map datum_of write.value) (each (given_by write) (inl refl)),
+    writable_still store new same (key_at write.uri.now.bytes write.person) (option_map datum_of write.value) (each (given_by write) (inl refl)),
     all_writable new same writes (λ one inside. each one (inr inside)),
   )
 
@@ -100,24 +100,24 @@ module _ (unit : Course) (s : RunState) (store : Store) (sound : IsSoundRun unit
 -- ---- one write after another
 
 module _ (store new : Store) (write : Write)
-    (put : new ≡ spend (put_in store (key_at write.uri.bytes write.person) (option_map datum_of write.value))) where
+    (put : new ≡ spend (put_in store (key_at write.uri.now.bytes write.person) (option_map datum_of write.value))) where
   abbrev key_value : Option Datum
   key_value = option_map datum_of write.value
 
   pub put_values : values_of new ≡ written_by (values_of store) write
-  put_values = ap values_of put ∙ values_put store (key_at write.uri.bytes write.person) key_value
+  put_values = ap values_of put ∙ values_put store (key_at write.uri.now.bytes write.person) key_value
 
   pub put_keeps_declared : new.declared ≡ store.declared
-  put_keeps_declared = ap (λ t. t.declared) put ∙ put_declared store (key_at write.uri.bytes write.person) key_value
+  put_keeps_declared = ap (λ t. t.declared) put ∙ put_declared store (key_at write.uri.now.bytes write.person) key_value
 
   pub put_takes_room : new.spare ≡ store.spare - 1
   put_takes_room =
-      ap (λ t. t.spare) put ∙ ap (λ n. n - 1) (put_spare store (key_at write.uri.bytes write.person) key_value)
+      ap (λ t. t.spare) put ∙ ap (λ n. n - 1) (put_spare store (key_at write.uri.now.bytes write.person) key_value)
 
   pub put_leaves_writable : (writes : List Write) → AllByRecursion (IsWritableTo store) writes
       → AllByRecursion (IsWritableTo new) writes
   put_leaves_writable [] all = tt
   put_leaves_writable (one ∷ more) all = (
-    writable_still store new put_keeps_declared (key_at one.uri.bytes one.person) (option_map datum_of one.value) all.0,
+    writable_still store new put_keeps_declared (key_at one.uri.now.bytes one.person) (option_map datum_of one.value) all.0,
     put_leaves_writable more all.1,
   )

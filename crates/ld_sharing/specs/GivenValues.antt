@@ -24,7 +24,7 @@ pub record GivenValue : Type 0 where
 -- The key of a write of the program, and the value that it gets.
 abbrev pub given_by : Write → GivenValue
 given_by write = record {
-  uri = write.uri.bytes;
+  uri = write.uri.now.bytes;
   person = write.person;
   value = option_map datum_of write.value;
 }

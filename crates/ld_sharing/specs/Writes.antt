@@ -19,11 +19,11 @@ with_shared_value store uri person value =
 
 -- The store's values, once this write is done.
 abbrev pub written_by : GlobalValues → Write → GlobalValues
-written_by store write = with_shared_value store write.uri.bytes write.person (option_map datum_of write.value)
+written_by store write = with_shared_value store write.uri.now.bytes write.person (option_map datum_of write.value)
 
 -- The write is one that the store may take.
 abbrev pub IsWritableTo : Store → Write → Type 0
-IsWritableTo store write = IsWritable store (key_at write.uri.bytes write.person) (option_map datum_of write.value)
+IsWritableTo store write = IsWritable store (key_at write.uri.now.bytes write.person) (option_map datum_of write.value)
 
 -- By these writes the store takes the values of the run; there is room for them, and each is one that the
 -- store may take.

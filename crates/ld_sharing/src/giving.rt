@@ -33,8 +33,8 @@ use std::sync::ledger::Ledger;
 
 /// A value that the store is to have.
 #[derive(Drop)]
-pub struct Write {
-    pub(crate) uri: Text,
+pub struct Write<'u> {
+    pub(crate) uri: &'u Text,
     pub(crate) person: Option<Id>,
     pub(crate) value: Option<Value>,
 }
@@ -42,13 +42,13 @@ pub struct Write {
 /// The writes by which the store takes the run's values, in room that is reserved in the store: one
 /// for each key whose value is another. The store keeps its values and declarations, also where
 /// memory is wanting, which is the only error.
-pub fn prepare<L: Ledger>(
+pub fn prepare<'u, L: Ledger>(
     alloc: Global,
-    unit: &PreparedUnit,
+    unit: &'u PreparedUnit,
     state: &State,
     globals: &mut Globals,
     steps: &mut Steps<L>,
-) -> Result<Vec<Write>, NoMemory>
+) -> Result<Vec<Write<'u>>, NoMemory>
     requires own { IsStateOf unit.now state.now }
     requires sound { IsSoundRun unit.now (run_of state.now) }
     requires serves { Serves globals.old unit.now }
@@ -65,10 +65,10 @@ pub fn prepare<L: Ledger>(
 }
 
 /// Makes the writes. It takes no memory.
-pub fn give_back(globals: &mut Globals, writes: Vec<Write>)
+pub fn give_back(globals: &mut Globals, writes: Vec<Write<'_>>)
     requires writes { (unit : Course) × (s : RunState)
         × AreWritesOf unit s globals.old writes.items }
-    ensures values { (unit : Course) (s : RunState) → AreWritesOf unit s globals.old writes.items
+    ensures values { (unit : Course) (s : RunState) → AreWritesOf unit s globals.old writes.entry.items
         → values_of globals.new ≡ giving_back unit s (values_of globals.old) }
     ensures declared { globals.new.declared ≡ globals.old.declared }
     ensures kept { KeepsWrites globals.old globals.new }
@@ -80,13 +80,13 @@ pub fn give_back(globals: &mut Globals, writes: Vec<Write>)
 
 /// The writes of the values that differ, in the order of the properties, and of each in the order
 /// of the persons.
-fn list_writes<L: Ledger>(
+fn list_writes<'u, L: Ledger>(
     alloc: Global,
-    unit: &PreparedUnit,
+    unit: &'u PreparedUnit,
     state: &State,
     globals: &Globals,
     steps: &mut Steps<L>,
-) -> Result<Vec<Write>, NoMemory>
+) -> Result<Vec<Write<'u>>, NoMemory>
     requires own { IsStateOf unit.now state.now }
     requires serves { Serves globals.now unit.now }
     ensures { IfOk result (λ writes. map given_by writes.items
@@ -101,13 +101,13 @@ fn list_writes<L: Ledger>(
 }
 
 /// Appends the writes of the property's values that differ, if it has a uri.
-fn push_property<L: Ledger>(
+fn push_property<'u, L: Ledger>(
     alloc: Global,
-    unit: &PreparedUnit,
+    unit: &'u PreparedUnit,
     property: PropNo,
     state: &State,
     globals: &Globals,
-    writes: &mut Vec<Write>,
+    writes: &mut Vec<Write<'u>>,
     steps: &mut Steps<L>,
 ) -> Result<(), NoMemory>
     requires own { IsStateOf unit.now state.now }
@@ -129,15 +129,15 @@ fn push_property<L: Ledger>(
 
 /// Appends the writes of the global property's values that differ: of each person's, or of the
 /// run's.
-fn push_shared<L: Ledger>(
+fn push_shared<'u, L: Ledger>(
     alloc: Global,
-    unit: &PreparedUnit,
+    unit: &'u PreparedUnit,
     property: PropNo,
     personal: bool,
-    uri: &Text,
+    uri: &'u Text,
     state: &State,
     globals: &Globals,
-    writes: &mut Vec<Write>,
+    writes: &mut Vec<Write<'u>>,
     steps: &mut Steps<L>,
 ) -> Result<(), NoMemory>
     requires own { IsStateOf unit.now state.now }
@@ -154,13 +154,13 @@ fn push_shared<L: Ledger>(
 }
 
 /// Appends the writes of the persons' values that differ.
-fn push_for_persons<L: Ledger>(
+fn push_for_persons<'u, L: Ledger>(
     alloc: Global,
     property: PropNo,
-    uri: &Text,
+    uri: &'u Text,
     state: &State,
     globals: &Globals,
-    writes: &mut Vec<Write>,
+    writes: &mut Vec<Write<'u>>,
     steps: &mut Steps<L>,
 ) -> Result<(), NoMemory>
     requires cells { (p : ℕ) → p < length state.now.rows
@@ -180,14 +180,14 @@ fn push_for_persons<L: Ledger>(
 }
 
 /// Appends the write of the cell's value to the key, where the store has another one.
-fn push_value<L: Ledger>(
+fn push_value<'u, L: Ledger>(
     alloc: Global,
-    uri: &Text,
+    uri: &'u Text,
     person: Option<&Id>,
     state: &State,
     cell: CellName,
     globals: &Globals,
-    writes: &mut Vec<Write>,
+    writes: &mut Vec<Write<'u>>,
     steps: &mut Steps<L>,
 ) -> Result<(), NoMemory>
     requires cell { has_cell state.now cell ≡ true }
@@ -208,12 +208,12 @@ fn push_value<L: Ledger>(
 }
 
 /// The write that gives the key the value.
-fn write_of(
+fn write_of<'u>(
     alloc: Global,
-    uri: &Text,
+    uri: &'u Text,
     person: Option<&Id>,
     value: Option<&Value>,
-) -> Result<Write, NoMemory>
+) -> Result<Write<'u>, NoMemory>
     ensures { IfOk result (λ write. given_by write ≡ record {
       uri = uri.now.bytes;
       person = option_copied person.entry;
@@ -221,7 +221,7 @@ fn write_of(
     }) }
 {
     Ok(Write {
-        uri: Text::of(alloc, uri.as_str())?,
+        uri,
         person: copy_name(person)?,
         value: copy_of(alloc, value)?,
     })

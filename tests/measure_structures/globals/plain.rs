@@ -145,8 +145,8 @@ impl Globals {
         Ok(())
     }
 
-    fn put(&mut self, uri: String, person: Option<String>, value: Option<Value>) {
-        if let Some(number) = self.uris.get(&uri) {
+    fn put(&mut self, uri: &str, person: Option<String>, value: Option<Value>) {
+        if let Some(number) = self.uris.get(uri) {
             self.give(*number, person.as_deref(), value);
         }
     }
@@ -250,12 +250,11 @@ fn set(store: &mut Globals, uri: &str, person: Option<&str>, draw: &mut Draw) ->
 }
 
 fn put(store: &mut Globals, uri: &str, person: Option<&str>) -> i64 {
-    let text = String::from(uri);
     let copy = person.map(String::from);
     if store.get(uri, person).is_err() {
         return 0;
     }
-    store.put(text, copy, None);
+    store.put(uri, copy, None);
     2
 }
 
