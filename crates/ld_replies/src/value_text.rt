@@ -15,6 +15,9 @@ use std::alloc::Global;
 
 /// Appends the value as a JSON text, or `none` where there is no value. (docs/COMMANDS.md,
 /// "Replies")
+///
+/// # Errors
+/// `NoMemory` leaves what stood in `out`, and behind it maybe a part of the text.
 pub fn push_value(alloc: Global, value: Option<&Value>, out: &mut Text) -> Result<(), NoMemory>
     requires { IfSome (option_map datum_of (option_copied value)) HasText }
     ensures text { OnOk result (out.new.bytes
