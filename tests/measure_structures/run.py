@@ -139,4 +139,5 @@ def main():
         measure(structure, look)
 
 
-main()
+if __name__ == "__main__":
+    main()

@@ -1,7 +1,7 @@
--- A value that is none of a text is printed without a character that JSON escapes.
+-- A value that is no text is printed without a character that JSON escapes.
 use Rattle.std.proofs.Common.{◌≡◌, refl, sym, ◌∙◌, ap, append_assoc, Some, None, ℕ, zero, suc, List, [], ◌∷◌, ◌++◌, ◌+◌, ◌/◌, ◌%◌, ◌==◌, Bool, true, false, cond, ℤ, pos, negsuc, arith, codes}
 use Rattle.std.specs.Fmt.{decimal, digit_glyph, digits, digits_onto, signed_decimal}
-use Rattle.std.proofs.lemmas.Bool.{and_from, true≢false}
+use Rattle.std.proofs.lemmas.Bool.{and_from, cond_both, true≢false}
 use Rattle.std.proofs.lemmas.List.Folds.{list_all-append}
 use Rattle.ld_json.specs.Plain.{is_plain, is_plain_byte}
 use Rattle.ld_json.specs.Print.{json_text}
@@ -34,16 +34,13 @@ digit_plain n = grind arith
 glyph_plain : (n : ℕ) → is_plain_byte (digit_glyph false (n % 10)) ≡ true
 glyph_plain n = grind arith
 
-either : (first : Bool) (xs ys : List ℕ) → is_plain xs ≡ true → is_plain ys ≡ true → is_plain (cond first xs ys) ≡ true
-either true xs ys h k = h
-either false xs ys h k = k
-
 digits_plain : (k n : ℕ) (rest : List ℕ) → is_plain rest ≡ true → is_plain (digits_onto k 10 false n rest) ≡ true
 digits_plain zero n rest h = h
 digits_plain (suc k) n rest h =
+    let longer = digit_glyph false (n % 10) ∷ rest in
     let put = and_from (is_plain_byte (digit_glyph false (n % 10))) (is_plain rest) (glyph_plain n) h in
-    either (n / 10 == 0) (digit_glyph false (n % 10) ∷ rest) (digits_onto k 10 false (n / 10) (digit_glyph false (n % 10) ∷ rest))
-    put (digits_plain k (n / 10) (digit_glyph false (n % 10) ∷ rest) put)
+    cond_both (n / 10 == 0) longer (digits_onto k 10 false (n / 10) longer) (λ xs. is_plain xs ≡ true)
+    (λ last. put) (λ further. digits_plain k (n / 10) longer put)
 
 decimals : (n : ℕ) → Plain (decimal n)
 unfolding digits
@@ -106,10 +103,10 @@ plain_text (moment_datum z) none = (moment z).plain
 plain_text (span_datum n) none = (span n).plain
 
 -- So it is a JSON text between quotes.
-pub quoted : (d : Datum) (old one two new : List ℕ) → is_text_datum d ≡ false → one ≡ old ++ 34 ∷ [] → two ≡ one ++ text_of d
-    → new ≡ two ++ 34 ∷ [] → new ≡ old ++ json_text (text_of d)
-quoted d old one two new none e f g =
+pub quoted : (d : Datum) (before opened told closed : List ℕ) → is_text_datum d ≡ false → opened ≡ before ++ 34 ∷ []
+    → told ≡ opened ++ text_of d → closed ≡ told ++ 34 ∷ [] → closed ≡ before ++ json_text (text_of d)
+quoted d before opened told closed scalar first middle last =
     let text = text_of d in
-    g ∙ ap (λ t. t ++ 34 ∷ []) (f ∙ ap (λ t. t ++ text) e ∙ append_assoc old (34 ∷ []) text)
-    ∙ append_assoc old (34 ∷ text) (34 ∷ [])
-    ∙ ap (λ t. old ++ t) (sym (plain_json text (plain_text d none)))
+    last ∙ ap (λ t. t ++ 34 ∷ []) (middle ∙ ap (λ t. t ++ text) first ∙ append_assoc before (34 ∷ []) text)
+    ∙ append_assoc before (34 ∷ text) (34 ∷ [])
+    ∙ ap (λ t. before ++ t) (sym (plain_json text (plain_text d scalar)))

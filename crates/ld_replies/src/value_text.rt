@@ -45,7 +45,7 @@ fn push_known(alloc: Global, value: &Value, out: &mut Text) -> Result<(), NoMemo
 
 /// Appends a value that is no text as a JSON text: none of its characters needs an escape.
 fn push_scalar(value: &Value, out: &mut Text) -> Result<(), NoMemory>
-    requires text { HasText (datum_of value.now) }
+    requires printable { HasText (datum_of value.now) }
     requires scalar { is_text_datum (datum_of value.now) ≡ false }
     ensures text { OnOk result
         (out.new.bytes ≡ out.old.bytes ++ json_text (text_of (datum_of value.now))) }
