@@ -31,7 +31,7 @@ use ld_value::value::Value;
 use std::alloc::Global;
 use std::sync::ledger::Ledger;
 
-/// A value that the store is to have.
+/// A value that the store is to have, for a uri that the unit keeps.
 #[derive(Drop)]
 pub struct Write<'u> {
     pub(crate) uri: &'u Text,
@@ -68,7 +68,8 @@ pub fn prepare<'u, L: Ledger>(
 pub fn give_back(globals: &mut Globals, writes: Vec<Write<'_>>)
     requires writes { (unit : Course) × (s : RunState)
         × AreWritesOf unit s globals.old writes.items }
-    ensures values { (unit : Course) (s : RunState) → AreWritesOf unit s globals.old writes.entry.items
+    ensures values { (unit : Course) (s : RunState)
+        → AreWritesOf unit s globals.old writes.entry.items
         → values_of globals.new ≡ giving_back unit s (values_of globals.old) }
     ensures declared { globals.new.declared ≡ globals.old.declared }
     ensures kept { KeepsWrites globals.old globals.new }
