@@ -14,7 +14,7 @@ use ld_base::steps::Steps;
 use ld_graph::slots::SlotList;
 use std::sync::ledger::Ledger;
 
-/// A state with sites. It means a system, a situation of that system, whose course no call changes,
+/// A state with sites. It means a system, a situation of that system, whose setting no call changes,
 /// and a room, which never falls: how many slots the list that `reads` lends can hold without new
 /// memory. The sites are some of the numbers below the system's count, in their order.
 ///
@@ -50,7 +50,7 @@ pub trait Sites {
 
     /// Fires the site: its mark becomes the verdict, and its effect is applied. The slots that it
     /// changes are appended to `changed`. After want of memory the state may be any of the same
-    /// course, sound or not.
+    /// setting, sound or not.
     fn fire<L: Ledger>(
         &mut self,
         site: u32,
@@ -65,7 +65,7 @@ pub trait Sites {
             changed.new.items ≡ changed.old.items ++ system.changed (now self.old) site) }
         ensures rejected { IfOk result (λ f. f.rejected ≡ system.rejected (now self.old) site) }
         ensures sent { IfOk result (λ f. f.sent ≡ system.sent (now self.old) site) }
-        ensures course { system.course (now self.new) ≡ system.course (now self.old) }
+        ensures setting { system.setting (now self.new) ≡ system.setting (now self.old) }
         ensures room { room self.old ≤ room self.new }
         ensures ticks { steps.new ≤ steps.old + system.cost (now self.old) site };
 

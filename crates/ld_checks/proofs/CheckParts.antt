@@ -1,7 +1,8 @@
 -- The checks of commands, taken apart.
+use Rattle.std.specs.Prelude.{⊤}
 use Rattle.std.proofs.Common.{◌≡◌, refl, sym, ap, ◌∙◌, ℕ, ℤ, List, Result, Ok, Err, IfOk, IfErr}
 use Rattle.ld_base.specs.declared.numbers.PersonNo.{PersonNo}
-use Rattle.ld_model.specs.declared.unit.Unit.{Unit as Course}
+use Rattle.ld_model.specs.declared.unit.Unit.{Unit}
 use Rattle.ld_lines.specs.declared.command.RunCommand.TheVariants.{Drop}
 use Rattle.ld_state.specs.RunState.{RunState}
 use Rattle.ld_checks.specs.AdmittedView.{admitted_of}
@@ -14,18 +15,18 @@ use Rattle.ld_checks.specs.declared.admitted.Admitted.{Admitted as AdmittedOf}
 use Rattle.ld_checks.specs.declared.refusal.Refusal.{Refusal as RefusalOf}
 
 -- The checks of a role that is taken.
-pub admitted_drop : (unit : Course) (s : RunState) (moment : ℤ) (name role : List ℕ)
+pub admitted_drop : (unit : Unit) (s : RunState) (moment : ℤ) (name role : List ℕ)
     → admitted unit s moment (Drop name role) ≡ (in_time s moment >> (the_person s name >>= λ p. the_role unit role >>= λ r. dropping unit s r p (Ok (drops p r))))
 unfolding admitted dropping
 admitted_drop unit s moment name role = refl
 
 -- What they come to, once moment, person and role are looked at.
-pub drop_is : (unit : Course) (s : RunState) (moment : ℤ) (name role : List ℕ) (p r : ℕ) (answer : Rest)
+pub drop_is : (unit : Unit) (s : RunState) (moment : ℤ) (name role : List ℕ) (p r : ℕ) (answer : Rest)
     → Ok tt ≡ in_time s moment → Ok p ≡ the_person s name → Ok r ≡ the_role unit role → dropping unit s r p (Ok (drops p r)) ≡ answer
     → answer ≡ admitted unit s moment (Drop name role)
 drop_is unit s moment name role p r answer time person found is =
     sym (admitted_drop unit s moment name role
-    ∙ ap (λ (t : Result (Unit {0}) Refusal). t >> (the_person s name >>= λ q. the_role unit role >>= λ n. dropping unit s n q (Ok (drops q n)))) (sym time)
+    ∙ ap (λ (t : Result ⊤ Refusal). t >> (the_person s name >>= λ q. the_role unit role >>= λ n. dropping unit s n q (Ok (drops q n)))) (sym time)
     ∙ ap (λ (o : Result ℕ Refusal). o >>= λ q. the_role unit role >>= λ n. dropping unit s n q (Ok (drops q n))) (sym person)
     ∙ ap (λ (o : Result ℕ Refusal). o >>= λ n. dropping unit s n p (Ok (drops p n))) (sym found)
     ∙ is)

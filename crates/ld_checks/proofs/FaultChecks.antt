@@ -7,7 +7,7 @@ use Rattle.std.specs.Option.{option_map}
 use Rattle.ld_base.specs.Maybe.{◌>>=◌, provided}
 use Rattle.ld_model.specs.RoleRows.{RoleRow}
 use Rattle.ld_model.specs.Roles.{roles_of}
-use Rattle.ld_model.specs.declared.unit.Unit.{Unit as Course}
+use Rattle.ld_model.specs.declared.unit.Unit.{Unit}
 use Rattle.ld_roles.specs.Membership.{Shortage, dropped, first_short, shortage_of, member_count}
 use Rattle.ld_roles.specs.Persons.{Persons, holds_role, person_number}
 use Rattle.ld_roles.specs.Refusals.{assign_fault, drop_fault, enrol_fault, short_if_started, short_of}
@@ -50,7 +50,7 @@ once_assigned (Some assigned.RoleFull) next = Err RoleFull
 once_assigned (Some assigned.RoleExclusive) next = Err RoleExclusive
 once_assigned (Some assigned.NoMemory) next = Err NoMemory
 
-pub same_assigning : (unit : Course) (s : RunState) (role p : ℕ) (next : Rest) → assigning unit s role p next ≡ once_assigned (assign_fault (role_bounds unit) s.persons role p) next
+pub same_assigning : (unit : Unit) (s : RunState) (role p : ℕ) (next : Rest) → assigning unit s role p next ≡ once_assigned (assign_fault (role_bounds unit) s.persons role p) next
 same_assigning unit s role p next =
     by (holds_role s.persons role p) (has_no_room unit s.persons role p) (is_excluded unit s.persons role p)
   where
@@ -64,13 +64,13 @@ same_assigning unit s role p next =
 
 -- ---- a role that is taken
 
-abbrev pub once_dropped : Course → Option DropFault → Rest → Rest
+abbrev pub once_dropped : Unit → Option DropFault → Rest → Rest
 once_dropped unit None next = next
 once_dropped unit (Some taken.NotHeld) next = Err NotHeld
 once_dropped unit (Some (taken.RoleShort short)) next =
     Err (RoleShort (role_identifier unit short.role.0) short.count short.least)
 
-pub same_dropping : (unit : Course) (s : RunState) (role p : ℕ) (next : Rest) → dropping unit s role p next ≡ once_dropped unit (drop_fault (role_bounds unit) s.persons role p (is_started s)) next
+pub same_dropping : (unit : Unit) (s : RunState) (role p : ℕ) (next : Rest) → dropping unit s role p next ≡ once_dropped unit (drop_fault (role_bounds unit) s.persons role p (is_started s)) next
 unfolding dropping
 same_dropping unit s role p next = by (holds_role s.persons role p) (is_started s)
   where
@@ -125,14 +125,14 @@ short_within roles persons numbers short is = by (first_short roles persons numb
         let same : one.role ≡ short.role.0 = ap (λ (s : Short). s.role.0) (some_same is) in
         rw (sym same) (short_there roles persons numbers one at)
 
-roles_counted : (unit : Course) → length (role_bounds unit) ≡ length (roles_of unit)
+roles_counted : (unit : Unit) → length (role_bounds unit) ≡ length (roles_of unit)
 roles_counted unit = length-map (roles_of unit) bounds_of
 
-pub short_role_at_start : (unit : Course) (persons : Persons) (short : Short) → option_map short_of (short_at_start unit persons) ≡ Some short → short.role.0 < length (roles_of unit)
+pub short_role_at_start : (unit : Unit) (persons : Persons) (short : Short) → option_map short_of (short_at_start unit persons) ≡ Some short → short.role.0 < length (roles_of unit)
 short_role_at_start unit persons short is =
     rw (sym (roles_counted unit)) (short_within (role_bounds unit) persons (role_numbers (role_bounds unit)) short is)
 
-pub short_role_once_dropped : (unit : Course) (persons : Persons) (role p : ℕ) (started : Bool) (short : Short) → drop_fault (role_bounds unit) persons role p started ≡ Some (taken.RoleShort short) → short.role.0 < length (roles_of unit)
+pub short_role_once_dropped : (unit : Unit) (persons : Persons) (role p : ℕ) (started : Bool) (short : Short) → drop_fault (role_bounds unit) persons role p started ≡ Some (taken.RoleShort short) → short.role.0 < length (roles_of unit)
 short_role_once_dropped unit persons role p started short is =
     rw (sym (roles_counted unit)) (by (holds_role persons role p) started is)
   where
@@ -148,16 +148,16 @@ short_role_once_dropped unit persons role p started short is =
     by true true is =
         short_within (role_bounds unit) (dropped persons role p) (outwards (role_bounds unit) role) short (told _ is)
 
-pub none_short_by : (unit : Course) (o : Option Shortage) (short : Short) → Some short ≡ option_map short_of o → none_short unit o ≡ Err (RoleShort (role_identifier unit short.role.0) short.count short.least)
+pub none_short_by : (unit : Unit) (o : Option Shortage) (short : Short) → Some short ≡ option_map short_of o → none_short unit o ≡ Err (RoleShort (role_identifier unit short.role.0) short.count short.least)
 none_short_by unit None short is = absurd (cc)
 none_short_by unit (Some one) short is =
     sym (ap (λ (s : Short). Err (RoleShort (role_identifier unit s.role.0) s.count s.least)) (some_same is))
 
-pub none_short_at_all : (unit : Course) (o : Option Shortage) → None ≡ option_map short_of o → none_short unit o ≡ Ok tt
+pub none_short_at_all : (unit : Unit) (o : Option Shortage) → None ≡ option_map short_of o → none_short unit o ≡ Ok tt
 none_short_at_all unit None is = refl
 none_short_at_all unit (Some one) is = absurd (cc)
 
 -- The identifier of the role of this number.
-pub identifier_is : (unit : Course) (r : ℕ) (id : List ℕ) → Some id ≡ slice_get (map (λ (row : RoleRow). row.identifier) (roles_of unit)) r → id ≡ role_identifier unit r
+pub identifier_is : (unit : Unit) (r : ℕ) (id : List ℕ) → Some id ≡ slice_get (map (λ (row : RoleRow). row.identifier) (roles_of unit)) r → id ≡ role_identifier unit r
 identifier_is unit r id is =
     ap (λ o. unwrap_or o []) (is ∙ slice_get-map (λ (row : RoleRow). row.identifier) (roles_of unit) r)

@@ -2,7 +2,7 @@
 use Rattle.std.proofs.Common.{◌≡◌, refl, sym, ap, ◌∙◌, ℕ, ℤ, List, ◌∷◌, length, Option, Some, None, Result, ok_or, Bool, true, false, not, is_some, nat_le, int_lt}
 use Rattle.ld_base.specs.Maybe.{provided}
 use Rattle.ld_model.specs.declared.property.Property.{Property}
-use Rattle.ld_model.specs.declared.unit.Unit.{Unit as Course}
+use Rattle.ld_model.specs.declared.unit.Unit.{Unit}
 use Rattle.ld_lines.specs.declared.command.RunCommand.{RunCommand}
 use Rattle.ld_lines.specs.declared.command.RunCommand.TheVariants.{Enrol, Assign, Drop, Start, Open, Complete, Set, Clear, Get, Tree, Outbox, Report, Tick}
 use Rattle.ld_names.specs.Names.{role_number}
@@ -43,7 +43,7 @@ after_own_search : {A B : Type 0} (found : Option A) (none : Bool) (refusal : Re
     → refusal_in (ok_or found refusal >>= next) ≡ first_cause (provided none refusal ∷ later)
 after_own_search found none refusal next later same each = after_any found refusal next later each ∙ ap (λ d. first_cause (provided d refusal ∷ later)) same
 
-after_shortage : {A : Type 0} (unit : Course) (short other : Option Shortage) (next : Result A Refusal) (later : List Cause) → short ≡ other → refusal_in next ≡ first_cause later
+after_shortage : {A : Type 0} (unit : Unit) (short other : Option Shortage) (next : Result A Refusal) (later : List Cause) → short ≡ other → refusal_in next ≡ first_cause later
     → refusal_in (none_short unit short >> next) ≡ first_cause (shortage_cause unit other ∷ later)
 after_shortage unit short other next later same rest = by short ∙ ap (λ o. first_cause (shortage_cause unit o ∷ later)) same
   where
@@ -54,7 +54,7 @@ after_shortage unit short other next later same rest = by short ∙ ap (λ o. fi
 both_found : (test : ℕ → ℕ → Bool) (r p : ℕ) (ro po : Option ℕ) → ro ≡ Some r → po ≡ Some p → test r p ≡ of_both test ro po
 both_found test r p ro po role person = sym (ap (λ o. of_both test o po) role ∙ ap (λ o. is_some_and (test r) o) person)
 
-module _ (unit : Course) (s : RunState) (moment : ℤ) where
+module _ (unit : Unit) (s : RunState) (moment : ℤ) where
   in_order : {A : Type 0} (next : Result A Refusal) (later : List Cause) → refusal_in next ≡ first_cause later → refusal_in (in_time s moment >> next) ≡ first_cause (too_early s moment ∷ later)
   in_order next later rest = after_own (int_lt moment (last_moment s)) (MomentBack (last_moment s)) next later rest
 

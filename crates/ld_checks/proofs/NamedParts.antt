@@ -11,7 +11,7 @@ use Rattle.ld_model.specs.Properties.{is_personal, limits_by}
 use Rattle.ld_model.specs.declared.activity.Activity.{Activity as ActivityOf}
 use Rattle.ld_model.specs.declared.cell.CellName.{CellName}
 use Rattle.ld_model.specs.declared.property.Property.{Property}
-use Rattle.ld_model.specs.declared.unit.Unit.{Unit as Course}
+use Rattle.ld_model.specs.declared.unit.Unit.{Unit}
 use Rattle.ld_walk.specs.CommonParts.{shown_part}
 use Rattle.ld_walk.specs.Places.{root, nth}
 use Rattle.ld_walk.specs.declared.place.Place.{Place}
@@ -38,18 +38,18 @@ use Rattle.ld_checks.proofs.StateSeen.{persons_counted}
 -- ---- activities
 
 -- The thing of this number is an activity, and an identifier names it.
-record IsActivityThing (unit : Course) (id : List ℕ) (thing : ℕ) : Type 0 where
+record IsActivityThing (unit : Unit) (id : List ℕ) (thing : ℕ) : Type 0 where
   named : thing_number unit id ≡ Some thing
   activity : is_activity unit thing ≡ true
 
-at_place : (unit : Course) (n : ℕ) (activity : ActivityOf) → HasDistinctIdentifiers unit → slice_get unit.activities n ≡ Some activity
+at_place : (unit : Unit) (n : ℕ) (activity : ActivityOf) → HasDistinctIdentifiers unit → slice_get unit.activities n ≡ Some activity
     → IsThing unit activity.identifier (Activity n)
 unfolding activity_parts_at
 at_place unit n activity distinct at =
     let part = shown_part (nth (root file.Activities) (codes "activities") n) (Activity n) activity.identifier activity.visible in
     declared_thing unit distinct part (Activity n) activity.identifier (Some activity.visible) refl (activity_listed unit n activity part at (inl refl))
 
-number_of_thing : (unit : Course) (id : List ℕ) (n : ℕ) → IsThing unit id (Activity n) → (t : ℕ) × IsActivityThing unit id t
+number_of_thing : (unit : Unit) (id : List ℕ) (n : ℕ) → IsThing unit id (Activity n) → (t : ℕ) × IsActivityThing unit id t
 number_of_thing unit id n thing = (
   thing.number,
   record {
@@ -59,7 +59,7 @@ number_of_thing unit id n thing = (
 )
 
 -- An activity that is found by a name is a thing by its own identifier.
-own_thing : (unit : Course) (id : List ℕ) (activity : ActivityOf) → HasDistinctIdentifiers unit → activity_named unit id ≡ Some activity
+own_thing : (unit : Unit) (id : List ℕ) (activity : ActivityOf) → HasDistinctIdentifiers unit → activity_named unit id ≡ Some activity
     → (t : ℕ) × IsActivityThing unit activity.identifier t
 own_thing unit id activity distinct named = by (place_named unit id) named
   where
@@ -72,7 +72,7 @@ own_thing unit id activity distinct named = by (place_named unit id) named
     by (Some place) at = of_place place at
 
 -- The thing that its own identifier names is an activity.
-pub own_activity : (unit : Course) (id : List ℕ) (activity : ActivityOf) (t : ℕ) → HasDistinctIdentifiers unit → activity_named unit id ≡ Some activity
+pub own_activity : (unit : Unit) (id : List ℕ) (activity : ActivityOf) (t : ℕ) → HasDistinctIdentifiers unit → activity_named unit id ≡ Some activity
     → thing_number unit activity.identifier ≡ Some t → is_activity unit t ≡ true
 own_activity unit id activity t distinct named number =
     let own = own_thing unit id activity distinct named in
@@ -81,7 +81,7 @@ own_activity unit id activity t distinct named number =
 -- ---- properties
 
 -- The cell of a property of a person who is there.
-pub own_cell : (unit : Course) (s : StateView) (p : ℕ) (id : List ℕ) (cell : CellName) → p < length s.rows → cell_of_property unit (of_person p) id ≡ Some cell
+pub own_cell : (unit : Unit) (s : StateView) (p : ℕ) (id : List ℕ) (cell : CellName) → p < length s.rows → cell_of_property unit (of_person p) id ≡ Some cell
     → HasPropertyCell unit (run_of s) cell
 own_cell unit s p id cell below is =
     let inside : AreCells unit (length s.rows) (cell ∷ []) = subst (λ found. AreCells unit (length s.rows) (list_from (λ one. one ∷ []) found)) is (property_looks_there unit (length s.rows) p id below) in
@@ -99,7 +99,7 @@ own_cell unit s p id cell below is =
     named (Some n) is = found n (slice_get unit.properties n) is
 
 -- A value of the property's datatype suits its cell.
-pub suits_own : (unit : Course) (p : ℕ) (id : List ℕ) (cell : CellName) (n : ℕ) (property : Property) (value : Datum)
+pub suits_own : (unit : Unit) (p : ℕ) (id : List ℕ) (cell : CellName) (n : ℕ) (property : Property) (value : Datum)
     → property_number unit id ≡ Some n → slice_get unit.properties n ≡ Some property → cell_of_property unit (of_person p) id ≡ Some cell
     → is_value property.datatype value ≡ true → suits_cell unit cell (Some value) ≡ true
 suits_own unit p id cell n property value number at is sort =
@@ -110,11 +110,11 @@ suits_own unit p id cell n property value number at is sort =
     (widens property.datatype value sort))
 
 -- The restrictions that the names keep of the property.
-pub limits_are : (unit : Course) (n : ℕ) (property : Property) (limits : Restrictions) → slice_get unit.properties n ≡ Some property → Some limits ≡ slice_get (names_of unit).limits n
+pub limits_are : (unit : Unit) (n : ℕ) (property : Property) (limits : Restrictions) → slice_get unit.properties n ≡ Some property → Some limits ≡ slice_get (names_of unit).limits n
     → limits ≡ limits_by property property.restrictions
 limits_are unit n property limits at is =
     some_same (is ∙ slice_get-map (λ (one : Property). limits_by one one.restrictions) unit.properties n ∙ ap (option_map (λ (one : Property). limits_by one one.restrictions)) at)
 
-pub has_property : (unit : Course) (n : ℕ) (property : Property) → slice_get unit.properties n ≡ Some property → n < length (names_of unit).properties
+pub has_property : (unit : Unit) (n : ℕ) (property : Property) → slice_get unit.properties n ≡ Some property → n < length (names_of unit).properties
 has_property unit n property at =
     omega (arith, slice_get_within unit.properties n property at, length-map unit.properties (λ (one : Property). one.identifier))

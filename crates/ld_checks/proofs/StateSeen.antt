@@ -6,7 +6,7 @@ use Rattle.ld_value.specs.Datum.{truth_datum, number_datum}
 use Rattle.ld_model.specs.Cells.{same_cell}
 use Rattle.ld_model.specs.declared.cell.CellName.{CellName}
 use Rattle.ld_model.specs.declared.cell.CellName.TheVariants.{Prop, Vis, Member, Chosen, Opened, ActOpened, Started, Mark, Now, Roster}
-use Rattle.ld_model.specs.declared.unit.Unit.{Unit as Course}
+use Rattle.ld_model.specs.declared.unit.Unit.{Unit}
 use Rattle.ld_expr.specs.Looks.{member_looks}
 use Rattle.ld_expr.specs.Membership.{is_member_of}
 use Rattle.ld_expr.specs.Owners.{of_person}
@@ -37,13 +37,13 @@ is_found cell (first ∷ rest) i (inr later) = by (same_cell cell first) (is_fou
     by false found = found
 
 -- A cell of the run is one of the state.
-pub cell_there : (unit : Course) (s : StateView) (cell : CellName) → IsStateOf unit s → IsIn (all_cells unit (length s.rows)) cell → has_cell s cell ≡ true
+pub cell_there : (unit : Unit) (s : StateView) (cell : CellName) → IsStateOf unit s → IsIn (all_cells unit (length s.rows)) cell → has_cell s cell ≡ true
 cell_there unit s cell own inside =
     ap (λ (layout : Layout). is_some (slot_in layout (length s.rows) cell)) own.layout
     ∙ ap is_some (slot_laid unit (length s.rows) cell)
     ∙ is_found cell (all_cells unit (length s.rows)) 0 inside
 
-pub cells_there : (unit : Course) (s : StateView) (cells : List CellName) → IsStateOf unit s → AreCells unit (length s.rows) cells → HasCells (has_cell s) cells
+pub cells_there : (unit : Unit) (s : StateView) (cells : List CellName) → IsStateOf unit s → AreCells unit (length s.rows) cells → HasCells (has_cell s) cells
 cells_there unit s cells own are = record { each = by cells are }
   where
     by : (cells : List CellName) → AreCells unit (length s.rows) cells → list_all (has_cell s) cells ≡ true
@@ -52,7 +52,7 @@ cells_there unit s cells own are = record { each = by cells are }
         ap₂ (λ a b. a && b) (cell_there unit s cell own (are cell (inl refl))) (by rest (λ c inside. are c (inr inside)))
 
 -- Whether a person is a member of a role is seen.
-pub member_cells : (unit : Course) (s : StateView) (role : List ℕ) (p : ℕ) → IsStateOf unit s → p < length s.rows → HasCells (has_cell s) (member_looks unit (of_person p) role)
+pub member_cells : (unit : Unit) (s : StateView) (role : List ℕ) (p : ℕ) → IsStateOf unit s → p < length s.rows → HasCells (has_cell s) (member_looks unit (of_person p) role)
 member_cells unit s role p own below =
     cells_there unit s (member_looks unit (of_person p) role) own (member_looks_there unit (length s.rows) p role below)
 
@@ -61,7 +61,7 @@ member_cells unit s role p own below =
 pub persons_counted : (s : StateView) → length (run_of s).persons ≡ length s.rows
 persons_counted s = length-map s.rows person_of
 
-same_value : (unit : Course) (s : StateView) → IsStateOf unit s → (cell : CellName) → cells_seen s cell ≡ cell_of unit (run_of s) cell
+same_value : (unit : Unit) (s : StateView) → IsStateOf unit s → (cell : CellName) → cells_seen s cell ≡ cell_of unit (run_of s) cell
 unfolding cell_of
 same_value unit s own (Member r p) =
     ap (λ roles. Some (truth_datum (is_member_among roles (persons_of s.rows) r.0 p.0))) own.roles
@@ -76,9 +76,9 @@ same_value unit s own (Mark r owner) = refl
 same_value unit s own Now = refl
 
 -- The state shows what is seen of the run.
-pub same_seen : (unit : Course) (s : StateView) → IsStateOf unit s → seen_by (length s.rows) (cells_seen s) ≡ seen_in unit (run_of s)
+pub same_seen : (unit : Unit) (s : StateView) → IsStateOf unit s → seen_by (length s.rows) (cells_seen s) ≡ seen_in unit (run_of s)
 same_seen unit s own = λ i. record { persons = sym (persons_counted s) i; value = λ cell. same_value unit s own cell i }
 
-pub same_member : (unit : Course) (s : StateView) (role : List ℕ) (p : ℕ) → IsStateOf unit s
+pub same_member : (unit : Unit) (s : StateView) (role : List ℕ) (p : ℕ) → IsStateOf unit s
     → is_member_of unit (seen_by (length s.rows) (cells_seen s)) role p ≡ is_member_of unit (seen_in unit (run_of s)) role p
 same_member unit s role p own = ap (λ seen. is_member_of unit seen role p) (same_seen unit s own)

@@ -1,9 +1,9 @@
 -- What an admitted command of the program means, and where it can be done.
-use Rattle.std.specs.Prelude.{◌≡◌, ◌<◌, ℕ, length, Some, None, true, false, Contains}
+use Rattle.std.specs.Prelude.{◌≡◌, ◌<◌, ℕ, length, Some, None, true, false, Contains, ⊤}
 use Rattle.ld_value.specs.Datum.{datum_of}
 use Rattle.ld_model.specs.Roles.{roles_of}
 use Rattle.ld_model.specs.declared.cell.CellName.{CellName}
-use Rattle.ld_model.specs.declared.unit.Unit.{Unit as Course}
+use Rattle.ld_model.specs.declared.unit.Unit.{Unit}
 use Rattle.ld_roles.specs.Persons.{holds_role}
 use Rattle.ld_roles.specs.Refusals.{assign_fault, enrol_fault}
 use Rattle.ld_roles.specs.RoleBounds.{role_bounds}
@@ -33,23 +33,23 @@ admitted_of given.Reports = reports
 admitted_of given.Ticks = ticks
 
 -- The run has the cell, and it is one of a property.
-pub record HasPropertyCell (unit : Course) (s : RunState) (cell : CellName) : Type 0 where
+pub record HasPropertyCell (unit : Unit) (s : RunState) (cell : CellName) : Type 0 where
   pub there : Contains (all_cells unit (length s.persons)) cell
   pub property : is_property cell ≡ true
 
 -- The person and the role are there.
-pub record HasPersonAndRole (unit : Course) (s : RunState) (p role : ℕ) : Type 0 where
+pub record HasPersonAndRole (unit : Unit) (s : RunState) (p role : ℕ) : Type 0 where
   pub has_person : p < length s.persons
   pub has_role : role < length (roles_of unit)
 
 -- The person and the activity are there.
-pub record HasPersonAndActivity (unit : Course) (s : RunState) (p thing : ℕ) : Type 0 where
+pub record HasPersonAndActivity (unit : Unit) (s : RunState) (p thing : ℕ) : Type 0 where
   pub has_person : p < length s.persons
   pub has_activity : is_activity unit thing ≡ true
 
 -- All that the command names is there, nothing stands against what it changes of the persons, and a run that is to
 -- start is not started.
-abbrev pub IsPossible : Course → RunState → Admitted → Type 0
+abbrev pub IsPossible : Unit → RunState → Admitted → Type 0
 IsPossible unit s (enrols name) = enrol_fault SEATS s.persons name ≡ None
 IsPossible unit s (assigns p role) =
     HasPersonAndRole unit s p role × (assign_fault (role_bounds unit) s.persons role p ≡ None)
@@ -62,5 +62,5 @@ IsPossible unit s (clears cell) = HasPropertyCell unit s cell
 IsPossible unit s (gets cell) = HasPropertyCell unit s cell
 IsPossible unit s (shows_tree p) = p < length s.persons
 IsPossible unit s (shows_outbox p) = p < length s.persons
-IsPossible unit s reports = Unit {0}
-IsPossible unit s ticks = Unit {0}
+IsPossible unit s reports = ⊤
+IsPossible unit s ticks = ⊤

@@ -6,7 +6,7 @@ use Rattle.ld_value.specs.Datum.{Datum}
 use Rattle.ld_value.specs.Values.{value_of}
 use Rattle.ld_model.specs.declared.activity.Activity.{Activity}
 use Rattle.ld_model.specs.declared.property.Property.{Property}
-use Rattle.ld_model.specs.declared.unit.Unit.{Unit as Course}
+use Rattle.ld_model.specs.declared.unit.Unit.{Unit}
 use Rattle.ld_lines.specs.declared.command.RunCommand.{RunCommand}
 use Rattle.ld_lines.specs.declared.command.RunCommand.TheVariants.{Enrol, Assign, Drop, Start, Open, Complete, Set, Clear, Get, Tree, Outbox, Report, Tick}
 use Rattle.ld_names.specs.Names.{role_number, thing_number}
@@ -51,21 +51,21 @@ abbrev pub not_started : RunState → Cause
 not_started s = provided (not (is_started s)) NotStarted
 
 -- A role is short of members, of which its identifier and both numbers are told.
-abbrev pub shortage_cause : Course → Option Shortage → Cause
+abbrev pub shortage_cause : Unit → Option Shortage → Cause
 shortage_cause unit short =
     option_map (λ one. RoleShort (role_identifier unit one.role) one.count one.least) short
 
 -- Where both are found and the run is started: the first role that would be short once it is dropped.
-abbrev pub shortage_for : Course → RunState → Option ℕ → Option ℕ → Option Shortage
+abbrev pub shortage_for : Unit → RunState → Option ℕ → Option ℕ → Option Shortage
 shortage_for unit s r p = r >>= λ role. p >>= λ person. shortage_if_running unit s role person (is_started s)
 
 -- The activity of this identifier, as a thing.
-abbrev pub activity_thing : Course → List ℕ → Option ℕ
+abbrev pub activity_thing : Unit → List ℕ → Option ℕ
 activity_thing unit id =
     option_and_then (λ (one : Activity). thing_number unit one.identifier) (activity_named unit id)
 
 -- The activity of this identifier is completed by its person's choice.
-abbrev pub is_by_choice : Course → List ℕ → Bool
+abbrev pub is_by_choice : Unit → List ℕ → Bool
 is_by_choice unit id =
     is_some_and (λ one. is_some_and is_choice one.complete) (activity_named unit id)
 
@@ -76,24 +76,24 @@ fitting property text = option_and_then
     (value_of property.datatype text)
 
 -- The property is one of a role that the person is no member of.
-abbrev pub bars : Course → RunState → ℕ → Property → Bool
+abbrev pub bars : Unit → RunState → ℕ → Property → Bool
 bars unit s p property =
     is_some_and (λ role. not (is_member_of unit (seen_in unit s) role p)) property.role
 
 -- Both are found, and the property is one of a role that the person is no member of.
-abbrev pub is_barred : Course → RunState → Option ℕ → Option Property → Bool
+abbrev pub is_barred : Unit → RunState → Option ℕ → Option Property → Bool
 is_barred unit s p property = is_some_and (λ person. is_some_and (bars unit s person) property) p
 
 -- For the person there is no cell of the property: the identifier names none.
-abbrev pub lacks_cell : Course → List ℕ → ℕ → Bool
+abbrev pub lacks_cell : Unit → List ℕ → ℕ → Bool
 lacks_cell unit property p = not (is_some (cell_of_property unit (of_person p) property))
 
 -- The person is found, and there is no cell of the property for the person.
-abbrev pub own_cell : Course → Option ℕ → List ℕ → Cause
+abbrev pub own_cell : Unit → Option ℕ → List ℕ → Cause
 own_cell unit p property = provided (is_some_and (lacks_cell unit property) p) UnknownProperty
 
 -- The causes of each command, in the order of its checks; the first that holds is the refusal.
-abbrev pub causes : Course → RunState → ℤ → RunCommand → List Cause
+abbrev pub causes : Unit → RunState → ℤ → RunCommand → List Cause
 causes unit s moment (Enrol person) =
     too_early s moment
     ∷ provided (is_some (person_number s.persons person)) PersonExists

@@ -1,6 +1,6 @@
 -- Checks of a command that are made together, and what goes on behind them where none of them refuses.
 use Rattle.std.specs.Prelude.{ℕ, ℤ, List, Result}
-use Rattle.ld_model.specs.declared.unit.Unit.{Unit as Course}
+use Rattle.ld_model.specs.declared.unit.Unit.{Unit}
 use Rattle.ld_state.specs.RunState.{RunState}
 use Rattle.ld_checks.specs.Checks.{in_time, running, the_person, not_enrolled, has_seat, does_not_hold, holds_it, has_room, keeps_apart, is_started, none_short, shortage_if_running}
 use Rattle.ld_checks.specs.Commands.{Admitted}
@@ -23,11 +23,11 @@ abbrev pub enrolling : RunState → List ℕ → Rest → Rest
 enrolling s name next = not_enrolled s name >> (has_seat s >> next)
 
 -- Nothing stands against giving the person the role.
-abbrev pub assigning : Course → RunState → ℕ → ℕ → Rest → Rest
+abbrev pub assigning : Unit → RunState → ℕ → ℕ → Rest → Rest
 assigning unit s role p next =
     does_not_hold s role p >> (has_room unit s role p >> (keeps_apart unit s role p >> next))
 
 -- Nothing stands against taking the role from the person.
-unfoldable pub dropping : Course → RunState → ℕ → ℕ → Rest → Rest
+unfoldable pub dropping : Unit → RunState → ℕ → ℕ → Rest → Rest
 dropping unit s role p next =
     holds_it s role p >> (none_short unit (shortage_if_running unit s role p (is_started s)) >> next)

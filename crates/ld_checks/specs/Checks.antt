@@ -1,5 +1,5 @@
 -- The checks of a command, in order: the first that fails is the refusal, and else the command is admitted.
-use Rattle.std.specs.Prelude.{ℕ, ℤ, pos, List, [], length, Option, Some, None, Result, Ok, Err, ok_or, Bool, true, false, not, is_some, nat_le, int_lt, slice_get, unwrap_or}
+use Rattle.std.specs.Prelude.{ℕ, ℤ, pos, List, [], length, Option, Some, None, Result, Ok, Err, ok_or, Bool, true, false, not, is_some, nat_le, int_lt, slice_get, unwrap_or, ⊤}
 use Rattle.std.specs.Option.{option_map, option_and_then}
 use Rattle.ld_base.specs.Maybe.{provided}
 use Rattle.ld_value.specs.Datum.{Datum}
@@ -17,7 +17,7 @@ use Rattle.ld_model.specs.declared.cell.CellName.TheVariants.{Started, Now}
 use Rattle.ld_model.specs.declared.completion.Completion.{Completion}
 use Rattle.ld_model.specs.declared.completion.Completion.TheVariants.{UserChoice}
 use Rattle.ld_model.specs.declared.property.Property.{Property}
-use Rattle.ld_model.specs.declared.unit.Unit.{Unit as Course}
+use Rattle.ld_model.specs.declared.unit.Unit.{Unit}
 use Rattle.ld_roles.specs.Roster.{Shortage, person_number, holds_role, has_no_room, is_excluded, short_at_start, short_once_dropped}
 use Rattle.ld_state.specs.RunState.{RunState, seen_in}
 use Rattle.ld_checks.specs.Commands.{Admitted, enrols, assigns, drops, starts, opens, completes, sets, clears, gets, shows_tree, shows_outbox, reports, ticks}
@@ -27,7 +27,7 @@ use Rattle.ld_checks.specs.Refusals.{Refusal, MomentBack, NotStarted, StartedAlr
 
 -- A check: it passes, or it refuses.
 abbrev pub Passed : Type 0
-Passed = Result (Unit {0}) Refusal
+Passed = Result ⊤ Refusal
 
 -- ---- moments and persons
 
@@ -66,7 +66,7 @@ has_seat s = refuse_if (nat_le s.seats (length s.persons)) RunFull
 -- ---- roles
 
 -- The number of the role of this identifier.
-abbrev pub the_role : Course → List ℕ → Result ℕ Refusal
+abbrev pub the_role : Unit → List ℕ → Result ℕ Refusal
 the_role unit role = ok_or (role_number unit role) UnknownRole
 
 -- The person does not hold this very role.
@@ -78,31 +78,31 @@ abbrev pub holds_it : RunState → ℕ → ℕ → Passed
 holds_it s role p = refuse_if (not (holds_role s.persons role p)) NotHeld
 
 -- The role, and each that it stands within, has room for the person or has the person as a member.
-abbrev pub has_room : Course → RunState → ℕ → ℕ → Passed
+abbrev pub has_room : Unit → RunState → ℕ → ℕ → Passed
 has_room unit s role p = refuse_if (has_no_room unit s.persons role p) RoleFull
 
 -- The role would not bring the person into two roles right within an `exclusively-in-roles` one.
-abbrev pub keeps_apart : Course → RunState → ℕ → ℕ → Passed
+abbrev pub keeps_apart : Unit → RunState → ℕ → ℕ → Passed
 keeps_apart unit s role p = refuse_if (is_excluded unit s.persons role p) RoleExclusive
 
 -- The identifier of the role of this number, or the empty text where there is none.
-abbrev pub role_identifier : Course → ℕ → List ℕ
+abbrev pub role_identifier : Unit → ℕ → List ℕ
 role_identifier unit role = unwrap_or (option_map (λ row. row.identifier) (slice_get (roles_of unit) role)) []
 
 -- No role is short of members.
-abbrev pub none_short : Course → Option Shortage → Passed
+abbrev pub none_short : Unit → Option Shortage → Passed
 none_short unit None = Ok tt
 none_short unit (Some short) = Err (RoleShort (role_identifier unit short.role) short.count short.least)
 
 -- In a run that is started, the first role that would be short once the person has dropped the role.
-abbrev pub shortage_if_running : Course → RunState → ℕ → ℕ → Bool → Option Shortage
+abbrev pub shortage_if_running : Unit → RunState → ℕ → ℕ → Bool → Option Shortage
 shortage_if_running unit s role p true = short_once_dropped unit s.persons role p
 shortage_if_running unit s role p false = None
 
 -- ---- activities
 
 -- The thing of this identifier, which is an activity.
-abbrev pub the_activity : Course → List ℕ → Result ℕ Refusal
+abbrev pub the_activity : Unit → List ℕ → Result ℕ Refusal
 the_activity unit id =
     let thing_of = λ (activity : Activity). thing_number unit activity.identifier in
     ok_or (option_and_then thing_of (activity_named unit id)) UnknownActivity
@@ -113,7 +113,7 @@ is_choice UserChoice = true
 is_choice _ = false
 
 -- The activity of this identifier is completed by its person's choice.
-abbrev pub only_by_choice : Course → List ℕ → Passed
+abbrev pub only_by_choice : Unit → List ℕ → Passed
 only_by_choice unit id = refuse_if
     (not (is_some_and (λ activity. is_some_and is_choice activity.complete) (activity_named unit id)))
     NotByChoice
@@ -121,11 +121,11 @@ only_by_choice unit id = refuse_if
 -- ---- properties
 
 -- The property of this identifier.
-abbrev pub the_property : Course → List ℕ → Result Property Refusal
+abbrev pub the_property : Unit → List ℕ → Result Property Refusal
 the_property unit id = ok_or (property_of unit id) UnknownProperty
 
 -- The cell of the property for the person.
-abbrev pub the_cell : Course → ℕ → List ℕ → Result CellName Refusal
+abbrev pub the_cell : Unit → ℕ → List ℕ → Result CellName Refusal
 the_cell unit p id = ok_or (cell_of_property unit (of_person p) id) UnknownProperty
 
 -- The value that the text has as one of the property's datatype; it has to meet the restrictions.
@@ -135,7 +135,7 @@ fitting_value property text =
     ok_or (option_and_then if_fits (value_of property.datatype text)) BadValue
 
 -- A property of a role is written by members of the role alone.
-abbrev pub may_write : Course → RunState → ℕ → Property → Passed
+abbrev pub may_write : Unit → RunState → ℕ → Property → Passed
 may_write unit s p property = refuse_if
     (is_some_and (λ role. not (is_member_of unit (seen_in unit s) role p)) property.role)
     NotAllowed
@@ -143,7 +143,7 @@ may_write unit s p property = refuse_if
 -- ---- the checks of each command
 
 -- What the command is once all its checks pass, in their order; or the refusal of the first that fails.
-unfoldable pub admitted : Course → RunState → ℤ → RunCommand → Result Admitted Refusal
+unfoldable pub admitted : Unit → RunState → ℤ → RunCommand → Result Admitted Refusal
 admitted unit s moment (Enrol person) = do
   in_time s moment
   not_enrolled s person

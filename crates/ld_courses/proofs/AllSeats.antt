@@ -2,7 +2,7 @@
 -- the same, as none of them says that a run is full.
 use Rattle.std.proofs.Common.{◌≡◌, ◌<◌, ◌≤◌, ℕ, List, [], ◌∷◌, map, Some, true, refl, sym, ◌∙◌, arith, codes}
 use Rattle.std.specs.Fmt.{digits}
-use Rattle.ld_model.specs.declared.unit.Unit.{Unit as Course}
+use Rattle.ld_model.specs.declared.unit.Unit.{Unit}
 use Rattle.ld_lines.specs.declared.line.Line.{Line}
 use Rattle.ld_world.specs.SameWorlds.{tell_none_full}
 use Rattle.ld_world.specs.World.{reply_block}
@@ -30,7 +30,7 @@ use Rattle.ld_courses.specs.TwoActs
 use Rattle.ld_courses.specs.TwoOfThree
 use Rattle.ld_courses.specs.UndoingConditions
 
-same_with_all : (seats : ℕ) (unit : Course) (lines : List Line) {texts : List (List ℕ)} → 0 < seats → seats ≤ 200 → told seats unit lines ≡ texts → tell_none_full texts ≡ true → told 200 unit lines ≡ told seats unit lines
+same_with_all : (seats : ℕ) (unit : Unit) (lines : List Line) {texts : List (List ℕ)} → 0 < seats → seats ≤ 200 → told seats unit lines ≡ texts → tell_none_full texts ≡ true → told 200 unit lines ≡ told seats unit lines
 same_with_all seats unit lines {texts = texts} seat few told_so none =
     told_with_more (unit ∷ []) (map Some lines) texts seats 200 seat few told_so none ∙ sym told_so
 

@@ -19,7 +19,7 @@ use Rattle.ld_model.specs.declared.activity.StructureKind.TheVariants.{Sequence,
 use Rattle.ld_model.specs.declared.completion.Completion.TheVariants.{WhenRolePartCompleted, WhenPlayCompleted, WhenLastActCompleted}
 use Rattle.ld_model.specs.declared.item.Item.{Item}
 use Rattle.ld_model.specs.declared.role.RoleKind.TheVariants.{Learner}
-use Rattle.ld_model.specs.declared.unit.Unit.{Unit as Course}
+use Rattle.ld_model.specs.declared.unit.Unit.{Unit}
 use Rattle.ld_cascade.specs.Settling.{visited, fired_below, after_sweeps, all_firings}
 use Rattle.ld_names.specs.Names.{named_by}
 use Rattle.ld_parts.specs.Listing.{value_set_parts, condition_true_parts, completed_parts, completion_parts, follows_parts, on_completion_parts, role_part, property_parts_at, object_parts_at, service_parts, environment_parts_at, parts_before_items, ending_parts, activity_parts_at, structure_parts_at, role_part_parts_at, act_parts_at, play_parts_at, method_parts, unit_parts, action_parts, condition_parts_at, middle_parts, parts_of}
@@ -115,7 +115,7 @@ p3 = record (the_play (an_act (codes "b1") (a_part (codes "rp3") (codes "learner
     ∷ [])) { identifier = codes "p3" }
 
 -- A course of two environments, a selection within a sequence, and three plays; it is done when `p1` is.
-abbrev pub the_course : Course
+abbrev pub the_course : Unit
 the_course = record (course (codes "t") (enclosing learner (a_role (codes "leader") Learner ∷ []) ∷ tutor
     ∷ [])
     (x ∷ y ∷ choice (codes "z") ∷ choice (codes "z1") ∷ choice (codes "z2") ∷ [])

@@ -9,7 +9,7 @@ use Rattle.ld_value.specs.declared.kind.Kind.TheVariants.{Boolean as BooleanKind
 use Rattle.ld_state.specs.RunCells.{begins_as}
 use Rattle.ld_model.specs.declared.condition.Action.TheVariants.{Show, Hide}
 use Rattle.ld_model.specs.declared.property.PropertyKind.TheVariants.{LocPers}
-use Rattle.ld_model.specs.declared.unit.Unit.{Unit as Course}
+use Rattle.ld_model.specs.declared.unit.Unit.{Unit}
 use Rattle.ld_cascade.specs.Settling.{visited, fired_below, after_sweeps, all_firings}
 use Rattle.ld_names.specs.Names.{named_by}
 use Rattle.ld_parts.specs.Listing.{value_set_parts, condition_true_parts, completed_parts, completion_parts, follows_parts, on_completion_parts, role_part, property_parts_at, object_parts_at, service_parts, environment_parts_at, parts_before_items, ending_parts, activity_parts_at, structure_parts_at, role_part_parts_at, act_parts_at, play_parts_at, method_parts, unit_parts, action_parts, condition_parts_at, middle_parts, parts_of}
@@ -28,7 +28,7 @@ use Rattle.ld_world.specs.World.{world_step, reply_block}
 use Rattle.ld_courses.specs.Courses.{truth, is_equal, learner, choice, course, one_part, a_property, with_conditions, a_condition, a_moment, at, told}
 
 -- A condition shows `read` where the test holds, and hides it where it does not.
-abbrev pub the_course : TestOf → Course
+abbrev pub the_course : TestOf → Unit
 the_course everybody = with_conditions
     (a_property (codes "okay") LocPers BooleanKind None ∷ [])
     (a_condition everybody (Show (codes "read" ∷ []) ∷ []) (Hide (codes "read" ∷ []) ∷ []) ∷ [])

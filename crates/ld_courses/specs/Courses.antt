@@ -23,7 +23,7 @@ use Rattle.ld_model.specs.declared.role.MatchPersons.TheVariants.{NotExclusively
 use Rattle.ld_model.specs.declared.role.RoleKind.{RoleKind}
 use Rattle.ld_model.specs.declared.role.RoleKind.TheVariants.{Learner, Staff}
 use Rattle.ld_model.specs.declared.unit.Level.TheVariants.{C}
-use Rattle.ld_model.specs.declared.unit.Unit.{Unit as Course}
+use Rattle.ld_model.specs.declared.unit.Unit.{Unit}
 use Rattle.ld_lines.specs.declared.command.RunCommand.{RunCommand}
 use Rattle.ld_lines.specs.declared.command.RunCommand.TheVariants.{Enrol, Assign}
 use Rattle.ld_lines.specs.declared.line.Line.{Line}
@@ -114,7 +114,7 @@ the_play acts =
     }
 
 -- A course of one play. It has the highest level, which may have all that is put into it.
-abbrev pub course : List ℕ → List (List RoleRow) → List Activity → List Structure → List Act → Course
+abbrev pub course : List ℕ → List (List RoleRow) → List Activity → List Structure → List Act → Unit
 course id roles activities structures acts = record {
   roles =
       roles;
@@ -189,7 +189,7 @@ abbrev pub a_condition : TestOf → List Action → List Action → Condition
 a_condition holds then_do else_do = record { test = holds; yes = then_do; no = else_do }
 
 -- The course with these properties and conditions in place of its own.
-abbrev pub with_conditions : List Property → List Condition → Course → Course
+abbrev pub with_conditions : List Property → List Condition → Unit → Unit
 with_conditions properties conditions unit = record unit { properties = properties; conditions = conditions }
 
 -- ---- lines
@@ -219,5 +219,5 @@ setup unit =
 
 -- What is answered to lines about this course alone, where each run has so many seats. With all 200 of the
 -- program it is the same, as long as no run is full: proofs/AllSeats.
-abbrev pub told : ℕ → Course → List Line → List (List ℕ)
+abbrev pub told : ℕ → Unit → List Line → List (List ℕ)
 told seats unit lines = replies (seated_world seats (unit ∷ [])) (map Some lines)

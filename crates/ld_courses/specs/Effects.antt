@@ -17,7 +17,7 @@ use Rattle.ld_model.specs.declared.completion.Completion.TheVariants.{WhenCondit
 use Rattle.ld_model.specs.declared.condition.Action.TheVariants.{Change, Notify}
 use Rattle.ld_model.specs.declared.property.Property.{Property as PropertyOf}
 use Rattle.ld_model.specs.declared.property.PropertyKind.TheVariants.{Loc, LocPers}
-use Rattle.ld_model.specs.declared.unit.Unit.{Unit as Course}
+use Rattle.ld_model.specs.declared.unit.Unit.{Unit}
 use Rattle.ld_cascade.specs.Settling.{visited, fired_below, after_sweeps, all_firings}
 use Rattle.ld_names.specs.Names.{named_by}
 use Rattle.ld_parts.specs.Listing.{value_set_parts, condition_true_parts, completed_parts, completion_parts, follows_parts, on_completion_parts, role_part, property_parts_at, object_parts_at, service_parts, environment_parts_at, parts_before_items, ending_parts, activity_parts_at, structure_parts_at, role_part_parts_at, act_parts_at, play_parts_at, method_parts, unit_parts, action_parts, condition_parts_at, middle_parts, parts_of}
@@ -82,7 +82,7 @@ a next_score next_total = record (an_act (codes "a")
     }
 
 -- One condition changes the total once more when the act is done; another sends a notice after an hour.
-abbrev pub the_course : TermOf → TermOf → TermOf → Course
+abbrev pub the_course : TermOf → TermOf → TermOf → Unit
 the_course next_score next_total elapsed = with_conditions (score ∷ total ∷ [])
     (a_condition (done_test (codes "a")) (Change (set_to (codes "total") next_total) ∷ []) []
     ∷ a_condition (is_greater elapsed (span (codes "PT1H"))) (Notify (note (codes "Late") None) ∷ []) [] ∷ [])

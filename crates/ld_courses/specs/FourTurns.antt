@@ -11,7 +11,7 @@ use Rattle.ld_model.specs.declared.condition.Action.TheVariants.{Change}
 use Rattle.ld_model.specs.declared.condition.Condition.{Condition}
 use Rattle.ld_model.specs.declared.property.Property.{Property as PropertyOf}
 use Rattle.ld_model.specs.declared.property.PropertyKind.TheVariants.{Loc}
-use Rattle.ld_model.specs.declared.unit.Unit.{Unit as Course}
+use Rattle.ld_model.specs.declared.unit.Unit.{Unit}
 use Rattle.ld_cascade.specs.Settling.{visited, fired_below, after_sweeps, all_firings}
 use Rattle.ld_names.specs.Names.{named_by}
 use Rattle.ld_parts.specs.Listing.{value_set_parts, condition_true_parts, completed_parts, completion_parts, follows_parts, on_completion_parts, role_part, property_parts_at, object_parts_at, service_parts, environment_parts_at, parts_before_items, ending_parts, activity_parts_at, structure_parts_at, role_part_parts_at, act_parts_at, play_parts_at, method_parts, unit_parts, action_parts, condition_parts_at, middle_parts, parts_of}
@@ -40,7 +40,7 @@ abbrev number : List ℕ → PropertyOf
 number id = a_property id Loc IntegerKind None
 
 -- Four conditions in a chain, the last link first, so that each sweep fires one; the budget is 4.
-abbrev pub the_course : Course
+abbrev pub the_course : Unit
 the_course = record (with_conditions (map number (codes "p0" ∷ codes "p1" ∷ codes "p2" ∷ codes "p3"
     ∷ codes "p4" ∷ []))
     (follows (codes "p3") (codes "p4") ∷ follows (codes "p2") (codes "p3")

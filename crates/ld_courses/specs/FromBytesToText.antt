@@ -13,7 +13,7 @@ use Rattle.serde_json.specs.Read.{number_of}
 use Rattle.ld_base.specs.Identifier.{begins_identifier, continues_identifier}
 use Rattle.ld_value.specs.Calendar.{moment_of, has_moment_form, named_day, named_second, day_of, second_of}
 use Rattle.ld_json.specs.Json.{json_of}
-use Rattle.ld_model.specs.declared.unit.Unit.{Unit as Course}
+use Rattle.ld_model.specs.declared.unit.Unit.{Unit}
 use Rattle.ld_lines.specs.Commands.{command_of, line_of_verb, command_of_verb, property_command, showing_command}
 use Rattle.ld_lines.specs.Lines.{lines_of, pieces_of, without_blank}
 use Rattle.ld_cascade.specs.Settling.{visited, fired_below, after_sweeps, all_firings}
@@ -33,7 +33,7 @@ use Rattle.ld_world.specs.World.{seated_world, world_step, reply_block}
 use Rattle.ld_courses.specs.Courses.{learner, choice, course, one_part}
 
 -- A course of one activity.
-abbrev the_course : Course
+abbrev the_course : Unit
 the_course = course (codes "u") (learner ∷ []) (choice (codes "read") ∷ []) [] (one_part (codes "read"))
 
 -- Eight lines: the third is blank, the sixth has no verb that there is, and the last has no line feed.

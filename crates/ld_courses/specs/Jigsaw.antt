@@ -13,7 +13,7 @@ use Rattle.ld_model.specs.declared.activity.StructureKind.TheVariants.{Selection
 use Rattle.ld_model.specs.declared.completion.Completion.TheVariants.{WhenRolePartCompleted, WhenPlayCompleted, WhenLastActCompleted}
 use Rattle.ld_model.specs.declared.condition.Action.TheVariants.{Notify}
 use Rattle.ld_model.specs.declared.condition.Condition.{Condition}
-use Rattle.ld_model.specs.declared.unit.Unit.{Unit as Course}
+use Rattle.ld_model.specs.declared.unit.Unit.{Unit}
 use Rattle.ld_cascade.specs.Settling.{visited, fired_below, after_sweeps, all_firings}
 use Rattle.ld_names.specs.Names.{named_by}
 use Rattle.ld_parts.specs.Listing.{value_set_parts, condition_true_parts, completed_parts, completion_parts, follows_parts, on_completion_parts, role_part, property_parts_at, object_parts_at, service_parts, environment_parts_at, parts_before_items, ending_parts, activity_parts_at, structure_parts_at, role_part_parts_at, act_parts_at, play_parts_at, method_parts, unit_parts, action_parts, condition_parts_at, middle_parts, parts_of}
@@ -46,7 +46,7 @@ both id p q s w = an_act id (a_part p (codes "learner") s ∷ a_part q (codes "t
     ∷ []) (Some (WhenRolePartCompleted (p ∷ q ∷ [])))
 
 -- Each learner selects one of two subjects, and each tutor has an activity; all is done with the one act.
-abbrev pub the_course : Course
+abbrev pub the_course : Unit
 the_course = record (with_conditions [] (sends (codes "e01") (codes "Expert e01")
     ∷ sends (codes "e02") (codes "Expert e02") ∷ [])
     (course (codes "jigsaw") (learner ∷ tutor ∷ []) (map choice (codes "e01" ∷ codes "e02" ∷ codes "w1"

@@ -6,7 +6,7 @@ use Rattle.ld_value.specs.Calendar.{text_of_moment}
 use Rattle.ld_value.specs.Values.{value_of, text_of, truth_of, integer_of, signed_numeral, fits_in}
 use Rattle.ld_value.specs.Numeral.{numeral}
 use Rattle.ld_state.specs.RunCells.{begins_as}
-use Rattle.ld_model.specs.declared.unit.Unit.{Unit as Course}
+use Rattle.ld_model.specs.declared.unit.Unit.{Unit}
 use Rattle.ld_cascade.specs.Settling.{visited, fired_below, after_sweeps, all_firings}
 use Rattle.ld_names.specs.Names.{named_by}
 use Rattle.ld_parts.specs.Listing.{value_set_parts, condition_true_parts, completed_parts, completion_parts, follows_parts, on_completion_parts, role_part, property_parts_at, object_parts_at, service_parts, environment_parts_at, parts_before_items, ending_parts, activity_parts_at, structure_parts_at, role_part_parts_at, act_parts_at, play_parts_at, method_parts, unit_parts, action_parts, condition_parts_at, middle_parts, parts_of}
@@ -25,7 +25,7 @@ use Rattle.ld_world.specs.World.{world_step, reply_block}
 use Rattle.ld_courses.specs.Courses.{after_1970, learner, choice, course, one_part, clock, a_moment, at, told}
 
 -- A course of one activity.
-abbrev pub the_course : Course
+abbrev pub the_course : Unit
 the_course = course (codes "u") (learner ∷ []) (choice (codes "read") ∷ []) [] (one_part (codes "read"))
 
 -- A command of `r` comes a second too early, all those of `s` are earlier still, and one of `r` is in time.

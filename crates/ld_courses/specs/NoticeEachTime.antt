@@ -10,7 +10,7 @@ use Rattle.ld_value.specs.declared.kind.Kind.TheVariants.{Integer as IntegerKind
 use Rattle.ld_state.specs.RunCells.{begins_as}
 use Rattle.ld_model.specs.declared.condition.Action.TheVariants.{Notify}
 use Rattle.ld_model.specs.declared.property.PropertyKind.TheVariants.{Loc}
-use Rattle.ld_model.specs.declared.unit.Unit.{Unit as Course}
+use Rattle.ld_model.specs.declared.unit.Unit.{Unit}
 use Rattle.ld_cascade.specs.Settling.{visited, fired_below, after_sweeps, all_firings}
 use Rattle.ld_names.specs.Names.{named_by}
 use Rattle.ld_parts.specs.Listing.{value_set_parts, condition_true_parts, completed_parts, completion_parts, follows_parts, on_completion_parts, role_part, property_parts_at, object_parts_at, service_parts, environment_parts_at, parts_before_items, ending_parts, activity_parts_at, structure_parts_at, role_part_parts_at, act_parts_at, play_parts_at, method_parts, unit_parts, action_parts, condition_parts_at, middle_parts, parts_of}
@@ -29,7 +29,7 @@ use Rattle.ld_world.specs.World.{world_step, reply_block}
 use Rattle.ld_courses.specs.Courses.{whole, is_greater, learner, choice, course, one_part, a_property, with_conditions, a_condition, clock, a_moment, at, told}
 
 -- A notice is sent to learners where `n`, which is 1 at first, is greater than 0; no test asks `m`.
-abbrev pub the_course : Course
+abbrev pub the_course : Unit
 the_course = with_conditions
     (a_property (codes "n") Loc IntegerKind (Some (codes "1")) ∷ a_property (codes "m") Loc IntegerKind None
     ∷ [])

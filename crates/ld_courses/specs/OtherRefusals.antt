@@ -10,7 +10,7 @@ use Rattle.ld_model.specs.declared.completion.Completion.TheVariants.{TimeLimit}
 use Rattle.ld_model.specs.RoleRows.{RoleRow}
 use Rattle.ld_model.specs.declared.property.Property.{Property as PropertyOf}
 use Rattle.ld_model.specs.declared.property.PropertyKind.TheVariants.{Loc, LocRole}
-use Rattle.ld_model.specs.declared.unit.Unit.{Unit as Course}
+use Rattle.ld_model.specs.declared.unit.Unit.{Unit}
 use Rattle.ld_cascade.specs.Settling.{visited, fired_below, after_sweeps, all_firings}
 use Rattle.ld_names.specs.Names.{named_by}
 use Rattle.ld_parts.specs.Listing.{value_set_parts, condition_true_parts, completed_parts, completion_parts, follows_parts, on_completion_parts, role_part, property_parts_at, object_parts_at, service_parts, environment_parts_at, parts_before_items, ending_parts, activity_parts_at, structure_parts_at, role_part_parts_at, act_parts_at, play_parts_at, method_parts, unit_parts, action_parts, condition_parts_at, middle_parts, parts_of}
@@ -41,7 +41,7 @@ abbrev needed : RoleRow → RoleRow
 needed row = record row { min_persons = 1 }
 
 -- A course that needs a learner, with an activity by choice and one that is done a day after it is opened.
-abbrev pub the_course : Course
+abbrev pub the_course : Unit
 the_course = with_conditions (n ∷ team ∷ []) []
     (course (codes "u") (map needed learner ∷ tutor ∷ [])
     (choice (codes "read") ∷ an_activity (codes "timed") true (TimeLimit 86400)

@@ -8,7 +8,7 @@ use Rattle.ld_state.specs.RunCells.{begins_as}
 use Rattle.ld_model.specs.RoleRows.{RoleRow}
 use Rattle.ld_model.specs.declared.role.RoleKind.TheVariants.{Staff}
 use Rattle.ld_model.specs.declared.role.MatchPersons.TheVariants.{ExclusivelyInRoles}
-use Rattle.ld_model.specs.declared.unit.Unit.{Unit as Course}
+use Rattle.ld_model.specs.declared.unit.Unit.{Unit}
 use Rattle.ld_cascade.specs.Settling.{visited, fired_below, after_sweeps, all_firings}
 use Rattle.ld_names.specs.Names.{named_by}
 use Rattle.ld_parts.specs.Listing.{value_set_parts, condition_true_parts, completed_parts, completion_parts, follows_parts, on_completion_parts, role_part, property_parts_at, object_parts_at, service_parts, environment_parts_at, parts_before_items, ending_parts, activity_parts_at, structure_parts_at, role_part_parts_at, act_parts_at, play_parts_at, method_parts, unit_parts, action_parts, condition_parts_at, middle_parts, parts_of}
@@ -36,7 +36,7 @@ group = enclosing (map limited (a_role (codes "group") Staff)) (a_role (codes "c
     ∷ a_role (codes "scribe") Staff ∷ [])
 
 -- A course of one activity for learners, with the group beside them.
-abbrev pub the_course : Course
+abbrev pub the_course : Unit
 the_course = course (codes "u") (learner ∷ group ∷ []) (choice (codes "read")
     ∷ []) [] (one_part (codes "read"))
 

@@ -7,7 +7,7 @@ use Rattle.ld_value.specs.Numeral.{numeral}
 use Rattle.ld_state.specs.RunCells.{begins_as}
 use Rattle.ld_model.specs.declared.activity.StructureKind.TheVariants.{Selection}
 use Rattle.ld_model.specs.declared.completion.Completion.TheVariants.{UserChoice}
-use Rattle.ld_model.specs.declared.unit.Unit.{Unit as Course}
+use Rattle.ld_model.specs.declared.unit.Unit.{Unit}
 use Rattle.ld_cascade.specs.Settling.{visited, fired_below, after_sweeps, all_firings}
 use Rattle.ld_names.specs.Names.{named_by}
 use Rattle.ld_parts.specs.Listing.{value_set_parts, condition_true_parts, completed_parts, completion_parts, follows_parts, on_completion_parts, role_part, property_parts_at, object_parts_at, service_parts, environment_parts_at, parts_before_items, ending_parts, activity_parts_at, structure_parts_at, role_part_parts_at, act_parts_at, play_parts_at, method_parts, unit_parts, action_parts, condition_parts_at, middle_parts, parts_of}
@@ -26,7 +26,7 @@ use Rattle.ld_world.specs.World.{world_step, reply_block}
 use Rattle.ld_courses.specs.Courses.{learner, an_activity, choice, a_structure, course, one_part, a_moment, at, told}
 
 -- Two of three activities are to be done.
-abbrev pub the_course : Course
+abbrev pub the_course : Unit
 the_course = course (codes "u") (learner ∷ []) (choice (codes "x") ∷ an_activity (codes "y") true UserChoice
     ∷ choice (codes "z") ∷ [])
     (a_structure (codes "s") Selection (Some 2) (codes "x" ∷ codes "y" ∷ codes "z" ∷ [])

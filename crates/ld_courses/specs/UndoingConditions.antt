@@ -10,7 +10,7 @@ use Rattle.ld_state.specs.RunCells.{begins_as}
 use Rattle.ld_model.specs.declared.condition.Action.{Action}
 use Rattle.ld_model.specs.declared.condition.Action.TheVariants.{Change}
 use Rattle.ld_model.specs.declared.property.PropertyKind.TheVariants.{Loc}
-use Rattle.ld_model.specs.declared.unit.Unit.{Unit as Course}
+use Rattle.ld_model.specs.declared.unit.Unit.{Unit}
 use Rattle.ld_cascade.specs.Settling.{visited, fired_below, after_sweeps, all_firings}
 use Rattle.ld_names.specs.Names.{named_by}
 use Rattle.ld_parts.specs.Listing.{value_set_parts, condition_true_parts, completed_parts, completion_parts, follows_parts, on_completion_parts, role_part, property_parts_at, object_parts_at, service_parts, environment_parts_at, parts_before_items, ending_parts, activity_parts_at, structure_parts_at, role_part_parts_at, act_parts_at, play_parts_at, method_parts, unit_parts, action_parts, condition_parts_at, middle_parts, parts_of}
@@ -37,7 +37,7 @@ abbrev flips : List ℕ → List ℕ → Action
 flips property value = Change (record { property = property; value = truth value })
 
 -- `d` becomes whether the test holds, and then `b` becomes what `d` is; the budget is 4.
-abbrev pub the_course : TestOf → Course
+abbrev pub the_course : TestOf → Unit
 the_course both = record (with_conditions
     (a_property (codes "go") Loc BooleanKind (Some (codes "false"))
     ∷ a_property (codes "b") Loc BooleanKind (Some (codes "false"))

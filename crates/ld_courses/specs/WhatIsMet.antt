@@ -6,7 +6,7 @@ use Rattle.ld_value.specs.Values.{value_of, integer_of, signed_numeral, fits_in}
 use Rattle.ld_value.specs.Numeral.{numeral}
 use Rattle.ld_value.specs.declared.kind.Kind.TheVariants.{Integer as IntegerKind}
 use Rattle.ld_model.specs.declared.property.PropertyKind.TheVariants.{Glob, GlobPers, Loc}
-use Rattle.ld_model.specs.declared.unit.Unit.{Unit as Course}
+use Rattle.ld_model.specs.declared.unit.Unit.{Unit}
 use Rattle.ld_lines.specs.declared.command.RunCommand.TheVariants.{Enrol, Assign}
 use Rattle.ld_lines.specs.declared.line.Line.{Line}
 use Rattle.ld_lines.specs.declared.line.Line.TheVariants.{Create, OfRun, GlobalSet}
@@ -18,7 +18,7 @@ use Rattle.ld_histories.specs.Histories.{met, nothing, the_unit, the_values}
 use Rattle.ld_courses.specs.Courses.{learner, choice, course, one_part, a_property, with_conditions, a_moment, at}
 
 -- One global property of which each person has a value, one that all share, and one of the run.
-abbrev pub the_course : Course
+abbrev pub the_course : Unit
 the_course = with_conditions
     (record (a_property (codes "g") GlobPers IntegerKind (Some (codes "0"))) { uri = Some (codes "urn:g") }
     ∷ record (a_property (codes "h") Glob IntegerKind (Some (codes "1"))) { uri = Some (codes "urn:h") }

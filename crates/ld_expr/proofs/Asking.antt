@@ -3,7 +3,7 @@ use Rattle.std.proofs.Common.{◌≡◌, ℕ, suc, ◌+◌, ◌-◌, ◌<◌, �
 use Rattle.std.specs.List.{flat_map, list_all, range_with_len}
 use Rattle.ld_model.specs.Expressions.{TestOf}
 use Rattle.ld_model.specs.declared.cell.CellName.{CellName}
-use Rattle.ld_model.specs.declared.unit.Unit.{Unit as Course}
+use Rattle.ld_model.specs.declared.unit.Unit.{Unit}
 use Rattle.ld_expr.specs.Membership.{is_member, some_and_each}
 use Rattle.ld_expr.specs.Seen.{Seen, member_cell}
 use Rattle.ld_expr.specs.Users.{holds_for, holds_for_members, looks_for, looks_for_members}
@@ -30,17 +30,17 @@ answer_other member test true p more there = rw there refl
 answer_other member test false p more there = rw there refl
 
 -- Where one looks for that.
-abbrev pub looks_left : Course → Seen → ℕ → TestOf → List ℕ → List CellName
+abbrev pub looks_left : Unit → Seen → ℕ → TestOf → List ℕ → List CellName
 looks_left unit seen role test persons =
     map (member_cell role) persons ++ flat_map (looks_for unit seen test) (filter (is_member seen role) persons)
 
-looks_member : (unit : Course) (seen : Seen) (role : ℕ) (test : TestOf) (p : ℕ) (more : List ℕ) → is_member seen role p ≡ true → looks_left unit seen role test (p ∷ more) ≡ member_cell role p ∷ (map (member_cell role) more ++ (looks_for unit seen test p ++ flat_map (looks_for unit seen test) (filter (is_member seen role) more)))
+looks_member : (unit : Unit) (seen : Seen) (role : ℕ) (test : TestOf) (p : ℕ) (more : List ℕ) → is_member seen role p ≡ true → looks_left unit seen role test (p ∷ more) ≡ member_cell role p ∷ (map (member_cell role) more ++ (looks_for unit seen test p ++ flat_map (looks_for unit seen test) (filter (is_member seen role) more)))
 looks_member unit seen role test p more there = rw there refl
 
-looks_other : (unit : Course) (seen : Seen) (role : ℕ) (test : TestOf) (p : ℕ) (more : List ℕ) → is_member seen role p ≡ false → looks_left unit seen role test (p ∷ more) ≡ member_cell role p ∷ looks_left unit seen role test more
+looks_other : (unit : Unit) (seen : Seen) (role : ℕ) (test : TestOf) (p : ℕ) (more : List ℕ) → is_member seen role p ≡ false → looks_left unit seen role test (p ∷ more) ≡ member_cell role p ∷ looks_left unit seen role test more
 looks_other unit seen role test p more there = rw there refl
 
-length_member : (unit : Course) (seen : Seen) (role : ℕ) (test : TestOf) (p : ℕ) (more : List ℕ) → is_member seen role p ≡ true → length (looks_left unit seen role test (p ∷ more)) ≡ 1 + length (looks_for unit seen test p) + length (looks_left unit seen role test more)
+length_member : (unit : Unit) (seen : Seen) (role : ℕ) (test : TestOf) (p : ℕ) (more : List ℕ) → is_member seen role p ≡ true → length (looks_left unit seen role test (p ∷ more)) ≡ 1 + length (looks_for unit seen test p) + length (looks_left unit seen role test more)
 length_member unit seen role test p more there =
     let own = looks_for unit seen test p in
     let cells = map (member_cell role) more in
@@ -49,12 +49,12 @@ length_member unit seen role test p more there =
 
 -- These persons are still to be asked, after so many steps from the start; there was a member before or
 -- not, and the test held for each.
-pub record Asking (has : CellName → Bool) (unit : Course) (seen : Seen) (role : ℕ) (test : TestOf) (some : Bool) (persons : List ℕ) (steps start : ℕ) : Type 0 where
+pub record Asking (has : CellName → Bool) (unit : Unit) (seen : Seen) (role : ℕ) (test : TestOf) (some : Bool) (persons : List ℕ) (steps start : ℕ) : Type 0 where
   pub value : answer_left (is_member seen role) (holds_for unit seen test) some persons ≡ holds_for_members unit seen role test
   pub cells : HasCells has (looks_left unit seen role test persons)
   pub cost : steps + length (looks_left unit seen role test persons) ≤ start + length (looks_for_members unit seen role test)
 
-pub passes_over : {has : CellName → Bool} {unit : Course} {seen : Seen} {role : ℕ} {test : TestOf} {some : Bool} {persons : List ℕ} {steps start : ℕ} (p : ℕ) (more : List ℕ) (now : ℕ) → Asking has unit seen role test some persons steps start → persons ≡ p ∷ more → is_member seen role p ≡ false → now ≡ steps + 1 → Asking has unit seen role test some more now start
+pub passes_over : {has : CellName → Bool} {unit : Unit} {seen : Seen} {role : ℕ} {test : TestOf} {some : Bool} {persons : List ℕ} {steps start : ℕ} (p : ℕ) (more : List ℕ) (now : ℕ) → Asking has unit seen role test some persons steps start → persons ≡ p ∷ more → is_member seen role p ≡ false → now ≡ steps + 1 → Asking has unit seen role test some more now start
 passes_over {unit = unit} {seen = seen} {role = role} {test = test} {some = some} p more now asking is there cost =
     let other = looks_other unit seen role test p more there in
     let value = rw is at asking.value in
@@ -66,7 +66,7 @@ passes_over {unit = unit} {seen = seen} {role = role} {test = test} {some = some
       cost = omega (arith, within, cost, ap length other);
     }
 
-pub goes_on : {has : CellName → Bool} {unit : Course} {seen : Seen} {role : ℕ} {test : TestOf} {some : Bool} {persons : List ℕ} {steps start : ℕ} (p : ℕ) (more : List ℕ) (now : ℕ) → Asking has unit seen role test some persons steps start → persons ≡ p ∷ more → is_member seen role p ≡ true → holds_for unit seen test p ≡ true → now ≤ steps + 1 + length (looks_for unit seen test p) → Asking has unit seen role test true more now start
+pub goes_on : {has : CellName → Bool} {unit : Unit} {seen : Seen} {role : ℕ} {test : TestOf} {some : Bool} {persons : List ℕ} {steps start : ℕ} (p : ℕ) (more : List ℕ) (now : ℕ) → Asking has unit seen role test some persons steps start → persons ≡ p ∷ more → is_member seen role p ≡ true → holds_for unit seen test p ≡ true → now ≤ steps + 1 + length (looks_for unit seen test p) → Asking has unit seen role test true more now start
 goes_on {unit = unit} {seen = seen} {role = role} {test = test} {some = some} p more now asking is there holds cost =
     let own = looks_for unit seen test p in
     let before = map (member_cell role) more in
@@ -81,7 +81,7 @@ goes_on {unit = unit} {seen = seen} {role = role} {test = test} {some = some} p 
       cost = omega (arith, within, cost, length_member unit seen role test p more there);
     }
 
-pub stops_within : {has : CellName → Bool} {unit : Course} {seen : Seen} {role : ℕ} {test : TestOf} {some : Bool} {persons : List ℕ} {steps start : ℕ} (p : ℕ) (more : List ℕ) (now : ℕ) → Asking has unit seen role test some persons steps start → persons ≡ p ∷ more → is_member seen role p ≡ true → now ≤ steps + 1 + length (looks_for unit seen test p) → now ≤ start + length (looks_for_members unit seen role test)
+pub stops_within : {has : CellName → Bool} {unit : Unit} {seen : Seen} {role : ℕ} {test : TestOf} {some : Bool} {persons : List ℕ} {steps start : ℕ} (p : ℕ) (more : List ℕ) (now : ℕ) → Asking has unit seen role test some persons steps start → persons ≡ p ∷ more → is_member seen role p ≡ true → now ≤ steps + 1 + length (looks_for unit seen test p) → now ≤ start + length (looks_for_members unit seen role test)
 stops_within {unit = unit} {seen = seen} {role = role} {test = test} p more now asking is there cost =
     let within = rw is at asking.cost in
     omega (arith, within, cost, length_member unit seen role test p more there)

@@ -5,7 +5,7 @@ use Rattle.ld_value.specs.Datum.{Datum}
 use Rattle.ld_model.specs.Expressions.{TermOf, terms_from}
 use Rattle.ld_model.specs.declared.cell.CellName.{CellName}
 use Rattle.ld_model.specs.declared.cell.Owner.{Owner}
-use Rattle.ld_model.specs.declared.unit.Unit.{Unit as Course}
+use Rattle.ld_model.specs.declared.unit.Unit.{Unit}
 use Rattle.ld_expr.specs.Looks.{term_looks, terms_looks}
 use Rattle.ld_expr.specs.Seen.{Seen}
 use Rattle.ld_expr.specs.Terms.{combined, combined_all, term_value, term_values}
@@ -23,23 +23,23 @@ none_left : (operation : Datum → Datum → Option Datum) (rest : List (Option 
 none_left operation [] = refl
 none_left operation (a ∷ rest) = none_left operation rest
 
-pub first_missing : (unit : Course) (seen : Seen) (owner : Owner) (operation : Datum → Datum → Option Datum) (terms : List TermOf) (first : TermOf) (more : List TermOf) → terms ≡ first ∷ more → None ≡ term_value unit seen owner first → None ≡ combined_all operation (term_values unit seen owner (terms_from terms))
+pub first_missing : (unit : Unit) (seen : Seen) (owner : Owner) (operation : Datum → Datum → Option Datum) (terms : List TermOf) (first : TermOf) (more : List TermOf) → terms ≡ first ∷ more → None ≡ term_value unit seen owner first → None ≡ combined_all operation (term_values unit seen owner (terms_from terms))
 first_missing unit seen owner operation terms first more is missing =
     rw (is, ← missing) (sym (none_left operation (term_values unit seen owner (terms_from more))))
 
-pub next_missing : (unit : Course) (seen : Seen) (owner : Owner) (operation : Datum → Datum → Option Datum) (total : Datum) (terms : List TermOf) (i : ℕ) (term : TermOf) (whole : Option Datum) → i < length terms → term ≡ get_or terms i term → fold (combined operation) (Some total) (term_values unit seen owner (terms_from (drop i terms))) ≡ whole → None ≡ term_value unit seen owner term → None ≡ whole
+pub next_missing : (unit : Unit) (seen : Seen) (owner : Owner) (operation : Datum → Datum → Option Datum) (total : Datum) (terms : List TermOf) (i : ℕ) (term : TermOf) (whole : Option Datum) → i < length terms → term ≡ get_or terms i term → fold (combined operation) (Some total) (term_values unit seen owner (terms_from (drop i terms))) ≡ whole → None ≡ term_value unit seen owner term → None ≡ whole
 next_missing unit seen owner operation total terms i term whole within is so_far missing =
     let one = rw (from_here terms i term within is) at so_far in
     sym (none_left operation (term_values unit seen owner (terms_from (drop (i + 1) terms)))) ∙ (rw (← missing) at one)
 
-pub next_outside : (unit : Course) (seen : Seen) (owner : Owner) (operation : Datum → Datum → Option Datum) (total next : Datum) (terms : List TermOf) (i : ℕ) (term : TermOf) (whole : Option Datum) → i < length terms → term ≡ get_or terms i term → fold (combined operation) (Some total) (term_values unit seen owner (terms_from (drop i terms))) ≡ whole → Some next ≡ term_value unit seen owner term → None ≡ operation total next → None ≡ whole
+pub next_outside : (unit : Unit) (seen : Seen) (owner : Owner) (operation : Datum → Datum → Option Datum) (total next : Datum) (terms : List TermOf) (i : ℕ) (term : TermOf) (whole : Option Datum) → i < length terms → term ≡ get_or terms i term → fold (combined operation) (Some total) (term_values unit seen owner (terms_from (drop i terms))) ≡ whole → Some next ≡ term_value unit seen owner term → None ≡ operation total next → None ≡ whole
 next_outside unit seen owner operation total next terms i term whole within is so_far there outside =
     let rest = term_values unit seen owner (terms_from (drop (i + 1) terms)) in
     let one = rw (from_here terms i term within is) at so_far in
     let two : fold (combined operation) (operation total next) rest ≡ whole = rw (← there) at one in
     sym (none_left operation rest) ∙ (ap (λ o. fold (combined operation) o rest) outside ∙ two)
 
-pub next_added : (unit : Course) (seen : Seen) (owner : Owner) (operation : Datum → Datum → Option Datum) (total next sum : Datum) (terms : List TermOf) (i : ℕ) (term : TermOf) (whole : Option Datum) → i < length terms → term ≡ get_or terms i term → fold (combined operation) (Some total) (term_values unit seen owner (terms_from (drop i terms))) ≡ whole → Some next ≡ term_value unit seen owner term → Some sum ≡ operation total next → fold (combined operation) (Some sum) (term_values unit seen owner (terms_from (drop (i + 1) terms))) ≡ whole
+pub next_added : (unit : Unit) (seen : Seen) (owner : Owner) (operation : Datum → Datum → Option Datum) (total next sum : Datum) (terms : List TermOf) (i : ℕ) (term : TermOf) (whole : Option Datum) → i < length terms → term ≡ get_or terms i term → fold (combined operation) (Some total) (term_values unit seen owner (terms_from (drop i terms))) ≡ whole → Some next ≡ term_value unit seen owner term → Some sum ≡ operation total next → fold (combined operation) (Some sum) (term_values unit seen owner (terms_from (drop (i + 1) terms))) ≡ whole
 next_added unit seen owner operation total next sum terms i term whole within is so_far there adds =
     let rest = term_values unit seen owner (terms_from (drop (i + 1) terms)) in
     let one = rw (from_here terms i term within is) at so_far in
@@ -48,14 +48,14 @@ next_added unit seen owner operation total next sum terms i term whole within is
 
 -- ---- where one looks
 
-pub next_cells : (has : CellName → Bool) (unit : Course) (owner : Owner) (terms : List TermOf) (i : ℕ) (term : TermOf) → i < length terms → term ≡ get_or terms i term → HasCells has (terms_looks unit owner (terms_from (drop i terms))) → HasCells has (term_looks unit owner term)
+pub next_cells : (has : CellName → Bool) (unit : Unit) (owner : Owner) (terms : List TermOf) (i : ℕ) (term : TermOf) → i < length terms → term ≡ get_or terms i term → HasCells has (terms_looks unit owner (terms_from (drop i terms))) → HasCells has (term_looks unit owner term)
 next_cells has unit owner terms i term within is all =
     has_front (term_looks unit owner term) (terms_looks unit owner (terms_from (drop (i + 1) terms))) (rw (from_here terms i term within is) at all)
 
-pub more_cells : (has : CellName → Bool) (unit : Course) (owner : Owner) (terms : List TermOf) (i : ℕ) (term : TermOf) → i < length terms → term ≡ get_or terms i term → HasCells has (terms_looks unit owner (terms_from (drop i terms))) → HasCells has (terms_looks unit owner (terms_from (drop (i + 1) terms)))
+pub more_cells : (has : CellName → Bool) (unit : Unit) (owner : Owner) (terms : List TermOf) (i : ℕ) (term : TermOf) → i < length terms → term ≡ get_or terms i term → HasCells has (terms_looks unit owner (terms_from (drop i terms))) → HasCells has (terms_looks unit owner (terms_from (drop (i + 1) terms)))
 more_cells has unit owner terms i term within is all =
     has_back (term_looks unit owner term) (terms_looks unit owner (terms_from (drop (i + 1) terms))) (rw (from_here terms i term within is) at all)
 
-pub looks_from : (unit : Course) (owner : Owner) (terms : List TermOf) (i : ℕ) (term : TermOf) → i < length terms → term ≡ get_or terms i term → length (terms_looks unit owner (terms_from (drop i terms))) ≡ length (term_looks unit owner term) + length (terms_looks unit owner (terms_from (drop (i + 1) terms)))
+pub looks_from : (unit : Unit) (owner : Owner) (terms : List TermOf) (i : ℕ) (term : TermOf) → i < length terms → term ≡ get_or terms i term → length (terms_looks unit owner (terms_from (drop i terms))) ≡ length (term_looks unit owner term) + length (terms_looks unit owner (terms_from (drop (i + 1) terms)))
 looks_from unit owner terms i term within is =
     rw (from_here terms i term within is) (length-append (term_looks unit owner term) (terms_looks unit owner (terms_from (drop (i + 1) terms))))

@@ -21,7 +21,7 @@ use Rattle.ld_model.specs.declared.method.Act.{Act as ActOf}
 use Rattle.ld_model.specs.declared.method.Play.{Play as PlayOf}
 use Rattle.ld_model.specs.declared.property.Property.{Property}
 use Rattle.ld_model.specs.declared.unit.Level.TheVariants.{B}
-use Rattle.ld_model.specs.declared.unit.Unit.{Unit as Course}
+use Rattle.ld_model.specs.declared.unit.Unit.{Unit}
 use Rattle.ld_model.specs.Properties.{is_personal}
 use Rattle.ld_walk.specs.CommonParts.{items_parts, references_parts, change_parts, nth_change_parts}
 use Rattle.ld_walk.specs.ExpressionParts.{list_operator_word, pair_operator_word, test_parts}
@@ -69,7 +69,7 @@ use Rattle.ld_firing.proofs.Sites.{IsOwner, a_person, the_run, of_rule}
 -- ---- cells of lists
 
 -- All cells that each element of a list gives.
-each_there : {A : Type 0} → (unit : Course) (persons : ℕ) (cells : A → List CellName) (xs : List A)
+each_there : {A : Type 0} → (unit : Unit) (persons : ℕ) (cells : A → List CellName) (xs : List A)
     → ((x : A) → IsIn xs x → AreCells unit persons (cells x)) → AreCells unit persons (flat_map cells xs)
 each_there unit persons cells xs each c inside =
     let by = from_flat_map cells xs c inside in
@@ -81,7 +81,7 @@ no_fault : (b : Bool) (at : At) → fault_if b BadType at ≡ [] → b ≡ false
 no_fault true at none = absurd (cc)
 no_fault false at none = refl
 
-module _ (unit : Course) (persons : ℕ) where
+module _ (unit : Unit) (persons : ℕ) where
   mutual
     run_term_there : (at : At) (term : TermOf)
         → term_faults (property_named unit (names_of unit)) true at term ≡ []
@@ -113,7 +113,7 @@ module _ (unit : Course) (persons : ℕ) where
 -- ---- changes
 
 -- Whether each person has a value of the property that is named.
-same_persons : (unit : Course) (id : List ℕ) → is_of_persons unit id ≡ is_person's (property_named unit (names_of unit) id)
+same_persons : (unit : Unit) (id : List ℕ) → is_of_persons unit id ≡ is_person's (property_named unit (names_of unit) id)
 same_persons unit id = by (named_by (names_of unit) id)
   where
     of_property : (property : Option Property) → is_some_and (λ one. is_personal one.kind) property ≡ is_person's property
@@ -129,7 +129,7 @@ same_persons unit id = by (named_by (names_of unit) id)
     by (Some (Thing _)) = refl
     by (Some (Prop p)) = of_property (slice_get unit.properties p.0)
 
-module _ (unit : Course) (persons : ℕ) where
+module _ (unit : Unit) (persons : ℕ) where
   person_change_there : (at : At) (by_run : Bool) (p : ℕ) (change : ChangeOf) → p < persons
       → AreMet unit (change_parts at by_run change) → AreCells unit persons (change_cells unit change (of_person p))
   unfolding change_parts
@@ -379,12 +379,12 @@ module _ (unit : Course) (persons : ℕ) where
 -- ---- sites
 
 -- The rule of a site of a run, whose owner the run has.
-pub record HasRule (unit : Course) (persons : ℕ) (site : Site) : Type 0 where
+pub record HasRule (unit : Unit) (persons : ℕ) (site : Site) : Type 0 where
   pub rule : Rule
   pub ruled : rule_of unit site ≡ Some rule
   pub owned : IsOwner persons (is_for_persons (kind_of rule)) site.owner
 
-pub rule_listed : (unit : Course) (persons : ℕ) (site : Site) → Contains (sites_of unit persons) site
+pub rule_listed : (unit : Unit) (persons : ℕ) (site : Site) → Contains (sites_of unit persons) site
     → HasRule unit persons site
 rule_listed unit persons site there =
     let by = from_numbered (sites_of_rule persons) (rules_of unit) 0 site (in_from_contains (sites_of unit persons) site there) in
@@ -396,7 +396,7 @@ rule_listed unit persons site there =
     }
 
 -- A run has each cell that the firing of one of its sites looks at or writes.
-pub firing_there : (unit : Course) (persons : ℕ) → MeetsChecks unit → (site : Site) (rule : Rule) (verdict : Bool)
+pub firing_there : (unit : Unit) (persons : ℕ) → MeetsChecks unit → (site : Site) (rule : Rule) (verdict : Bool)
     → rule_of unit site ≡ Some rule → IsOwner persons (is_for_persons (kind_of rule)) site.owner
     → AreCells unit persons (firing_cells unit persons site.owner site.rule rule verdict)
 firing_there unit persons meets site rule verdict ruled owned =
@@ -407,7 +407,7 @@ firing_there unit persons meets site rule verdict ruled owned =
     (opening_cell_there unit persons meets rule)
     (rule_actions_there unit persons meets site.owner rule verdict owned))
 
-pub fires_there : (unit : Course) (persons : ℕ) → IsValid unit → (site : Site) (rule : Rule) (verdict : Bool)
+pub fires_there : (unit : Unit) (persons : ℕ) → IsValid unit → (site : Site) (rule : Rule) (verdict : Bool)
     → rule_of unit site ≡ Some rule → Contains (sites_of unit persons) site
     → HasCells (has_slot unit persons) (firing_cells unit persons site.owner site.rule rule verdict)
 fires_there unit persons valid site rule verdict ruled there =

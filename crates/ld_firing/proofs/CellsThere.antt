@@ -9,7 +9,7 @@ use Rattle.ld_model.specs.declared.cell.CellName.TheVariants.{Started, Now, Rost
 use Rattle.ld_model.specs.declared.cell.Owner.{Owner}
 use Rattle.ld_model.specs.declared.cell.Owner.TheVariants.{Run}
 use Rattle.ld_model.specs.declared.property.Property.{Property}
-use Rattle.ld_model.specs.declared.unit.Unit.{Unit as Course}
+use Rattle.ld_model.specs.declared.unit.Unit.{Unit}
 use Rattle.ld_names.specs.declared.rule.Rule.{Rule}
 use Rattle.ld_names.specs.Rules.{rules_of, kind_of}
 use Rattle.ld_names.specs.Things.{Entry, things_of}
@@ -20,17 +20,17 @@ use Rattle.ld_state.proofs.Elements.{IsIn, in_left, in_right, in_map, in_flat_ma
 use Rattle.ld_firing.proofs.Sites.{IsOwner, a_person, the_run}
 
 -- A run of so many persons has all cells of the list.
-abbrev pub AreCells : Course → ℕ → List CellName → Type 0
+abbrev pub AreCells : Unit → ℕ → List CellName → Type 0
 AreCells unit persons cells = (c : CellName) → IsIn cells c → IsIn (all_cells unit persons) c
 
-pub both_are_cells : (unit : Course) (persons : ℕ) (xs ys : List CellName) → AreCells unit persons xs
+pub both_are_cells : (unit : Unit) (persons : ℕ) (xs ys : List CellName) → AreCells unit persons xs
     → AreCells unit persons ys → AreCells unit persons (xs ++ ys)
 both_are_cells unit persons [] ys first second c inside = second c inside
 both_are_cells unit persons (x ∷ xs) ys first second c (inl is) = first c (inl is)
 both_are_cells unit persons (x ∷ xs) ys first second c (inr later) =
     both_are_cells unit persons xs ys (λ d inside. first d (inr inside)) second c later
 
-pub one_is_cell : (unit : Course) (persons : ℕ) (cell : CellName) → IsIn (all_cells unit persons) cell
+pub one_is_cell : (unit : Unit) (persons : ℕ) (cell : CellName) → IsIn (all_cells unit persons) cell
     → AreCells unit persons (cell ∷ [])
 one_is_cell unit persons cell inside c (inl is) = subst (λ name. IsIn (all_cells unit persons) name) is inside
 one_is_cell unit persons cell inside c (inr later) = absurd later
@@ -39,7 +39,7 @@ listed : (there : Bool) (cell : CellName) → there ≡ true → IsIn (cell_if t
 listed true cell is = inl refl
 listed false cell is = absurd (cc)
 
-module _ (unit : Course) (persons : ℕ) where
+module _ (unit : Unit) (persons : ℕ) where
   abbrev values : List CellName
   values = each_numbered run_property_cells unit.properties
 

@@ -1,6 +1,6 @@
 -- That no check of references or of types finds a fault in a part of a valid unit.
 use Rattle.std.proofs.Common.{◌++◌}
-use Rattle.ld_model.specs.declared.unit.Unit.{Unit as Course}
+use Rattle.ld_model.specs.declared.unit.Unit.{Unit}
 use Rattle.ld_names.specs.Names.{names_of}
 use Rattle.ld_parts.specs.Listing.{parts_of}
 use Rattle.ld_refs.proofs.Distinct.{distinct}
@@ -13,7 +13,7 @@ use Rattle.ld_types.specs.Typing.{type_faults, type_faults_of}
 use Rattle.ld_state.proofs.Elements.{nothing_first, nothing_later, nothing_of}
 use Rattle.ld_firing.proofs.MetChecks.{MeetsChecks}
 
-pub checks_met : (unit : Course) → IsValid unit → MeetsChecks unit
+pub checks_met : (unit : Unit) → IsValid unit → MeetsChecks unit
 unfolding check_faults meaning_faults
 checks_met unit valid =
     let names = names_of unit in

@@ -9,7 +9,7 @@ use Rattle.ld_model.specs.declared.completion.Notice.{Notice}
 use Rattle.ld_model.specs.declared.completion.OnCompletion.{OnCompletion}
 use Rattle.ld_model.specs.declared.condition.Action.{Action}
 use Rattle.ld_model.specs.declared.condition.Action.TheVariants.{Show, Hide, Change, Notify}
-use Rattle.ld_model.specs.declared.unit.Unit.{Unit as Course}
+use Rattle.ld_model.specs.declared.unit.Unit.{Unit}
 use Rattle.ld_roles.specs.Kept.{persons_of}
 use Rattle.ld_firing.specs.Actions.{actions_if, is_of_persons, owners_of_change}
 use Rattle.ld_firing.specs.Costs.{action_cost, term_leaves}
@@ -17,16 +17,16 @@ use Rattle.ld_state.specs.RunState.{RunState}
 use Rattle.ld_state.specs.StateView.{StateView, run_of}
 use Rattle.ld_firing.proofs.SeenInStates.{persons_counted}
 
-pub change_costs : (unit : Course) (s : RunState) (owner : Owner) (change : ChangeOf) (n : ℕ) → n ≡ length s.persons
+pub change_costs : (unit : Unit) (s : RunState) (owner : Owner) (change : ChangeOf) (n : ℕ) → n ≡ length s.persons
     → (term_leaves change.value + 2) * length (owners_of_change n owner (is_of_persons unit change.property)) ≡ action_cost unit s owner (Change change)
 change_costs unit s owner change n same =
     ap (λ m. (term_leaves change.value + 2) * length (owners_of_change m owner (is_of_persons unit change.property))) same
 
-pub notice_costs : (unit : Course) (s : RunState) (owner : Owner) (notice : Notice) (n : ℕ) → n ≡ length s.persons
+pub notice_costs : (unit : Unit) (s : RunState) (owner : Owner) (notice : Notice) (n : ℕ) → n ≡ length s.persons
     → n * length notice.roles + 1 ≡ action_cost unit s owner (Notify notice)
 notice_costs unit s owner notice n same = ap (λ m. m * length notice.roles + 1) same
 
-same_cost : (unit : Course) (s t : RunState) (owner : Owner) (action : Action) → length s.persons ≡ length t.persons
+same_cost : (unit : Unit) (s t : RunState) (owner : Owner) (action : Action) → length s.persons ≡ length t.persons
     → action_cost unit s owner action ≡ action_cost unit t owner action
 same_cost unit s t owner (Show things) same = refl
 same_cost unit s t owner (Hide things) same = refl
@@ -36,18 +36,18 @@ same_cost unit s t owner (Notify notice) same = notice_costs unit t owner notice
 pub same_persons_counted : (s t : StateView) → s.rows ≡ t.rows → length s.rows ≡ length (run_of t).persons
 same_persons_counted s t same = ap length same ∙ sym (persons_counted t)
 
-pub same_costs : (unit : Course) (s t : StateView) (owner : Owner) (action : Action) → s.rows ≡ t.rows
+pub same_costs : (unit : Unit) (s t : StateView) (owner : Owner) (action : Action) → s.rows ≡ t.rows
     → action_cost unit (run_of s) owner action ≡ action_cost unit (run_of t) owner action
 same_costs unit s t owner action same =
     same_cost unit (run_of s) (run_of t) owner action (ap (λ rows. length (persons_of rows)) same)
 
-sums_same : (unit : Course) (s t : StateView) (owner : Owner) (actions : List Action) → s.rows ≡ t.rows
+sums_same : (unit : Unit) (s t : StateView) (owner : Owner) (actions : List Action) → s.rows ≡ t.rows
     → sum_by (action_cost unit (run_of s) owner) actions ≡ sum_by (action_cost unit (run_of t) owner) actions
 sums_same unit s t owner actions same =
     ap (λ (cost : Action → ℕ). sum_by cost actions) (fun_ext (λ action. same_costs unit s t owner action same))
 
 -- What follows a completion: its changes, and then its notices.
-pub follow_costs : (unit : Course) (s t : StateView) (owner : Owner) (follows : Option OnCompletion) (one : OnCompletion)
+pub follow_costs : (unit : Unit) (s t : StateView) (owner : Owner) (follows : Option OnCompletion) (one : OnCompletion)
     (changes : List ChangeOf) (notices : List Notice) (start middle end : ℕ) → t.rows ≡ s.rows → follows ≡ Some one
     → changes ≡ one.change → notices ≡ one.notify
     → middle ≤ start + sum_by (action_cost unit (run_of s) owner) (map Change changes)

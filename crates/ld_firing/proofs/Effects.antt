@@ -16,7 +16,7 @@ use Rattle.ld_model.specs.declared.completion.Change.{Change as ChangeOf}
 use Rattle.ld_model.specs.declared.condition.Action.{Action}
 use Rattle.ld_model.specs.declared.condition.Action.TheVariants.{Show, Hide, Change, Notify}
 use Rattle.ld_model.specs.declared.property.Property.{Property}
-use Rattle.ld_model.specs.declared.unit.Unit.{Unit as Course}
+use Rattle.ld_model.specs.declared.unit.Unit.{Unit}
 use Rattle.ld_names.specs.declared.rule.Rule.{Rule}
 use Rattle.ld_names.specs.Names.{thing_number}
 use Rattle.ld_names.specs.Rules.{Site}
@@ -44,7 +44,7 @@ is_written Now = false
 is_written Roster = false
 
 -- Such a cell gets a value that suits it, if the moment of the run is one.
-pub record IsFair (unit : Course) (s : RunState) (cell : CellName) (value : Option Datum) : Type 0 where
+pub record IsFair (unit : Unit) (s : RunState) (cell : CellName) (value : Option Datum) : Type 0 where
   pub written : is_written cell ≡ true
   pub suits : suits_cell unit Now (s.cells Now) ≡ true → suits_cell unit cell value ≡ true
 
@@ -82,16 +82,16 @@ unfolding fits_in
 fitting_is_value property value fits = (both_parts (is_value property.datatype value) _ fits).0
 
 -- The cell of a property of this number, and the value where it fits that property.
-abbrev cell_by : Course → Owner → Option ℕ → Option CellName
+abbrev cell_by : Unit → Owner → Option ℕ → Option CellName
 cell_by unit owner number =
     number >>= λ n. slice_get unit.properties n >>= λ property. Some
     (property_cell n (owner_of (is_personal property.kind) owner))
 
-abbrev fitting_by : Course → Option ℕ → Datum → Option Datum
+abbrev fitting_by : Unit → Option ℕ → Datum → Option Datum
 fitting_by unit number value =
     number >>= slice_get unit.properties >>= λ property. provided (fits_property property value) value
 
-fair_value : (unit : Course) (s : RunState) (n : ℕ) (owner : Owner) (property : Property) (value v : Datum)
+fair_value : (unit : Unit) (s : RunState) (n : ℕ) (owner : Owner) (property : Property) (value v : Datum)
     → slice_get unit.properties n ≡ Some property → (fits : Bool) → fits_property property value ≡ fits
     → provided fits value ≡ Some v → IsFair unit s (property_cell n owner) (Some v)
 fair_value unit s n owner property value v at false fits is = none_is_some is
@@ -104,7 +104,7 @@ fair_value unit s n owner property value v at true fits is = record {
       (widens property.datatype value (fitting_is_value property value fits)));
 }
 
-fair_property : (unit : Course) (s : RunState) (n : ℕ) (owner : Owner) (value v : Datum) (c : CellName) (found : Option Property)
+fair_property : (unit : Unit) (s : RunState) (n : ℕ) (owner : Owner) (value v : Datum) (c : CellName) (found : Option Property)
     → slice_get unit.properties n ≡ found
     → (found >>= λ property. Some (property_cell n (owner_of (is_personal property.kind) owner))) ≡ Some c
     → (found >>= λ property. provided (fits_property property value) value) ≡ Some v → IsFair unit s c (Some v)
@@ -114,7 +114,7 @@ fair_property unit s n owner value v c (Some property) at cell fits =
     (fair_value unit s n (owner_of (is_personal property.kind) owner) property value v at
     (fits_property property value) refl fits)
 
-fair_by : (unit : Course) (s : RunState) (owner : Owner) (number : Option ℕ) (value : Option Datum) (c : CellName) (v : Datum)
+fair_by : (unit : Unit) (s : RunState) (owner : Owner) (number : Option ℕ) (value : Option Datum) (c : CellName) (v : Datum)
     → cell_by unit owner number ≡ Some c → (value >>= fitting_by unit number) ≡ Some v
     → IsFair unit s c (Some v)
 fair_by unit s owner None value c v cell fits = none_is_some cell
@@ -123,13 +123,13 @@ fair_by unit s owner (Some n) (Some value) c v cell fits =
     fair_property unit s n owner value v c (slice_get unit.properties n) refl cell fits
 
 -- A change of a property is fair.
-fair_change : (unit : Course) (s : RunState) (owner : Owner) (id : List ℕ) (value : Option Datum) (c : CellName) (v : Datum)
+fair_change : (unit : Unit) (s : RunState) (owner : Owner) (id : List ℕ) (value : Option Datum) (c : CellName) (v : Datum)
     → cell_of_property unit owner id ≡ Some c → (value >>= if_fitting unit id) ≡ Some v
     → IsFair unit s c (Some v)
 fair_change unit s owner id value c v cell fits = fair_by unit s owner (property_number unit id) value c v cell fits
 
 -- The moment suits the opening of an act.
-suits_opening : (unit : Course) (thing : ℕ) (now : Option Datum) → suits_cell unit Now now ≡ true
+suits_opening : (unit : Unit) (thing : ℕ) (now : Option Datum) → suits_cell unit Now now ≡ true
     → suits_cell unit (act_opened_cell thing) now ≡ true
 suits_opening unit thing None is = refl
 suits_opening unit thing (Some v) is = is
@@ -152,13 +152,13 @@ sending doing notice = record doing {
 }
 
 -- What each write, rejection and notice leaves true.
-pub record StaysTrue (unit : Course) (P : Doing → Type 0) : Type 0 where
+pub record StaysTrue (unit : Unit) (P : Doing → Type 0) : Type 0 where
   pub writes : (doing : Doing) (cell : CellName) (value : Option Datum) → IsFair unit doing.state cell value
       → P doing → P (with_write doing cell value)
   pub rejects : (doing : Doing) → P doing → P (rejecting doing)
   pub sends : (doing : Doing) (notice : NoticeState) → P doing → P (sending doing notice)
 
-module _ (unit : Course) (P : Doing → Type 0) (kept : StaysTrue unit P) where
+module _ (unit : Unit) (P : Doing → Type 0) (kept : StaysTrue unit P) where
   through_change : (doing : Doing) (cell : Option CellName) (value : Option Datum)
       → ((c : CellName) (v : Datum) → cell ≡ Some c → value ≡ Some v → IsFair unit doing.state c (Some v))
       → P doing → P (with_change doing cell value)

@@ -4,7 +4,7 @@ use Rattle.std.proofs.lemmas.Option.{slice_get_read, slice_get_within}
 use Rattle.std.specs.List.{sum_by}
 use Rattle.ld_base.specs.declared.fired.Fired.{Fired}
 use Rattle.ld_value.specs.Datum.{truth_datum}
-use Rattle.ld_model.specs.declared.unit.Unit.{Unit as Course}
+use Rattle.ld_model.specs.declared.unit.Unit.{Unit}
 use Rattle.ld_names.specs.declared.rule.Rule.{Rule}
 use Rattle.ld_names.specs.Rules.{Site, rules_of, sites_of}
 use Rattle.ld_expr.specs.Lookup.{list_from}
@@ -24,19 +24,19 @@ use Rattle.ld_firing.proofs.Firings.{firing_enrolment}
 use Rattle.ld_firing.proofs.Progressing.{done_at_all, fired_is}
 
 -- The rule of this number, the site and the verdict of a firing.
-pub record IsFiring (unit : Course) (s : RunState) (site : Site) (rule : Rule) (verdict : Bool) : Type 0 where
+pub record IsFiring (unit : Unit) (s : RunState) (site : Site) (rule : Rule) (verdict : Bool) : Type 0 where
   pub ruled : rule_of unit site ≡ Some rule
   pub judged : verdict ≡ site_test unit (seen_in unit s) site
 
 -- What the firing of the rule does.
-abbrev pub fires_by : Course → Site → Rule → Bool → Doing → Doing
+abbrev pub fires_by : Unit → Site → Rule → Bool → Doing → Doing
 fires_by unit site rule verdict doing =
     rule_effect unit site.owner rule verdict (with_write doing (mark_cell site.rule site.owner) (Some (truth_datum verdict)))
 
-module _ (unit : Course) (s t : StateView) (told after : List ℕ) (site : Site) (rule : Rule) (verdict : Bool)
-    (firing : IsFiring unit (run_of s) site rule verdict) {here : Course} (same : here ≡ unit) where
+module _ (unit : Unit) (s t : StateView) (told after : List ℕ) (site : Site) (rule : Rule) (verdict : Bool)
+    (firing : IsFiring unit (run_of s) site rule verdict) {here : Unit} (same : here ≡ unit) where
   -- What is said of this outcome, where the unit at hand is the one of the site.
-  abbrev DoesAs : Course → Fired → Type 0
+  abbrev DoesAs : Unit → Fired → Type 0
   DoesAs one fired =
       Does one (progress_of s told (record { rejected = 0; sent = 0 })) (progress_of t after fired) (fires_by one site rule verdict)
 
@@ -72,7 +72,7 @@ module _ (unit : Course) (s t : StateView) (told after : List ℕ) (site : Site)
   fired_sent (Ok fired) does = ap (λ (p : Progress). p.sent) (whole fired does)
   fired_sent (Err e) does = tt
 
-pub costs_of : (unit : Course) (s : RunState) (site : Site) (rule : Rule) (verdict : Bool) → IsFiring unit s site rule verdict
+pub costs_of : (unit : Unit) (s : RunState) (site : Site) (rule : Rule) (verdict : Bool) → IsFiring unit s site rule verdict
     → 4 + sum_by (action_cost unit s site.owner) (actions_of unit rule verdict) ≡ site_cost unit s site
 unfolding site_cost
 costs_of unit s site rule verdict firing =
@@ -80,7 +80,7 @@ costs_of unit s site rule verdict firing =
     firing.judged (sym firing.ruled)
 
 -- Each site of a run has a rule.
-pub never_missing : {A : Type 0} (unit : Course) (persons : ℕ) (site : Site) → Contains (sites_of unit persons) site → (rules : List Rule)
+pub never_missing : {A : Type 0} (unit : Unit) (persons : ℕ) (site : Site) → Contains (sites_of unit persons) site → (rules : List Rule)
     → rules ≡ rules_of unit → (found : Option A) → found ≡ None → (site.rule < length rules → is_some found ≡ true) → ⊥
 never_missing unit persons site there rules are found none present =
     let has = rule_listed unit persons site there in
@@ -89,12 +89,12 @@ never_missing unit persons site there rules are found none present =
     different (sym (subst (λ o. is_some o ≡ true) none (present within)))
 
 -- The rule that is got by its number.
-pub rule_got : (unit : Course) (rules : List Rule) (site : Site) (rule : Rule) → rules ≡ rules_of unit → site.rule < length rules
+pub rule_got : (unit : Unit) (rules : List Rule) (site : Site) (rule : Rule) → rules ≡ rules_of unit → site.rule < length rules
     → rule ≡ get_or rules site.rule rule → rule_of unit site ≡ Some rule
 rule_got unit rules site rule are within is =
     ap (λ all. slice_get all site.rule) (sym are) ∙ slice_get_read rules (length rules) site.rule rule refl within is
 
-pub firing_got : (unit : Course) (s : RunState) (rules : List Rule) (site : Site) (rule : Rule) (verdict : Bool) → rules ≡ rules_of unit
+pub firing_got : (unit : Unit) (s : RunState) (rules : List Rule) (site : Site) (rule : Rule) (verdict : Bool) → rules ≡ rules_of unit
     → site.rule < length rules → rule ≡ get_or rules site.rule rule → verdict ≡ site_test unit (seen_in unit s) site
     → IsFiring unit s site rule verdict
 firing_got unit s rules site rule verdict are within is judged =

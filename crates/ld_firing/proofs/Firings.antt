@@ -6,7 +6,7 @@ use Rattle.ld_model.specs.Cells.{CellMap, put_cell, same_cell}
 use Rattle.ld_model.specs.declared.cell.CellName.{CellName}
 use Rattle.ld_model.specs.declared.cell.CellName.TheVariants.{Mark, Now}
 use Rattle.ld_model.specs.declared.cell.Owner.{Owner}
-use Rattle.ld_model.specs.declared.unit.Unit.{Unit as Course}
+use Rattle.ld_model.specs.declared.unit.Unit.{Unit}
 use Rattle.ld_names.specs.declared.rule.Rule.{Rule}
 use Rattle.ld_names.specs.Rules.{Site}
 use Rattle.ld_expr.specs.Seen.{mark_cell}
@@ -25,14 +25,14 @@ pub record IsEnrolled (s t : RunState) : Type 0 where
   pub seats : t.seats ≡ s.seats
   pub persons : t.persons ≡ s.persons
 
-keeps_enrolment : (unit : Course) (s : RunState) → StaysTrue unit (λ doing. IsEnrolled s doing.state)
+keeps_enrolment : (unit : Unit) (s : RunState) → StaysTrue unit (λ doing. IsEnrolled s doing.state)
 keeps_enrolment unit s = record {
   writes = λ doing cell value fair holds. record { seats = holds.seats; persons = holds.persons };
   rejects = λ doing holds. holds;
   sends = λ doing notice holds. record { seats = holds.seats; persons = holds.persons };
 }
 
-pub firing_enrolment : (unit : Course) (s : RunState) (site : Site)
+pub firing_enrolment : (unit : Unit) (s : RunState) (site : Site)
     → IsEnrolled s (site_firing unit s site).state
 firing_enrolment unit s site =
     through_any_firing unit (λ doing. IsEnrolled s doing.state) (keeps_enrolment unit s) s site
@@ -56,7 +56,7 @@ other_cell cells cell c value other = ap (λ b. cond b value (cells c)) other
 own_cell : (cells : CellMap) (cell : CellName) (value : Option Datum) → put_cell cells cell value cell ≡ value
 own_cell cells cell value = ap (λ b. cond b value (cells cell)) (same_cell_itself cell)
 
-keeps_marks : (unit : Course) (cells : CellMap) → StaysTrue unit (HasMarks cells)
+keeps_marks : (unit : Unit) (cells : CellMap) → StaysTrue unit (HasMarks cells)
 unfolding HasMarks
 keeps_marks unit cells = record {
   writes = λ doing cell value fair holds r owner.
@@ -66,7 +66,7 @@ keeps_marks unit cells = record {
 }
 
 -- All marks are as they were once the own one was set.
-pub firing_marks : (unit : Course) (s : RunState) (site : Site) (rule : Rule) → rule_of unit site ≡ Some rule
+pub firing_marks : (unit : Unit) (s : RunState) (site : Site) (rule : Rule) → rule_of unit site ≡ Some rule
     → (r : ℕ) (owner : Owner)
     → (site_firing unit s site).state.cells (mark_cell r owner) ≡ put_cell s.cells (site_mark site) (Some (truth_datum (site_test unit (seen_in unit s) site))) (mark_cell r owner)
 unfolding HasMarks
@@ -74,13 +74,13 @@ firing_marks unit s site rule ruled =
     let set = put_cell s.cells (site_mark site) (Some (truth_datum (site_test unit (seen_in unit s) site))) in
     through_firing unit (HasMarks set) (keeps_marks unit set) s site rule ruled (λ r owner. refl)
 
-pub firing_own_mark : (unit : Course) (s : RunState) (site : Site) (rule : Rule) → rule_of unit site ≡ Some rule
+pub firing_own_mark : (unit : Unit) (s : RunState) (site : Site) (rule : Rule) → rule_of unit site ≡ Some rule
     → (site_firing unit s site).state.cells (site_mark site) ≡ Some (truth_datum (site_test unit (seen_in unit s) site))
 firing_own_mark unit s site rule ruled =
     firing_marks unit s site rule ruled site.rule site.owner
     ∙ own_cell s.cells (site_mark site) (Some (truth_datum (site_test unit (seen_in unit s) site)))
 
-pub firing_other_mark : (unit : Course) (s : RunState) (site other : Site) (rule : Rule)
+pub firing_other_mark : (unit : Unit) (s : RunState) (site other : Site) (rule : Rule)
     → rule_of unit site ≡ Some rule → same_cell (site_mark other) (site_mark site) ≡ false
     → (site_firing unit s site).state.cells (site_mark other) ≡ s.cells (site_mark other)
 firing_other_mark unit s site other rule ruled apart =
@@ -121,7 +121,7 @@ unfolding IsTold
 tells_write s doing cell value told c =
     told_by s doing cell c value (same_cell c cell) (differs (doing.state.cells cell) value) refl refl (told c)
 
-keeps_told : (unit : Course) (s : RunState) → StaysTrue unit (IsTold s)
+keeps_told : (unit : Unit) (s : RunState) → StaysTrue unit (IsTold s)
 unfolding IsTold
 keeps_told unit s = record {
   writes = λ doing cell value fair told. tells_write s doing cell value told;
@@ -129,7 +129,7 @@ keeps_told unit s = record {
   sends = λ doing notice told. told;
 }
 
-pub firing_told : (unit : Course) (s : RunState) (site : Site) (c : CellName)
+pub firing_told : (unit : Unit) (s : RunState) (site : Site) (c : CellName)
     → IsIn (site_firing unit s site).changes c ⊎ ((site_firing unit s site).state.cells c ≡ s.cells c)
 unfolding IsTold
 firing_told unit s site =
@@ -139,7 +139,7 @@ firing_told unit s site =
 -- ---- values that suit
 
 -- The moment is as it was, and each cell that had a value that suits it has one.
-pub record Suits (unit : Course) (s t : RunState) : Type 0 where
+pub record Suits (unit : Unit) (s t : RunState) : Type 0 where
   pub now : t.cells Now ≡ s.cells Now
   pub cells : (c : CellName) → suits_cell unit c (s.cells c) ≡ true → suits_cell unit c (t.cells c) ≡ true
 
@@ -147,7 +147,7 @@ not_now : (cell : CellName) → is_written cell ≡ true → same_cell Now cell 
 not_now Now written = absurd (cc)
 not_now _ written = refl
 
-suits_write : (unit : Course) (cells : CellMap) (cell c : CellName) (value : Option Datum)
+suits_write : (unit : Unit) (cells : CellMap) (cell c : CellName) (value : Option Datum)
     → suits_cell unit cell value ≡ true → suits_cell unit c (cells c) ≡ true
     → suits_cell unit c (put_cell cells cell value c) ≡ true
 suits_write unit cells cell c value suits old = by (same_cell c cell) refl
@@ -156,7 +156,7 @@ suits_write unit cells cell c value suits old = by (same_cell c cell) refl
     by true is = subst (λ name. suits_cell unit name value ≡ true) (sym (one_cell c cell is)) suits
     by false is = old
 
-keeps_suits : (unit : Course) (s : RunState) → suits_cell unit Now (s.cells Now) ≡ true
+keeps_suits : (unit : Unit) (s : RunState) → suits_cell unit Now (s.cells Now) ≡ true
     → StaysTrue unit (λ doing. Suits unit s doing.state)
 keeps_suits unit s moment = record {
   writes = λ doing cell value fair holds. record {
@@ -168,7 +168,7 @@ keeps_suits unit s moment = record {
   sends = λ doing notice holds. record { now = holds.now; cells = holds.cells };
 }
 
-pub firing_suits : (unit : Course) (s : RunState) (site : Site) → suits_cell unit Now (s.cells Now) ≡ true
+pub firing_suits : (unit : Unit) (s : RunState) (site : Site) → suits_cell unit Now (s.cells Now) ≡ true
     → Suits unit s (site_firing unit s site).state
 firing_suits unit s site moment =
     through_any_firing unit (λ doing. Suits unit s doing.state) (keeps_suits unit s moment) s site

@@ -5,7 +5,7 @@ use Rattle.std.specs.List.{cons_option, range_with_len}
 use Rattle.ld_base.specs.Numbers.{numbers_below}
 use Rattle.ld_model.specs.declared.cell.CellName.{CellName}
 use Rattle.ld_model.specs.declared.cell.Owner.{Owner}
-use Rattle.ld_model.specs.declared.unit.Unit.{Unit as Course}
+use Rattle.ld_model.specs.declared.unit.Unit.{Unit}
 use Rattle.ld_names.specs.declared.rule.Rule.{Rule}
 use Rattle.ld_names.specs.declared.rule.RuleKind.{RuleKind}
 use Rattle.ld_names.specs.declared.rule.RuleKind.TheVariants.{Person as OfPerson, Run as OfRun}
@@ -45,7 +45,7 @@ same_given f g (x ∷ xs) each = ap₂ cons_option (each x (inl refl)) (same_giv
 -- ---- slots
 
 -- With more persons there are the same cells, and more behind them.
-pub more_cells : (unit : Course) (n k : ℕ)
+pub more_cells : (unit : Unit) (n k : ℕ)
     → all_cells unit (n + k) ≡ all_cells unit n ++ flat_map (person_cells unit) (range_with_len n k)
 more_cells unit n k =
     let cells = person_cells unit in
@@ -55,7 +55,7 @@ more_cells unit n k =
     ∙ sym (append_assoc (run_cells unit) (flat_map cells (numbers_below n)) (flat_map cells (range_with_len n k)))
 
 -- A cell stands where it stood.
-pub cell_stays : (unit : Course) (n m k : ℕ) (c : CellName) → n ≤ m → slice_get (all_cells unit n) k ≡ Some c
+pub cell_stays : (unit : Unit) (n m k : ℕ) (c : CellName) → n ≤ m → slice_get (all_cells unit n) k ≡ Some c
     → slice_get (all_cells unit m) k ≡ Some c
 cell_stays unit n m k c grown at =
     let whole : m ≡ n + (m - n) = omega (arith, grown) in
@@ -64,7 +64,7 @@ cell_stays unit n m k c grown at =
     ∙ stands_before (all_cells unit n) (flat_map (person_cells unit) (range_with_len n (m - n))) k c at
 
 -- And so its slot stays.
-pub slot_stays : (unit : Course) (n m : ℕ) (c : CellName) → n ≤ m → IsIn (all_cells unit n) c
+pub slot_stays : (unit : Unit) (n m : ℕ) (c : CellName) → n ≤ m → IsIn (all_cells unit n) c
     → slot_of unit n c ≡ slot_of unit m c
 slot_stays unit n m c grown there =
     let stands = stands_in (all_cells unit n) c there in
@@ -82,7 +82,7 @@ for_run OfPerson is = different (sym is)
 for_run OfRun is = refl
 
 -- Where the run had the owner, it has the site of a rule for that owner.
-still_there : (unit : Course) (n m number : ℕ) (rule : Rule) (own : Bool) (owner : Owner) → n ≤ m
+still_there : (unit : Unit) (n m number : ℕ) (rule : Rule) (own : Bool) (owner : Owner) → n ≤ m
     → slice_get (rules_of unit) number ≡ Some rule → own ≡ is_for_persons (kind_of rule) → IsOwner n own owner
     → Contains (sites_of unit m) (record { rule = number; owner = owner })
 still_there unit n m number rule own owner grown at is (a_person p below) =
@@ -91,7 +91,7 @@ still_there unit n m number rule own owner grown at is the_run =
     run_site_there unit m number rule at (for_run (kind_of rule) is)
 
 -- A number stays that of its site.
-pub site_stays : (unit : Course) (s t : RunState) (i : ℕ) (site : Site) → s.seats ≡ t.seats
+pub site_stays : (unit : Unit) (s t : RunState) (i : ℕ) (site : Site) → s.seats ≡ t.seats
     → length s.persons ≤ length t.persons → HasSeats t → site_at unit s i ≡ Some site → site_at unit t i ≡ Some site
 site_stays unit s t i site seats grown seated at =
     let has = site_found unit s i site at in
@@ -101,7 +101,7 @@ site_stays unit s t i site seats grown seated at =
     (still_there unit (length s.persons) (length t.persons) site.rule has.rule (is_for_persons (kind_of has.rule)) site.owner grown has.ruled refl has.owned))
 
 -- A site whose owner the run had before is a site that it had.
-pub site_was : (unit : Course) (s t : RunState) (i : ℕ) (site : Site) → s.seats ≡ t.seats → HasSeats s
+pub site_was : (unit : Unit) (s t : RunState) (i : ℕ) (site : Site) → s.seats ≡ t.seats → HasSeats s
     → site_at unit t i ≡ Some site → ((own : Bool) → IsOwner (length t.persons) own site.owner → IsOwner (length s.persons) own site.owner)
     → site_at unit s i ≡ Some site
 site_was unit s t i site seats seated at owned =

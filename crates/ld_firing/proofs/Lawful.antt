@@ -3,7 +3,7 @@ use Rattle.std.proofs.Common.{◌≡◌, refl, sym, ap, subst, ◌∙◌, ℕ, l
 use Rattle.ld_base.specs.Maybe.{◌>>=◌}
 use Rattle.ld_cascade.specs.System.{IsSeenAlike, Lawful}
 use Rattle.ld_model.specs.declared.cell.CellName.{CellName}
-use Rattle.ld_model.specs.declared.unit.Unit.{Unit as Course}
+use Rattle.ld_model.specs.declared.unit.Unit.{Unit}
 use Rattle.ld_names.specs.Rules.{Site}
 use Rattle.ld_expr.specs.Lookup.{list_from}
 use Rattle.ld_state.specs.RunCells.{all_cells, slot_of}
@@ -16,7 +16,7 @@ use Rattle.ld_state.proofs.Cells.{slot_stands}
 use Rattle.ld_firing.proofs.ChecksMet.{checks_met}
 use Rattle.ld_state.proofs.Elements.{IsIn, contains_from_in, stands_in}
 use Rattle.ld_firing.proofs.Found.{in_filter_map}
-use Rattle.ld_firing.proofs.Laws.{counted_by, keeps_course, keeps_sites, keeps_count, keeps_slots, keeps_size, keeps_sound, within, no_test, no_mark, no_reads, no_size, reads_below, changes_below, own_mark, other_marks, reported}
+use Rattle.ld_firing.proofs.Laws.{counted_by, keeps_setting, keeps_sites, keeps_count, keeps_slots, keeps_size, keeps_sound, within, no_test, no_mark, no_reads, no_size, reads_below, changes_below, own_mark, other_marks, reported}
 use Rattle.ld_firing.proofs.Growing.{cell_stays, same_given, site_stays, slot_stays}
 use Rattle.ld_firing.proofs.ReadsByMark.{reads_by_mark}
 use Rattle.ld_firing.proofs.RulesThere.{site_looks_there}
@@ -24,7 +24,7 @@ use Rattle.ld_firing.proofs.Sites.{site_found, some_of, said_of}
 use Rattle.ld_firing.proofs.SitesNumbered.{seats_of}
 use Rattle.ld_rules.proofs.SitesAlike.{same_site_test, same_site_looks}
 
-module _ (unit : Course) where
+module _ (unit : Unit) where
   -- What stands in the slot of a cell is the value of the cell.
   holds_value : (s : RunState) (k : ℕ) (c : CellName) → slice_get (all_cells unit (length s.persons)) k ≡ Some c
       → content_of unit s k ≡ cell_of unit s c
@@ -86,14 +86,14 @@ module _ (unit : Course) where
       (other_site s t i alike site found.1))
 
 -- The system of a unit's runs keeps the laws.
-pub run_is_lawful : (unit : Course) → Lawful (run_system unit)
+pub run_is_lawful : (unit : Unit) → Lawful (run_system unit)
 run_is_lawful unit = record {
   stays = λ e. record { seats = refl; persons = omega arith };
   same_test = same_test unit;
   same_reads = same_reads unit;
   reads_by_mark = reads_by_mark unit;
   keeps_sound = keeps_sound unit;
-  keeps_course = keeps_course unit;
+  keeps_setting = keeps_setting unit;
   keeps_sites = keeps_sites unit;
   keeps_count = keeps_count unit;
   keeps_slots = keeps_slots unit;

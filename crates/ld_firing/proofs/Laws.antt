@@ -9,7 +9,7 @@ use Rattle.ld_value.specs.Datum.{truth_datum, number_datum}
 use Rattle.ld_model.specs.Cells.{same_cell, same_owner}
 use Rattle.ld_model.specs.declared.cell.CellName.{CellName}
 use Rattle.ld_model.specs.declared.cell.CellName.TheVariants.{Prop, Vis, Member, Chosen, Opened, ActOpened, Started, Mark, Now, Roster}
-use Rattle.ld_model.specs.declared.unit.Unit.{Unit as Course}
+use Rattle.ld_model.specs.declared.unit.Unit.{Unit}
 use Rattle.ld_names.specs.Rules.{Site, rules_of}
 use Rattle.ld_expr.specs.Lookup.{list_from}
 use Rattle.ld_roles.specs.Roster.{Persons, is_member_in}
@@ -31,21 +31,21 @@ use Rattle.ld_rules.proofs.LooksAlike.{same_open_looks}
 
 -- ---- what is said of two states of one enrolment
 
-pub enrolment_seats : (s t : RunState) → (run : Course) → (run_system run).course s ≡ (run_system run).course t
+pub enrolment_seats : (s t : RunState) → (run : Unit) → (run_system run).setting s ≡ (run_system run).setting t
     → s.seats ≡ t.seats
 enrolment_seats s t run same = ap (λ (e : Enrolment). e.seats) same
 
-pub enrolment_persons : (s t : RunState) → (run : Course)
-    → (run_system run).course s ≡ (run_system run).course t → s.persons ≡ t.persons
+pub enrolment_persons : (s t : RunState) → (run : Unit)
+    → (run_system run).setting s ≡ (run_system run).setting t → s.persons ≡ t.persons
 enrolment_persons s t run same = ap (λ (e : Enrolment). e.persons) same
 
 -- The roster tells how many persons there are.
-pub counted_by : (unit : Course) (s t : RunState) → AreCounted (seen_in unit s) (seen_in unit t)
+pub counted_by : (unit : Unit) (s t : RunState) → AreCounted (seen_in unit s) (seen_in unit t)
 unfolding cell_of
 counted_by unit s t same = cc
 
 -- Who is a member of which role follows from the persons.
-following_same : (unit : Course) (s t : RunState) (c : CellName) → s.persons ≡ t.persons → is_following c ≡ true
+following_same : (unit : Unit) (s t : RunState) (c : CellName) → s.persons ≡ t.persons → is_following c ≡ true
     → cell_of unit s c ≡ cell_of unit t c
 unfolding cell_of
 following_same unit s t (Member r p) persons follows =
@@ -60,12 +60,12 @@ following_same unit s t Started persons follows = different (sym follows)
 following_same unit s t (Mark _ _) persons follows = different (sym follows)
 following_same unit s t Now persons follows = different (sym follows)
 
-pub persons_alike : (unit : Course) (s t : RunState) → s.persons ≡ t.persons → (cells : List CellName)
+pub persons_alike : (unit : Unit) (s t : RunState) → s.persons ≡ t.persons → (cells : List CellName)
     → AgreeOnPersons (seen_in unit s) (seen_in unit t) cells
 persons_alike unit s t persons cells c inside follows = following_same unit s t c persons follows
 
 -- A cell has one value in both where the persons are the same and the stored values are.
-pub same_cell_of : (unit : Course) (s t : RunState) (c : CellName) → s.persons ≡ t.persons
+pub same_cell_of : (unit : Unit) (s t : RunState) (c : CellName) → s.persons ≡ t.persons
     → s.cells c ≡ t.cells c → cell_of unit s c ≡ cell_of unit t c
 unfolding cell_of
 same_cell_of unit s t (Member r p) persons stored =
@@ -80,7 +80,7 @@ same_cell_of unit s t Started persons stored = stored
 same_cell_of unit s t (Mark _ _) persons stored = stored
 same_cell_of unit s t Now persons stored = stored
 
-module _ (unit : Course) where
+module _ (unit : Unit) where
   -- The state after a firing, and that it has the enrolment.
   abbrev after : RunState → ℕ → RunState
   after s i = (firing_at unit s i).state
@@ -94,9 +94,9 @@ module _ (unit : Course) where
 
   -- ---- what a firing leaves
 
-  pub keeps_course : (s : RunState) (i : ℕ) → MayFire (run_system unit) s i
-      → (run_system unit).course (after s i) ≡ (run_system unit).course s
-  keeps_course s i may =
+  pub keeps_setting : (s : RunState) (i : ℕ) → MayFire (run_system unit) s i
+      → (run_system unit).setting (after s i) ≡ (run_system unit).setting s
+  keeps_setting s i may =
       let e = enrolled s i in
       let enrol : ℕ → Persons → Enrolment = λ n ps. record { seats = n; persons = ps } in
       ap₂ enrol e.seats e.persons

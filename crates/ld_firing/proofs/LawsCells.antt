@@ -6,7 +6,7 @@ use Rattle.ld_model.specs.declared.cell.CellName.{CellName}
 use Rattle.ld_model.specs.declared.cell.Owner.{Owner}
 use Rattle.ld_model.specs.declared.cell.Owner.TheVariants.{Run, Person}
 use Rattle.ld_model.specs.declared.property.Property.{Property}
-use Rattle.ld_model.specs.declared.unit.Unit.{Unit as Course}
+use Rattle.ld_model.specs.declared.unit.Unit.{Unit}
 use Rattle.ld_expr.specs.Lookup.{property_number}
 use Rattle.ld_expr.specs.Owners.{owner_of}
 use Rattle.ld_expr.specs.Seen.{property_cell}
@@ -15,7 +15,7 @@ use Rattle.ld_rules.specs.LawWords.{HasOwner, is_property}
 use Rattle.ld_state.specs.RunState.{RunState}
 use Rattle.ld_state.proofs.Elements.{none_is_some, some_same}
 
-pub property_cells : (unit : Course) (owner : Owner) (id : List ℕ) (cell : CellName) → cell_of_property unit owner id ≡ Some cell → is_property cell ≡ true
+pub property_cells : (unit : Unit) (owner : Owner) (id : List ℕ) (cell : CellName) → cell_of_property unit owner id ≡ Some cell → is_property cell ≡ true
 property_cells unit owner id cell is = by (property_number unit id) is
   where
     at : (number : ℕ) (property : Option Property) → (property >>= λ found. Some (property_cell number (owner_of (is_personal found.kind) owner))) ≡ Some cell → is_property cell ≡ true

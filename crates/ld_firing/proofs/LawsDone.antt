@@ -4,7 +4,7 @@ use Rattle.std.specs.Option.{option_map, option_and_then}
 use Rattle.ld_base.specs.Maybe.{◌>>=◌}
 use Rattle.ld_model.specs.Counting.{number_where}
 use Rattle.ld_model.specs.declared.cell.Owner.{Owner}
-use Rattle.ld_model.specs.declared.unit.Unit.{Unit as Course}
+use Rattle.ld_model.specs.declared.unit.Unit.{Unit}
 use Rattle.ld_walk.specs.declared.place.Place.{Place}
 use Rattle.ld_walk.specs.declared.place.Place.TheVariants.{Play, Act, RolePart, Activity, Structure, Environment, Object, Service, Item}
 use Rattle.ld_names.specs.declared.names.Named.{Named}
@@ -38,13 +38,13 @@ same_good CompletesUnit CompletesUnit is = refl
 same_good (JudgesCondition _) (JudgesCondition _) is = refl
 same_good _ _ is = absurd (cc)
 
-good_there : (unit : Course) (rule : Rule) (n : ℕ) → says_for_good rule ≡ true → number_where (same_rule rule) (rules_of unit) ≡ Some n → is_for_good unit n ≡ true
+good_there : (unit : Unit) (rule : Rule) (n : ℕ) → says_for_good rule ≡ true → number_where (same_rule rule) (rules_of unit) ≡ Some n → is_for_good unit n ≡ true
 good_there unit rule n good found =
     let by = found_by (same_rule rule) (rules_of unit) 0 n found in
     let same : by.number ≡ n = omega (arith, by.sum) in
     ap (is_some_and says_for_good) (ap (slice_get (rules_of unit)) (sym same) ∙ by.at) ∙ sym (same_good rule by.element by.passes) ∙ good
 
-good_place : (unit : Course) (place : Place) (n : ℕ) → number_at (rules_of unit) place ≡ Some n → is_for_good unit n ≡ true
+good_place : (unit : Unit) (place : Place) (n : ℕ) → number_at (rules_of unit) place ≡ Some n → is_for_good unit n ≡ true
 good_place unit (Activity a) n is = good_there unit (CompletesActivity a) n refl is
 good_place unit (Structure s) n is = good_there unit (CompletesStructure s) n refl is
 good_place unit (RolePart p a r) n is = good_there unit (CompletesPart p a r) n refl is
@@ -56,7 +56,7 @@ good_place unit (Service _ _) n is = none_is_some is
 good_place unit Item n is = none_is_some is
 
 -- The rule by which something is done is no condition.
-pub completes_for_good : (unit : Course) (id : List ℕ) (n : ℕ) → completing_number unit id ≡ Some n → is_for_good unit n ≡ true
+pub completes_for_good : (unit : Unit) (id : List ℕ) (n : ℕ) → completing_number unit id ≡ Some n → is_for_good unit n ≡ true
 completes_for_good unit id n is = by (named_by (names_of unit) id) is
   where
     of_entry : (entry : Option Entry) → option_and_then (λ rule. rule) (option_map (λ (one : Entry). number_at (rules_of unit) one.place) entry) ≡ Some n → is_for_good unit n ≡ true
@@ -71,7 +71,7 @@ completes_for_good unit id n is = by (named_by (names_of unit) id) is
     by (Some (Thing t)) is = of_entry (slice_get (things_of unit) t.0) (sym (rules_by_thing unit t.0) ∙ is)
 
 -- Where marks for good of the owner, or of the run, stay, what is done stays done.
-pub done_stays : (unit : Course) (s t : RunState) (owner : Owner) (id : List ℕ)
+pub done_stays : (unit : Unit) (s t : RunState) (owner : Owner) (id : List ℕ)
     → ((rule : ℕ) → is_for_good unit rule ≡ true → is_marked s rule (owner_of (is_person_rule unit rule) owner) ≡ true → is_marked t rule (owner_of (is_person_rule unit rule) owner) ≡ true)
     → is_done unit (seen_in unit s) owner id ≡ true → is_done unit (seen_in unit t) owner id ≡ true
 unfolding cell_of
@@ -83,7 +83,7 @@ done_stays unit s t owner id stays done = by (completing_number unit id) refl do
     by None is done = done
     by (Some n) is done = stays n (completes_for_good unit id n is) done
 
-pub firing_leaves_done : (unit : Course) (s : RunState) (site : Site) (owner : Owner) (id : List ℕ)
+pub firing_leaves_done : (unit : Unit) (s : RunState) (site : Site) (owner : Owner) (id : List ℕ)
     → is_done unit (seen_in unit s) owner id ≡ true → is_done unit (seen_in unit (site_firing unit s site).state) owner id ≡ true
 firing_leaves_done unit s site owner id done =
     done_stays unit s (site_firing unit s site).state owner id (λ rule good told. firing_latches unit s site rule (owner_of (is_person_rule unit rule) owner) good told) done

@@ -3,7 +3,7 @@ use Rattle.std.proofs.Common.{◌≡◌, refl, ap, subst, ℕ, zero, suc, length
 use Rattle.std.specs.Option.{option_map_or}
 use Rattle.ld_cascade.specs.System.{due}
 use Rattle.ld_cascade.specs.Settling.{step, visited, after_sweeps}
-use Rattle.ld_model.specs.declared.unit.Unit.{Unit as Course}
+use Rattle.ld_model.specs.declared.unit.Unit.{Unit}
 use Rattle.ld_names.specs.declared.rule.Rule.{Rule}
 use Rattle.ld_names.specs.Rules.{Site, kind_of}
 use Rattle.ld_expr.specs.Owners.{is_for_persons}
@@ -16,23 +16,23 @@ use Rattle.ld_firing.specs.SiteWalk.{is_due}
 use Rattle.ld_firing.proofs.Sites.{IsOwner, HasSite, site_found}
 
 -- The site is one of the run, with its rule, and its test and its mark differ.
-pub record IsFired (unit : Course) (s : RunState) (site : Site) : Type 0 where
+pub record IsFired (unit : Unit) (s : RunState) (site : Site) : Type 0 where
   pub rule : Rule
   pub ruled : rule_of unit site ≡ Some rule
   pub owned : IsOwner (length s.persons) (is_for_persons (kind_of rule)) site.owner
   pub due_now : is_due unit s site ≡ true
 
 -- What has no rule does nothing.
-pub unruled_firing : (unit : Course) (s : RunState) (site : Site) → rule_of unit site ≡ None → site_firing unit s site ≡ nothing_done s
+pub unruled_firing : (unit : Unit) (s : RunState) (site : Site) → rule_of unit site ≡ None → site_firing unit s site ≡ nothing_done s
 unfolding site_firing
 unruled_firing unit s site none =
     ap (λ (found : Option Rule). elim found as (λ _. Doing) [ None ↦ nothing_done s | Some rule ↦ firing_by unit s site rule ]) none
 
 -- Each firing keeps the fact.
-abbrev pub FiringsKeep : Course → (RunState → Type 0) → Type 0
+abbrev pub FiringsKeep : Unit → (RunState → Type 0) → Type 0
 FiringsKeep unit P = (s : RunState) (site : Site) → IsFired unit s site → P s → P (site_firing unit s site).state
 
-module _ (unit : Course) (P : RunState → Type 0) (kept : FiringsKeep unit P) where
+module _ (unit : Unit) (P : RunState → Type 0) (kept : FiringsKeep unit P) where
   visit_keeps : (s : RunState) (i : ℕ) (site : Site) → site_at unit s i ≡ Some site → P s → (b : Bool) → is_due unit s site ≡ b
       → P (cond b (site_firing unit s site).state s)
   visit_keeps s i site at holds false rests = holds

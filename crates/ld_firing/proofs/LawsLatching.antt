@@ -5,7 +5,7 @@ use Rattle.ld_model.specs.Cells.{same_cell}
 use Rattle.ld_model.specs.declared.cell.CellName.{CellName}
 use Rattle.ld_model.specs.declared.cell.CellName.TheVariants.{Mark}
 use Rattle.ld_model.specs.declared.cell.Owner.{Owner}
-use Rattle.ld_model.specs.declared.unit.Unit.{Unit as Course}
+use Rattle.ld_model.specs.declared.unit.Unit.{Unit}
 use Rattle.ld_names.specs.declared.rule.Rule.{Rule}
 use Rattle.ld_names.specs.Rules.{Site}
 use Rattle.ld_expr.specs.Lookup.{is_some_and}
@@ -29,19 +29,19 @@ latched true true other is said = refl
 latched true false other is said = cc
 latched false told other is said = cc
 
-tested : (unit : Course) (s : RunState) (site : Site) (found : Option Rule) → is_some_and says_for_good found ≡ true → says_yes (s.cells (site_mark site)) ≡ true
+tested : (unit : Unit) (s : RunState) (site : Site) (found : Option Rule) → is_some_and says_for_good found ≡ true → says_yes (s.cells (site_mark site)) ≡ true
     → is_some_and (λ rule. is_latched (seen_in unit s) site rule || rule_test unit (seen_in unit s) site.owner rule) found ≡ true
 unfolding cell_of
 tested unit s site None good told = cc
 tested unit s site (Some rule) good told = latched (says_for_good rule) (says_yes (s.cells (site_mark site))) (rule_test unit (seen_in unit s) site.owner rule) good told
 
 -- The test of a site that has said yes for good says yes.
-pub test_latched : (unit : Course) (s : RunState) (site : Site) → is_for_good unit site.rule ≡ true → is_marked s site.rule site.owner ≡ true → site_test unit (seen_in unit s) site ≡ true
+pub test_latched : (unit : Unit) (s : RunState) (site : Site) → is_for_good unit site.rule ≡ true → is_marked s site.rule site.owner ≡ true → site_test unit (seen_in unit s) site ≡ true
 unfolding site_test
 test_latched unit s site good told = tested unit s site (rule_of unit site) good told
 
 -- A firing, of whatever site, leaves the mark.
-pub firing_latches : (unit : Course) (s : RunState) (site : Site) (rule : ℕ) (owner : Owner)
+pub firing_latches : (unit : Unit) (s : RunState) (site : Site) (rule : ℕ) (owner : Owner)
     → is_for_good unit rule ≡ true → is_marked s rule owner ≡ true
     → is_marked (site_firing unit s site).state rule owner ≡ true
 firing_latches unit s site rule owner good told = by (rule_of unit site) refl
@@ -63,7 +63,7 @@ firing_latches unit s site rule owner good told = by (rule_of unit site) refl
         ∙ set (same_cell (mark_cell rule owner) (site_mark site)) refl
 
 -- A settling leaves it.
-pub settling_latches : (unit : Course) (s : RunState) (x : Settlement) (rule : ℕ) (owner : Owner)
+pub settling_latches : (unit : Unit) (s : RunState) (x : Settlement) (rule : ℕ) (owner : Owner)
     → is_for_good unit rule ≡ true → is_marked s rule owner ≡ true
     → run_settling unit s ≡ Some x → is_marked x.state rule owner ≡ true
 settling_latches unit s x rule owner good told is =

@@ -16,7 +16,7 @@ use Rattle.ld_model.specs.declared.completion.Change.{Change as ChangeOf}
 use Rattle.ld_model.specs.declared.completion.Notice.{Notice}
 use Rattle.ld_model.specs.declared.condition.Action.{Action}
 use Rattle.ld_model.specs.declared.condition.Action.TheVariants.{Show, Hide, Change, Notify}
-use Rattle.ld_model.specs.declared.unit.Unit.{Unit as Course}
+use Rattle.ld_model.specs.declared.unit.Unit.{Unit}
 use Rattle.ld_names.specs.declared.rule.Rule.{Rule}
 use Rattle.ld_names.specs.Names.{role_number, thing_number}
 use Rattle.ld_names.specs.Rules.{Site}
@@ -46,7 +46,7 @@ record IsSteady (s t : RunState) : Type 0 where
   now : t.cells Now ≡ s.cells Now
   persons : t.persons ≡ s.persons
 
-same_member : (unit : Course) (s t : RunState) → t.persons ≡ s.persons → (role : List ℕ) (p : ℕ) → is_member_of unit (seen_in unit t) role p ≡ is_member_of unit (seen_in unit s) role p
+same_member : (unit : Unit) (s t : RunState) → t.persons ≡ s.persons → (role : List ℕ) (p : ℕ) → is_member_of unit (seen_in unit t) role p ≡ is_member_of unit (seen_in unit s) role p
 unfolding cell_of
 same_member unit s t persons role p = by (role_number unit role)
   where
@@ -55,7 +55,7 @@ same_member unit s t persons role p = by (role_number unit role)
     by (Some r) = ap (λ ps. says_yes (Some (truth_datum (is_member_in unit ps r p)))) persons
 
 -- A notice is the same whenever in a firing it is sent.
-same_notice : (unit : Course) (s t : RunState) (notice : Notice) → IsSteady s t → notice_now unit t notice ≡ notice_now unit s notice
+same_notice : (unit : Unit) (s t : RunState) (notice : Notice) → IsSteady s t → notice_now unit t notice ≡ notice_now unit s notice
 same_notice unit s t notice steady = λ i. record {
   moment = unwrap_or (moment_of_value (steady.now i)) (pos 0);
   subject = unwrap_or notice.subject [];
@@ -69,7 +69,7 @@ same_notice unit s t notice steady = λ i. record {
         ∙ same_kept (λ p. list_any (λ role. is_member_of unit (seen_in unit t) role p) notice.roles) (λ p. list_any (λ role. is_member_of unit (seen_in unit s) role p) notice.roles) (numbers_below (length s.persons))
         (λ p inside. same_any (λ role. is_member_of unit (seen_in unit t) role p) (λ role. is_member_of unit (seen_in unit s) role p) notice.roles (λ role there. same_member unit s t steady.persons role p))
 
-keeps_steady : (unit : Course) (s : RunState) → StaysTrue unit (λ doing. IsSteady s doing.state)
+keeps_steady : (unit : Unit) (s : RunState) → StaysTrue unit (λ doing. IsSteady s doing.state)
 keeps_steady unit s = record {
   writes = λ doing cell value fair steady. record {
     now = other_cell doing.state.cells cell Now value (told_apart is_written Now cell refl fair.written) ∙ steady.now;
@@ -94,7 +94,7 @@ change_keeps doing None value = refl
 change_keeps doing (Some cell) None = refl
 change_keeps doing (Some cell) (Some value) = refl
 
-change_for_keeps : (unit : Course) (change : ChangeOf) (doing : Doing) (owner : Owner) → post_of (change_for unit change doing owner) ≡ post_of doing
+change_for_keeps : (unit : Unit) (change : ChangeOf) (doing : Doing) (owner : Owner) → post_of (change_for unit change doing owner) ≡ post_of doing
 change_for_keeps unit change doing owner =
     change_keeps doing (cell_of_property unit owner change.property) (term_value unit (seen_in unit doing.state) owner change.value >>= if_fitting unit change.property)
 
@@ -102,7 +102,7 @@ visible_keeps : (p : ℕ) (visible : Bool) (doing : Doing) (thing : Option ℕ) 
 visible_keeps p visible doing None = refl
 visible_keeps p visible doing (Some thing) = refl
 
-set_visible_keeps : (unit : Course) (owner : Owner) (visible : Bool) (doing : Doing) (id : List ℕ) → post_of (set_visible unit owner visible doing id) ≡ post_of doing
+set_visible_keeps : (unit : Unit) (owner : Owner) (visible : Bool) (doing : Doing) (id : List ℕ) → post_of (set_visible unit owner visible doing id) ≡ post_of doing
 set_visible_keeps unit Run visible doing id = refl
 set_visible_keeps unit (Person p) visible doing id = visible_keeps p.0 visible doing (thing_number unit id)
 
@@ -111,16 +111,16 @@ opening_keeps doing None = refl
 opening_keeps doing (Some thing) = refl
 
 -- These notices were sent, in order.
-abbrev with_post : Course → RunState → List Notice → Post → Post
+abbrev with_post : Unit → RunState → List Notice → Post → Post
 with_post unit s sent post = record { box = post.box ++ map (notice_now unit s) sent; sent = post.sent + length sent }
 
-nothing_sent : (unit : Course) (s : RunState) (post : Post) → post ≡ with_post unit s [] post
+nothing_sent : (unit : Unit) (s : RunState) (post : Post) → post ≡ with_post unit s [] post
 nothing_sent unit s post = λ i. record { box = sym (append-nil post.box) i; sent = same i }
   where
     same : post.sent ≡ post.sent + 0
     same = omega arith
 
-one_more : (unit : Course) (s : RunState) (one : NoticeState) (notice : Notice) (later : List Notice) (post : Post) → one ≡ notice_now unit s notice
+one_more : (unit : Unit) (s : RunState) (one : NoticeState) (notice : Notice) (later : List Notice) (post : Post) → one ≡ notice_now unit s notice
     → with_post unit s later (record { box = post.box ++ one ∷ []; sent = post.sent + 1 }) ≡ with_post unit s (notice ∷ later) post
 one_more unit s one notice later post is = λ i. record { box = boxes i; sent = numbers i }
   where
@@ -130,7 +130,7 @@ one_more unit s one notice later post is = λ i. record { box = boxes i; sent = 
     numbers : post.sent + 1 + length later ≡ post.sent + length (notice ∷ later)
     numbers = omega arith
 
-module _ (unit : Course) (owner : Owner) (s : RunState) where
+module _ (unit : Unit) (owner : Owner) (s : RunState) where
   same_post : (doing : Doing) (action : Action) → post_of (do_action unit owner doing action) ≡ post_of doing → (later : List Notice)
       → with_post unit s later (post_of (do_action unit owner doing action)) ≡ with_post unit s later (post_of doing)
   same_post doing action same later = ap (with_post unit s later) same
@@ -153,14 +153,14 @@ module _ (unit : Course) (owner : Owner) (s : RunState) where
 
 -- ---- a firing
 
-abbrev marked : Course → RunState → Site → Doing
+abbrev marked : Unit → RunState → Site → Doing
 marked unit s site = with_write (nothing_done s) (site_mark site) (Some (truth_datum (site_test unit (seen_in unit s) site)))
 
 opening_steady : (s : RunState) (doing : Doing) (thing : Option ℕ) → IsSteady s doing.state → IsSteady s (with_opening doing thing).state
 opening_steady s doing None steady = steady
 opening_steady s doing (Some thing) steady = record { now = steady.now; persons = steady.persons }
 
-firing_post : (unit : Course) (s : RunState) (site : Site) (rule : Rule) → rule_of unit site ≡ Some rule
+firing_post : (unit : Unit) (s : RunState) (site : Site) (rule : Rule) → rule_of unit site ≡ Some rule
     → post_of (site_firing unit s site) ≡ with_post unit s (notices_among (actions_of unit rule (site_test unit (seen_in unit s) site))) (post_of (nothing_done s))
 unfolding site_firing
 firing_post unit s site rule ruled =
@@ -172,12 +172,12 @@ firing_post unit s site rule ruled =
 
 -- The outbox after a firing is the one before it, and then each notice among the actions of its rule, once and
 -- in order, as it is sent in the state before the firing.
-pub firing_sends : (unit : Course) (s : RunState) (site : Site) (rule : Rule) → rule_of unit site ≡ Some rule
+pub firing_sends : (unit : Unit) (s : RunState) (site : Site) (rule : Rule) → rule_of unit site ≡ Some rule
     → (site_firing unit s site).state.outbox ≡ s.outbox ++ map (notice_now unit s) (notices_among (actions_of unit rule (site_test unit (seen_in unit s) site)))
 firing_sends unit s site rule ruled = ap (λ (post : Post). post.box) (firing_post unit s site rule ruled)
 
 -- What it tells as sent is their number.
-pub firing_sent : (unit : Course) (s : RunState) (site : Site) (rule : Rule) → rule_of unit site ≡ Some rule
+pub firing_sent : (unit : Unit) (s : RunState) (site : Site) (rule : Rule) → rule_of unit site ≡ Some rule
     → (site_firing unit s site).sent ≡ length (notices_among (actions_of unit rule (site_test unit (seen_in unit s) site)))
 firing_sent unit s site rule ruled = omega (arith, ap (λ (post : Post). post.sent) (firing_post unit s site rule ruled))
 
@@ -186,7 +186,7 @@ firing_sent unit s site rule ruled = omega (arith, ap (λ (post : Post). post.se
 abbrev HasGrown : RunState → Doing → Type 0
 HasGrown s doing = length doing.state.outbox ≡ length s.outbox + doing.sent
 
-firing_grows : (unit : Course) (s : RunState) (site : Site) → HasGrown s (site_firing unit s site)
+firing_grows : (unit : Unit) (s : RunState) (site : Site) → HasGrown s (site_firing unit s site)
 firing_grows unit s site = by (rule_of unit site) refl
   where
     none : HasGrown s (nothing_done s)
@@ -199,7 +199,7 @@ firing_grows unit s site = by (rule_of unit site) refl
         ap length (firing_sends unit s site rule is) ∙ length-append s.outbox (map (notice_now unit s) sent)
         ∙ ap (λ n. length s.outbox + n) (length-map sent (notice_now unit s) ∙ sym (firing_sent unit s site rule is))
 
-module _ (unit : Course) where
+module _ (unit : Unit) where
   number_grows : (s : RunState) (i : ℕ) → length (step (run_system unit) s i).outbox ≡ length s.outbox + notices (run_system unit) (fired (run_system unit) s i)
   number_grows s i = by (fires (run_system unit) s i)
     where

@@ -6,7 +6,7 @@ use Rattle.ld_model.specs.Cells.{same_cell}
 use Rattle.ld_model.specs.declared.cell.CellName.{CellName}
 use Rattle.ld_model.specs.declared.cell.CellName.TheVariants.{Started}
 use Rattle.ld_model.specs.declared.cell.Owner.{Owner}
-use Rattle.ld_model.specs.declared.unit.Unit.{Unit as Course}
+use Rattle.ld_model.specs.declared.unit.Unit.{Unit}
 use Rattle.ld_names.specs.Rules.{Site}
 use Rattle.ld_expr.specs.Seen.{opened_cell}
 use Rattle.ld_firing.specs.Actions.{site_firing}
@@ -28,7 +28,7 @@ told_apart test a b not_so so = by (same_cell a b) refl
     by false other = refl
     by true same = different (sym so ∙ sym (ap test (one_cell a b same)) ∙ not_so)
 
-keeps_cell : (unit : Course) (cell : CellName) (value : Option Datum) → is_written cell ≡ false
+keeps_cell : (unit : Unit) (cell : CellName) (value : Option Datum) → is_written cell ≡ false
     → StaysTrue unit (λ doing. doing.state.cells cell ≡ value)
 keeps_cell unit cell value never = record {
   writes = λ doing name new fair holds.
@@ -38,22 +38,22 @@ keeps_cell unit cell value never = record {
 }
 
 -- A firing, of whatever site, leaves such a cell.
-pub firing_leaves : (unit : Course) (s : RunState) (site : Site) (cell : CellName) → is_written cell ≡ false → is_mark cell ≡ false
+pub firing_leaves : (unit : Unit) (s : RunState) (site : Site) (cell : CellName) → is_written cell ≡ false → is_mark cell ≡ false
     → (site_firing unit s site).state.cells cell ≡ s.cells cell
 firing_leaves unit s site cell never no_mark =
     through_any_firing unit (λ doing. doing.state.cells cell ≡ s.cells cell) (keeps_cell unit cell (s.cells cell) never) s site refl
     (other_cell s.cells (site_mark site) cell (Some (truth_datum (site_test unit (seen_in unit s) site))) (told_apart is_mark cell (site_mark site) no_mark refl))
 
 -- A settling leaves it.
-pub settling_leaves : (unit : Course) (s : RunState) (x : Settlement) (cell : CellName) → is_written cell ≡ false → is_mark cell ≡ false
+pub settling_leaves : (unit : Unit) (s : RunState) (x : Settlement) (cell : CellName) → is_written cell ≡ false → is_mark cell ≡ false
     → run_settling unit s ≡ Some x → x.state.cells cell ≡ s.cells cell
 settling_leaves unit s x cell never no_mark is =
     settling_keeps unit (λ t. t.cells cell ≡ s.cells cell) (λ t site fired holds. firing_leaves unit t site cell never no_mark ∙ holds) s x is refl
 
 -- When the run was started, and when an activity was first opened.
-pub settling_leaves_start : (unit : Course) (s : RunState) (x : Settlement) → run_settling unit s ≡ Some x → x.state.cells Started ≡ s.cells Started
+pub settling_leaves_start : (unit : Unit) (s : RunState) (x : Settlement) → run_settling unit s ≡ Some x → x.state.cells Started ≡ s.cells Started
 settling_leaves_start unit s x is = settling_leaves unit s x Started refl refl is
 
-pub settling_leaves_opening : (unit : Course) (s : RunState) (x : Settlement) (thing : ℕ) (owner : Owner) → run_settling unit s ≡ Some x
+pub settling_leaves_opening : (unit : Unit) (s : RunState) (x : Settlement) (thing : ℕ) (owner : Owner) → run_settling unit s ≡ Some x
     → x.state.cells (opened_cell thing owner) ≡ s.cells (opened_cell thing owner)
 settling_leaves_opening unit s x thing owner is = settling_leaves unit s x (opened_cell thing owner) refl refl is

@@ -14,7 +14,7 @@ use Rattle.ld_model.specs.declared.completion.Change.{Change as ChangeOf}
 use Rattle.ld_model.specs.declared.condition.Action.{Action}
 use Rattle.ld_model.specs.declared.condition.Action.TheVariants.{Show, Hide, Change, Notify}
 use Rattle.ld_model.specs.declared.method.Act.{Act as ActOf}
-use Rattle.ld_model.specs.declared.unit.Unit.{Unit as Course}
+use Rattle.ld_model.specs.declared.unit.Unit.{Unit}
 use Rattle.ld_walk.specs.declared.place.Place.TheVariants.{Act}
 use Rattle.ld_names.specs.declared.rule.Rule.{Rule}
 use Rattle.ld_names.specs.declared.rule.Rule.TheVariants.{CompletesActivity, CompletesStructure, OpensAct, CompletesPart, CompletesAct, CompletesPlay, CompletesUnit, JudgesCondition}
@@ -58,7 +58,7 @@ change_keeps thing doing (Some cell) None owned = refl
 change_keeps thing doing (Some cell) (Some value) owned =
     other_cell doing.state.cells cell (act_opened_cell thing) (Some value) (told_apart is_property (act_opened_cell thing) cell refl (owned cell refl))
 
-change_for_keeps : (unit : Course) (thing : ℕ) (change : ChangeOf) (doing : Doing) (owner : Owner) → opening_in thing (change_for unit change doing owner) ≡ opening_in thing doing
+change_for_keeps : (unit : Unit) (thing : ℕ) (change : ChangeOf) (doing : Doing) (owner : Owner) → opening_in thing (change_for unit change doing owner) ≡ opening_in thing doing
 change_for_keeps unit thing change doing owner =
     change_keeps thing doing (cell_of_property unit owner change.property)
     (term_value unit (seen_in unit doing.state) owner change.value >>= if_fitting unit change.property)
@@ -68,28 +68,28 @@ visible_keeps : (thing p : ℕ) (visible : Bool) (doing : Doing) (shown : Option
 visible_keeps thing p visible doing None = refl
 visible_keeps thing p visible doing (Some shown) = refl
 
-set_visible_keeps : (unit : Course) (thing : ℕ) (owner : Owner) (visible : Bool) (doing : Doing) (id : List ℕ) → opening_in thing (set_visible unit owner visible doing id) ≡ opening_in thing doing
+set_visible_keeps : (unit : Unit) (thing : ℕ) (owner : Owner) (visible : Bool) (doing : Doing) (id : List ℕ) → opening_in thing (set_visible unit owner visible doing id) ≡ opening_in thing doing
 set_visible_keeps unit thing Run visible doing id = refl
 set_visible_keeps unit thing (Person p) visible doing id = visible_keeps thing p.0 visible doing (thing_number unit id)
 
-action_keeps : (unit : Course) (thing : ℕ) (owner : Owner) (doing : Doing) (action : Action) → opening_in thing (do_action unit owner doing action) ≡ opening_in thing doing
+action_keeps : (unit : Unit) (thing : ℕ) (owner : Owner) (doing : Doing) (action : Action) → opening_in thing (do_action unit owner doing action) ≡ opening_in thing doing
 action_keeps unit thing owner doing (Show things) = fold_keeps (opening_in thing) (set_visible unit owner true) (set_visible_keeps unit thing owner true) doing things
 action_keeps unit thing owner doing (Hide things) = fold_keeps (opening_in thing) (set_visible unit owner false) (set_visible_keeps unit thing owner false) doing things
 action_keeps unit thing owner doing (Change change) = fold_keeps (opening_in thing) (change_for unit change) (change_for_keeps unit thing change) doing (targets_of unit doing.state owner change)
 action_keeps unit thing owner doing (Notify notice) = refl
 
-abbrev marked : Course → RunState → Site → Doing
+abbrev marked : Unit → RunState → Site → Doing
 marked unit s site = with_write (nothing_done s) (site_mark site) (Some (truth_datum (site_test unit (seen_in unit s) site)))
 
 -- But for what the rule opens, no opening changes.
-pub firing_opening : (unit : Course) (s : RunState) (site : Site) (rule : Rule) (thing : ℕ) → rule_of unit site ≡ Some rule
+pub firing_opening : (unit : Unit) (s : RunState) (site : Site) (rule : Rule) (thing : ℕ) → rule_of unit site ≡ Some rule
     → (site_firing unit s site).state.cells (act_opened_cell thing) ≡ opening_in thing (with_opening (marked unit s site) (opened_by unit rule))
 unfolding site_firing
 firing_opening unit s site rule thing ruled =
     ap (λ (found : Option Rule). opening_in thing (elim found as (λ _. Doing) [ None ↦ nothing_done s | Some one ↦ firing_by unit s site one ])) ruled
     ∙ fold_keeps (opening_in thing) (do_action unit site.owner) (action_keeps unit thing site.owner) (with_opening (marked unit s site) (opened_by unit rule)) (actions_of unit rule (site_test unit (seen_in unit s) site))
 
-opened_before_or_now : (unit : Course) (s : RunState) (site : Site) (thing : ℕ) (o : Option ℕ) → is_some (opening_in thing (with_opening (marked unit s site) o)) ≡ true
+opened_before_or_now : (unit : Unit) (s : RunState) (site : Site) (thing : ℕ) (o : Option ℕ) → is_some (opening_in thing (with_opening (marked unit s site) o)) ≡ true
     → (is_some (s.cells (act_opened_cell thing)) ≡ true) ⊎ (o ≡ Some thing)
 opened_before_or_now unit s site thing None there = inl there
 opened_before_or_now unit s site thing (Some other) there = by (nat_eq thing other) refl there
@@ -100,7 +100,7 @@ opened_before_or_now unit s site thing (Some other) there = by (nat_eq thing oth
     by false apart there = inl there
 
 -- The rule opens the act at this place, which is this thing.
-record Opens (unit : Course) (rule : Rule) (thing : ℕ) : Type 0 where
+record Opens (unit : Unit) (rule : Rule) (thing : ℕ) : Type 0 where
   p : ℕ
   a : ℕ
   act : ActOf
@@ -108,7 +108,7 @@ record Opens (unit : Course) (rule : Rule) (thing : ℕ) : Type 0 where
   at : act_at unit p a ≡ Some act
   number : thing_number unit act.identifier ≡ Some thing
 
-opens_by : (unit : Course) (rule : Rule) (thing : ℕ) → opened_by unit rule ≡ Some thing → Opens unit rule thing
+opens_by : (unit : Unit) (rule : Rule) (thing : ℕ) → opened_by unit rule ≡ Some thing → Opens unit rule thing
 opens_by unit (OpensAct p a) thing is = by (act_at unit p a) refl is
   where
     by : (found : Option ActOf) → act_at unit p a ≡ found → (found >>= λ act. thing_number unit act.identifier) ≡ Some thing → Opens unit (OpensAct p a) thing
@@ -126,7 +126,7 @@ one_place : (p a q b : ℕ) → Act p a ≡ Act q b → (p ≡ q) × (a ≡ b)
 one_place p a q b same = (cc, cc)
 
 -- Two acts of one number are one.
-same_act : (unit : Course) (meets : MeetsChecks unit) (p a q b thing : ℕ) (one other : ActOf) → act_at unit p a ≡ Some one → act_at unit q b ≡ Some other
+same_act : (unit : Unit) (meets : MeetsChecks unit) (p a q b thing : ℕ) (one other : ActOf) → act_at unit p a ≡ Some one → act_at unit q b ≡ Some other
     → thing_number unit one.identifier ≡ Some thing → thing_number unit other.identifier ≡ Some thing → (p ≡ q) × (a ≡ b)
 same_act unit meets p a q b thing one other at at_other number number_other =
     let first = act_is unit meets p a one (act_of unit p a one at) in
@@ -146,7 +146,7 @@ due_opens true opening is = different (sym is)
 due_opens false true is = refl
 due_opens false false is = different (sym is)
 
-test_is : (unit : Course) (s : RunState) (site : Site) (p n : ℕ) (said : Bool) → rule_of unit site ≡ Some (OpensAct p n) → site.owner ≡ Run
+test_is : (unit : Unit) (s : RunState) (site : Site) (p n : ℕ) (said : Bool) → rule_of unit site ≡ Some (OpensAct p n) → site.owner ≡ Run
     → s.cells (site_mark site) ≡ Some (truth_datum said) → site_test unit (seen_in unit s) site ≡ (said || opening_test unit (seen_in unit s) p n)
 unfolding site_test cell_of
 test_is unit s site p n said ruled run mark =
@@ -154,7 +154,7 @@ test_is unit s site p n said ruled run mark =
     ∙ ap₂ (λ v owner. says_yes v || rule_test unit (seen_in unit s) owner (OpensAct p n)) mark run
 
 -- A site that is due and opens the act after another finds that one done.
-before_is_done : (unit : Course) (s : RunState) (site : Site) (p a : ℕ) (before : ActOf) → OpeningsAreJudged unit s → rule_of unit site ≡ Some (OpensAct p (suc a))
+before_is_done : (unit : Unit) (s : RunState) (site : Site) (p a : ℕ) (before : ActOf) → OpeningsAreJudged unit s → rule_of unit site ≡ Some (OpensAct p (suc a))
     → IsFired unit s site → act_at unit p a ≡ Some before → is_done unit (seen_in unit s) Run before.identifier ≡ true
 before_is_done unit s site p a before judged ruled fired at =
     let one = some_same (sym fired.ruled ∙ ruled) in
@@ -167,11 +167,11 @@ before_is_done unit s site p a before judged ruled fired at =
 
 -- ---- what a firing keeps
 
-opened_is : (unit : Course) (s : RunState) (act : ActOf) (thing : ℕ) → thing_number unit act.identifier ≡ Some thing → is_opened unit (seen_in unit s) act ≡ is_some (s.cells (act_opened_cell thing))
+opened_is : (unit : Unit) (s : RunState) (act : ActOf) (thing : ℕ) → thing_number unit act.identifier ≡ Some thing → is_opened unit (seen_in unit s) act ≡ is_some (s.cells (act_opened_cell thing))
 unfolding cell_of
 opened_is unit s act thing number = ap (λ o. is_some (option_map act_opened_cell o >>= cell_of unit s)) number
 
-judged_after : (unit : Course) (s : RunState) (site : Site) → IsFired unit s site → OpeningsAreJudged unit s → OpeningsAreJudged unit (site_firing unit s site).state
+judged_after : (unit : Unit) (s : RunState) (site : Site) → IsFired unit s site → OpeningsAreJudged unit s → OpeningsAreJudged unit (site_firing unit s site).state
 judged_after unit s site fired judged rule p a ruled = by (same_cell (mark_cell rule Run) (site_mark site)) refl
   where
     is : (site_firing unit s site).state.cells (mark_cell rule Run) ≡ cond (same_cell (mark_cell rule Run) (site_mark site)) (Some (truth_datum (site_test unit (seen_in unit s) site))) (s.cells (mark_cell rule Run))
@@ -183,7 +183,7 @@ judged_after unit s site fired judged rule p a ruled = by (same_cell (mark_cell 
         let before = judged rule p a ruled in
         (before.0, is ∙ ap (λ b. cond b (Some (truth_datum (site_test unit (seen_in unit s) site))) (s.cells (mark_cell rule Run))) other ∙ before.1)
 
-ordered_after : (unit : Course) → MeetsChecks unit → (s : RunState) (site : Site) → IsFired unit s site → IsInOrder unit s → ActsOpenInOrder unit (site_firing unit s site).state
+ordered_after : (unit : Unit) → MeetsChecks unit → (s : RunState) (site : Site) → IsFired unit s site → IsInOrder unit s → ActsOpenInOrder unit (site_firing unit s site).state
 ordered_after unit meets s site fired order p a before act at next opened =
     firing_leaves_done unit s site Run before.identifier
     (by (opened_before_or_now unit s site thing.number (opened_by unit fired.rule) now_open))
@@ -206,12 +206,12 @@ ordered_after unit meets s site fired order p a before act at next opened =
         (fired.ruled ∙ ap Some (opens.is ∙ ap₂ OpensAct same.0 same.1)) fired at
 
 -- Acts open in order in each firing of a site that is due.
-pub firing_in_order : (unit : Course) → IsValid unit → FiringsKeep unit (IsInOrder unit)
+pub firing_in_order : (unit : Unit) → IsValid unit → FiringsKeep unit (IsInOrder unit)
 firing_in_order unit valid s site fired order = record {
   judged = judged_after unit s site fired order.judged;
   ordered = ordered_after unit (checks_met unit valid) s site fired order;
 }
 
 -- They do in each settling.
-pub settling_in_order : (unit : Course) → IsValid unit → (s : RunState) (x : Settlement) → run_settling unit s ≡ Some x → IsInOrder unit s → IsInOrder unit x.state
+pub settling_in_order : (unit : Unit) → IsValid unit → (s : RunState) (x : Settlement) → run_settling unit s ≡ Some x → IsInOrder unit s → IsInOrder unit x.state
 settling_in_order unit valid s x is order = settling_keeps unit (IsInOrder unit) (firing_in_order unit valid) s x is order

@@ -9,7 +9,7 @@ use Rattle.ld_model.specs.declared.cell.Owner.TheVariants.{Run}
 use Rattle.ld_model.specs.declared.completion.Completion.{Completion}
 use Rattle.ld_model.specs.declared.completion.Completion.TheVariants.{UserChoice, TimeLimit, WhenPropertyValueIsSet, WhenRolePartCompleted, WhenConditionTrue, WhenLastActCompleted, WhenPlayCompleted}
 use Rattle.ld_model.specs.declared.completion.OnCompletion.{OnCompletion}
-use Rattle.ld_model.specs.declared.unit.Unit.{Unit as Course}
+use Rattle.ld_model.specs.declared.unit.Unit.{Unit}
 use Rattle.ld_walk.specs.CommonParts.{references_parts}
 use Rattle.ld_walk.specs.ExpressionParts.{list_operator_word, pair_operator_word, comparison_word, term_parts, terms_parts, within_members, test_parts, tests_parts}
 use Rattle.ld_walk.specs.Places.{At, member, nth, item_at}
@@ -41,17 +41,17 @@ pub data IsSpeaker (persons : ℕ) : Bool → Owner → Type 0 where
   one_speaks : (p : ℕ) → p < persons → IsSpeaker persons false (of_person p)
 
 -- The cells that a completion rule speaks of are there, and the last act is one.
-pub record IsReady (unit : Course) (persons : ℕ) (by_run : Bool) (c : Completing) : Type 0 where
+pub record IsReady (unit : Unit) (persons : ℕ) (by_run : Bool) (c : Completing) : Type 0 where
   pub speaker : IsSpeaker persons by_run c.owner
   pub chosen : AreCells unit persons (cell_list c.chosen)
   pub start : AreCells unit persons (cell_list c.start)
   pub last : AreCells unit persons (list_from (done_looks unit Run) c.last_act)
 
-pub no_cells : (unit : Course) (persons : ℕ) → AreCells unit persons []
+pub no_cells : (unit : Unit) (persons : ℕ) → AreCells unit persons []
 no_cells unit persons c inside = absurd inside
 
 -- The cell of a thing that is named.
-pub cell_of_thing : (unit : Course) (persons : ℕ) (id : List ℕ) (place : Place) (cell : ℕ → CellName) (thing : IsThing unit id place)
+pub cell_of_thing : (unit : Unit) (persons : ℕ) (id : List ℕ) (place : Place) (cell : ℕ → CellName) (thing : IsThing unit id place)
     → IsIn (all_cells unit persons) (cell thing.number)
     → AreCells unit persons (cell_list (option_map cell (thing_number unit id)))
 cell_of_thing unit persons id place cell thing inside =
@@ -59,7 +59,7 @@ cell_of_thing unit persons id place cell thing inside =
     (sym (thing_number_is unit id place thing))
     (one_is_cell unit persons (cell thing.number) inside)
 
-looks_of_thing : (unit : Course) (persons : ℕ) (id : List ℕ) (place : Place) (cell : ℕ → CellName) (thing : IsThing unit id place)
+looks_of_thing : (unit : Unit) (persons : ℕ) (id : List ℕ) (place : Place) (cell : ℕ → CellName) (thing : IsThing unit id place)
     → IsIn (all_cells unit persons) (cell thing.number)
     → AreCells unit persons (list_from (λ n. cell n ∷ []) (thing_number unit id))
 looks_of_thing unit persons id place cell thing inside =
@@ -67,7 +67,7 @@ looks_of_thing unit persons id place cell thing inside =
     (sym (thing_number_is unit id place thing))
     (one_is_cell unit persons (cell thing.number) inside)
 
-module _ (unit : Course) (persons p : ℕ) (below : p < persons) where
+module _ (unit : Unit) (persons p : ℕ) (below : p < persons) where
   opened_looks_there : (id : List ℕ) → IsAllowed unit wanted.Activity id
       → AreCells unit persons (list_from (λ thing. opened_cell thing (of_person p) ∷ []) (thing_number unit id))
   opened_looks_there id allowed =
@@ -106,7 +106,7 @@ module _ (unit : Course) (persons p : ℕ) (below : p < persons) where
         (term_there (item_at at n) m false term (met_left unit first second met))
         (terms_there at m (n + 1) terms (met_right unit first second met))
 
-module _ (unit : Course) (seen : Seen) where
+module _ (unit : Unit) (seen : Seen) where
   -- Members are persons of the run.
   member_below : (role : List ℕ) (p : ℕ) → IsIn (members_of unit seen role) p → p < seen.persons
   member_below role p inside = by (role_number unit role) inside

@@ -8,7 +8,7 @@ use Rattle.std.proofs.lemmas.Option.{slice_get_read}
 use Rattle.std.specs.List.{list_any, sum_by}
 use Rattle.ld_base.specs.Numbers.{numbers_below}
 use Rattle.ld_model.specs.declared.cell.CellName.{CellName}
-use Rattle.ld_model.specs.declared.unit.Unit.{Unit as Course}
+use Rattle.ld_model.specs.declared.unit.Unit.{Unit}
 use Rattle.ld_expr.proofs.Having.{has_front, has_back}
 use Rattle.ld_expr.proofs.Totals.{from_here}
 use Rattle.ld_expr.specs.Viewing.{HasCells}
@@ -137,6 +137,6 @@ any_here test xs i x within is passes so_far =
     sym (ap (list_any test) (from_here xs i x within is) ∙ ap (λ b. b || list_any test (drop (i + 1) xs)) passes) ∙ so_far
 
 -- All numbers below another.
-pub does_below : {unit : Course} {p q : Progress} (does : List ℕ → Doing → Doing) (n m : ℕ) → n ≡ m
+pub does_below : {unit : Unit} {p q : Progress} (does : List ℕ → Doing → Doing) (n m : ℕ) → n ≡ m
     → Does unit p q (does (numbers_below n)) → Does unit p q (does (numbers_below m))
 does_below {unit = unit} {p = p} {q = q} does n m same all = subst (λ k. Does unit p q (does (numbers_below k))) same all

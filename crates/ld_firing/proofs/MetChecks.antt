@@ -9,7 +9,7 @@ use Rattle.ld_model.specs.declared.activity.Activity.{Activity as ActivityOf}
 use Rattle.ld_model.specs.declared.condition.Condition.{Condition}
 use Rattle.ld_model.specs.declared.method.Act.{Act as ActOf}
 use Rattle.ld_model.specs.declared.method.Play.{Play as PlayOf}
-use Rattle.ld_model.specs.declared.unit.Unit.{Unit as Course}
+use Rattle.ld_model.specs.declared.unit.Unit.{Unit}
 use Rattle.ld_model.specs.Counting.{each_numbered}
 use Rattle.ld_model.specs.Roles.{roles_of}
 use Rattle.ld_walk.specs.CommonParts.{items_parts}
@@ -38,33 +38,33 @@ use Rattle.ld_state.proofs.Elements.{IsIn, in_left, in_right, in_flat_map, in_ea
 use Rattle.ld_firing.proofs.Named.{IsThing, is_run_place}
 
 -- No check of references or of types finds a fault in the part.
-pub record IsMet (unit : Course) (part : Part) : Type 0 where
+pub record IsMet (unit : Unit) (part : Part) : Type 0 where
   pub targets : targets_in (names_of unit) part.at part.what ≡ []
   pub types : types_in (property_named unit (names_of unit)) part.at part.what ≡ []
 
-abbrev pub AreMet : Course → List Part → Type 0
+abbrev pub AreMet : Unit → List Part → Type 0
 AreMet unit parts = (part : Part) → IsIn parts part → IsMet unit part
 
-pub met_left : (unit : Course) (xs ys : List Part) → AreMet unit (xs ++ ys) → AreMet unit xs
+pub met_left : (unit : Unit) (xs ys : List Part) → AreMet unit (xs ++ ys) → AreMet unit xs
 met_left unit xs ys met part inside = met part (in_left xs ys part inside)
 
-pub met_right : (unit : Course) (xs ys : List Part) → AreMet unit (xs ++ ys) → AreMet unit ys
+pub met_right : (unit : Unit) (xs ys : List Part) → AreMet unit (xs ++ ys) → AreMet unit ys
 met_right unit xs ys met part inside = met part (in_right xs ys part inside)
 
 -- What is true of a unit in which no check finds a fault.
-pub record MeetsChecks (unit : Course) : Type 0 where
+pub record MeetsChecks (unit : Unit) : Type 0 where
   pub distinct : HasDistinctIdentifiers unit
   pub met : AreMet unit (parts_of unit)
 
 -- ---- references
 
 -- The identifier names something of a kind that this reference may name.
-pub record IsAllowed (unit : Course) (wanted : Wanted) (id : List ℕ) : Type 0 where
+pub record IsAllowed (unit : Unit) (wanted : Wanted) (id : List ℕ) : Type 0 where
   pub kind : Kind
   pub is : kind_by (names_of unit) id ≡ Some kind
   pub allowed : allows wanted kind ≡ true
 
-pub allowed_by : (unit : Course) (wanted : Wanted) (at : At) (id : List ℕ)
+pub allowed_by : (unit : Unit) (wanted : Wanted) (at : At) (id : List ℕ)
     → target_fault (names_of unit) wanted at id ≡ [] → IsAllowed unit wanted id
 allowed_by unit wanted at id none = by (kind_by (names_of unit) id) refl none
   where
@@ -81,7 +81,7 @@ allowed_by unit wanted at id none = by (kind_by (names_of unit) id) refl none
 same_place : {a b : Place} → kind.Thing a ≡ kind.Thing b → a ≡ b
 same_place p = cc
 
-pub thing_of_kind : (unit : Course) (id : List ℕ) (place : Place)
+pub thing_of_kind : (unit : Unit) (id : List ℕ) (place : Place)
     → kind_by (names_of unit) id ≡ Some (kind.Thing place) → IsThing unit id place
 thing_of_kind unit id place is = by (named_by (names_of unit) id) refl is
   where
@@ -103,12 +103,12 @@ thing_of_kind unit id place is = by (named_by (names_of unit) id) refl is
         (sym (ap (option_map kind.Thing) (slice_get-map (λ (one : Entry). one.place) (things_of unit) t.0)) ∙ is)
 
 -- A thing at a place that passes a test.
-pub record NamesSuch (unit : Course) (test : Place → Bool) (id : List ℕ) : Type 0 where
+pub record NamesSuch (unit : Unit) (test : Place → Bool) (id : List ℕ) : Type 0 where
   pub place : Place
   pub thing : IsThing unit id place
   pub such : test place ≡ true
 
-pub activity_allowed : (unit : Course) (id : List ℕ) → IsAllowed unit wanted.Activity id
+pub activity_allowed : (unit : Unit) (id : List ℕ) → IsAllowed unit wanted.Activity id
     → NamesSuch unit is_activity_place id
 activity_allowed unit id allowed = by allowed.kind allowed.is allowed.allowed
   where
@@ -117,7 +117,7 @@ activity_allowed unit id allowed = by allowed.kind allowed.is allowed.allowed
     by (kind.Thing (Activity a)) is fits = record { place = Activity a; thing = thing_of_kind unit id (Activity a) is; such = refl }
     by _ is fits = different (sym fits)
 
-pub play_allowed : (unit : Course) (id : List ℕ) → IsAllowed unit wanted.Play id
+pub play_allowed : (unit : Unit) (id : List ℕ) → IsAllowed unit wanted.Play id
     → NamesSuch unit is_run_place id
 play_allowed unit id allowed = by allowed.kind allowed.is allowed.allowed
   where
@@ -126,7 +126,7 @@ play_allowed unit id allowed = by allowed.kind allowed.is allowed.allowed
     by (kind.Thing (Play p)) is fits = record { place = Play p; thing = thing_of_kind unit id (Play p) is; such = refl }
     by _ is fits = different (sym fits)
 
-pub part_allowed : (unit : Course) (p a : ℕ) (id : List ℕ) → IsAllowed unit (wanted.PartOf p a) id
+pub part_allowed : (unit : Unit) (p a : ℕ) (id : List ℕ) → IsAllowed unit (wanted.PartOf p a) id
     → NamesSuch unit is_run_place id
 part_allowed unit p a id allowed = by allowed.kind allowed.is allowed.allowed
   where
@@ -137,7 +137,7 @@ part_allowed unit p a id allowed = by allowed.kind allowed.is allowed.allowed
 
 -- ---- what is declared
 
-named_thing : (unit : Course) (id : List ℕ) (t : ℕ) → thing_number unit id ≡ Some t
+named_thing : (unit : Unit) (id : List ℕ) (t : ℕ) → thing_number unit id ≡ Some t
     → named_by (names_of unit) id ≡ Some (Thing (record { 0 = t }))
 named_thing unit id t is = by (named_by (names_of unit) id) is
   where
@@ -149,7 +149,7 @@ named_thing unit id t is = by (named_by (names_of unit) id) is
     by (Some (Thing n)) is = ap (λ m. Some (Thing (record { 0 = m }))) (some_same is)
 
 -- Where identifiers differ, each thing's own names it.
-pub declared_thing : (unit : Course) → HasDistinctIdentifiers unit
+pub declared_thing : (unit : Unit) → HasDistinctIdentifiers unit
     → (part : Part) (place : Place) (id : List ℕ) (visible : Option Bool)
     → part.what ≡ Declares (kind.Thing place) id visible → IsIn (parts_of unit) part → IsThing unit id place
 declared_thing unit distinct part place id visible is inside =
@@ -160,7 +160,7 @@ declared_thing unit distinct part place id visible is inside =
 
 -- ---- where the parts of an object stand in the list
 
-pub activity_listed : (unit : Course) (n : ℕ) (activity : ActivityOf) (part : Part)
+pub activity_listed : (unit : Unit) (n : ℕ) (activity : ActivityOf) (part : Part)
     → slice_get unit.activities n ≡ Some activity → IsIn (activity_parts (root file.Activities) n activity) part
     → IsIn (parts_of unit) part
 unfolding parts_of middle_parts
@@ -172,7 +172,7 @@ activity_listed unit n activity part at inside =
     (in_left (each_numbered (activity_parts (root file.Activities)) unit.activities) _ part
     (in_each (activity_parts (root file.Activities)) unit.activities n activity part at inside)))))
 
-pub condition_listed : (unit : Course) (n : ℕ) (condition : Condition) (part : Part)
+pub condition_listed : (unit : Unit) (n : ℕ) (condition : Condition) (part : Part)
     → slice_get unit.conditions n ≡ Some condition
     → IsIn (condition_parts (root file.Conditions) n condition) part → IsIn (parts_of unit) part
 unfolding parts_of
@@ -182,7 +182,7 @@ condition_listed unit n condition part at inside =
     (in_right (unit_parts unit) _ part
     (in_each (condition_parts (root file.Conditions)) unit.conditions n condition part at inside)))
 
-pub method_listed : (unit : Course) (part : Part) → IsIn (method_parts unit.method) part
+pub method_listed : (unit : Unit) (part : Part) → IsIn (method_parts unit.method) part
     → IsIn (parts_of unit) part
 unfolding parts_of unit_parts
 method_listed unit part inside =
@@ -193,7 +193,7 @@ method_listed unit part inside =
     (in_right (items_parts (root file.Unit) (codes "prerequisites") unit.prerequisites)
     (method_parts unit.method) part inside)))))
 
-pub play_listed : (unit : Course) (p : ℕ) (play : PlayOf) (part : Part)
+pub play_listed : (unit : Unit) (p : ℕ) (play : PlayOf) (part : Part)
     → slice_get unit.method.plays p ≡ Some play → IsIn (play_parts method_at p play) part
     → IsIn (parts_of unit) part
 unfolding method_parts
@@ -202,7 +202,7 @@ play_listed unit p play part at inside =
     (in_left (each_numbered (play_parts method_at) unit.method.plays) _ part
     (in_each (play_parts method_at) unit.method.plays p play part at inside))
 
-pub act_listed : (unit : Course) (p a : ℕ) (play : PlayOf) (act : ActOf) (part : Part)
+pub act_listed : (unit : Unit) (p a : ℕ) (play : PlayOf) (act : ActOf) (part : Part)
     → slice_get unit.method.plays p ≡ Some play → slice_get play.acts a ≡ Some act
     → IsIn (act_parts (nth method_at (codes "plays") p) p a act) part → IsIn (parts_of unit) part
 unfolding play_parts_at
@@ -213,7 +213,7 @@ act_listed unit p a play act part at within inside =
 
 -- ---- types
 
-pub of_run : (unit : Course) (at : At) (id : List ℕ)
+pub of_run : (unit : Unit) (at : At) (id : List ℕ)
     → types_in (property_named unit (names_of unit)) at (Types (OfRun id)) ≡ []
     → is_person's (property_named unit (names_of unit) id) ≡ false
 of_run unit at id none = by (is_person's (property_named unit (names_of unit) id)) none

@@ -9,7 +9,7 @@ use Rattle.ld_model.specs.declared.cell.CellName.{CellName}
 use Rattle.ld_model.specs.declared.cell.Owner.{Owner}
 use Rattle.ld_model.specs.declared.cell.Owner.TheVariants.{Run}
 use Rattle.ld_model.specs.declared.property.Property.{Property}
-use Rattle.ld_model.specs.declared.unit.Unit.{Unit as Course}
+use Rattle.ld_model.specs.declared.unit.Unit.{Unit}
 use Rattle.ld_walk.specs.declared.place.Place.{Place}
 use Rattle.ld_walk.specs.declared.place.Place.TheVariants.{Play, Act, RolePart, Activity, Structure, Environment, Object, Service, Item}
 use Rattle.ld_names.specs.declared.names.Named.{Named}
@@ -33,14 +33,14 @@ use Rattle.ld_rules.proofs.RoleNumbers.{role_below}
 use Rattle.ld_firing.proofs.Sites.{IsOwner, a_person, the_run}
 
 -- The identifier names what stands at the place.
-pub record IsThing (unit : Course) (id : List ℕ) (place : Place) : Type 0 where
+pub record IsThing (unit : Unit) (id : List ℕ) (place : Place) : Type 0 where
   pub number : ℕ
   pub named : named_by (names_of unit) id ≡ Some (Thing (record { 0 = number }))
   pub entry : Entry
   pub at : slice_get (things_of unit) number ≡ Some entry
   pub placed : entry.place ≡ place
 
-pub thing_number_is : (unit : Course) (id : List ℕ) (place : Place) (thing : IsThing unit id place)
+pub thing_number_is : (unit : Unit) (id : List ℕ) (place : Place) (thing : IsThing unit id place)
     → thing_number unit id ≡ Some thing.number
 thing_number_is unit id place thing = ap thing_among thing.named
 
@@ -58,12 +58,12 @@ same_kind (JudgesCondition _) (JudgesCondition _) is = refl
 same_kind _ _ is = absurd (cc)
 
 -- The rule of this number, and that it is one of the kind of another.
-pub record HasRule (unit : Course) (n : ℕ) (persons : Bool) : Type 0 where
+pub record HasRule (unit : Unit) (n : ℕ) (persons : Bool) : Type 0 where
   pub rule : Rule
   pub at : slice_get (rules_of unit) n ≡ Some rule
   pub kind : is_for_persons (kind_of rule) ≡ persons
 
-rule_there : (unit : Course) (rule : Rule) (n : ℕ) → number_where (same_rule rule) (rules_of unit) ≡ Some n
+rule_there : (unit : Unit) (rule : Rule) (n : ℕ) → number_where (same_rule rule) (rules_of unit) ≡ Some n
     → HasRule unit n (is_for_persons (kind_of rule))
 rule_there unit rule n found =
     let by = found_by (same_rule rule) (rules_of unit) 0 n found in
@@ -71,14 +71,14 @@ rule_there unit rule n found =
     record { rule = by.element; at = ap (slice_get (rules_of unit)) (sym same) ∙ by.at; kind = ap is_for_persons (sym (same_kind rule by.element by.passes)) }
 
 -- A rule of some kind.
-pub record HasSomeRule (unit : Course) (n : ℕ) : Type 0 where
+pub record HasSomeRule (unit : Unit) (n : ℕ) : Type 0 where
   pub persons : Bool
   pub has : HasRule unit n persons
 
-some_rule : {unit : Course} {n : ℕ} → (persons : Bool) → HasRule unit n persons → HasSomeRule unit n
+some_rule : {unit : Unit} {n : ℕ} → (persons : Bool) → HasRule unit n persons → HasSomeRule unit n
 some_rule persons has = record { persons = persons; has = has }
 
-rule_at_place : (unit : Course) (place : Place) (n : ℕ) → number_at (rules_of unit) place ≡ Some n
+rule_at_place : (unit : Unit) (place : Place) (n : ℕ) → number_at (rules_of unit) place ≡ Some n
     → HasSomeRule unit n
 rule_at_place unit place n is = by (completing_rule place) is
   where
@@ -88,13 +88,13 @@ rule_at_place unit place n is = by (completing_rule place) is
     by None is = none_is_some is
     by (Some rule) is = some_rule (is_for_persons (kind_of rule)) (rule_there unit rule n is)
 
-pub rules_by_thing : (unit : Course) (t : ℕ)
+pub rules_by_thing : (unit : Unit) (t : ℕ)
     → rule_among (names_of unit).rules t ≡ option_and_then (λ rule. rule) (option_map (λ (entry : Entry). number_at (rules_of unit) entry.place) (slice_get (things_of unit) t))
 rules_by_thing unit t =
     ap (option_and_then (λ rule. rule)) (slice_get-map (λ (entry : Entry). number_at (rules_of unit) entry.place)
     (things_of unit) t)
 
-pub completing_rule_there : (unit : Course) (id : List ℕ) (n : ℕ) → completing_number unit id ≡ Some n
+pub completing_rule_there : (unit : Unit) (id : List ℕ) (n : ℕ) → completing_number unit id ≡ Some n
     → HasSomeRule unit n
 completing_rule_there unit id n is = by (named_by (names_of unit) id) is
   where
@@ -123,14 +123,14 @@ is_run_place (Object _ _) = false
 is_run_place (Service _ _) = false
 is_run_place Item = false
 
-run_rule_at : (unit : Course) (place : Place) (n : ℕ) → is_run_place place ≡ true
+run_rule_at : (unit : Unit) (place : Place) (n : ℕ) → is_run_place place ≡ true
     → number_at (rules_of unit) place ≡ Some n → HasRule unit n false
 run_rule_at unit (Play p) n run is = rule_there unit (CompletesPlay p) n is
 run_rule_at unit (Act p a) n run is = rule_there unit (CompletesAct p a) n is
 run_rule_at unit (RolePart p a r) n run is = rule_there unit (CompletesPart p a r) n is
 run_rule_at unit _ n run is = different (sym run)
 
-completing_is : (unit : Course) (id : List ℕ) (place : Place) → IsThing unit id place
+completing_is : (unit : Unit) (id : List ℕ) (place : Place) → IsThing unit id place
     → completing_number unit id ≡ number_at (rules_of unit) place
 completing_is unit id place thing =
     ap (λ named. named >>= rule_named (names_of unit)) thing.named
@@ -145,7 +145,7 @@ pub owner_there : (persons p : ℕ) (own : Bool) → p < persons → IsOwner per
 owner_there persons p true below = a_person p below
 owner_there persons p false below = the_run
 
-mark_for_there : (unit : Course) (persons n : ℕ) (owner : Owner) (own : Bool) (has : HasRule unit n own)
+mark_for_there : (unit : Unit) (persons n : ℕ) (owner : Owner) (own : Bool) (has : HasRule unit n own)
     → IsOwner persons own (owner_of own owner) → IsIn (all_cells unit persons) (mark_for unit owner n)
 mark_for_there unit persons n owner own has owned =
     let is : is_person_rule unit n ≡ own = ap (λ rule. is_some_and (λ one. is_for_persons (kind_of one)) rule) has.at ∙ has.kind in
@@ -153,13 +153,13 @@ mark_for_there unit persons n owner own has owned =
     (mark_there unit persons n has.rule (owner_of own owner) has.at own has.kind owned)
 
 -- All cells that a number gives, if there is one.
-pub cells_of_number : (unit : Course) (persons : ℕ) (cells : ℕ → List CellName) (number : Option ℕ)
+pub cells_of_number : (unit : Unit) (persons : ℕ) (cells : ℕ → List CellName) (number : Option ℕ)
     → ((n : ℕ) → number ≡ Some n → AreCells unit persons (cells n))
     → AreCells unit persons (list_from cells number)
 cells_of_number unit persons cells None each c inside = absurd inside
 cells_of_number unit persons cells (Some n) each c inside = each n refl c inside
 
-pub done_there : (unit : Course) (persons p : ℕ) (id : List ℕ) → p < persons
+pub done_there : (unit : Unit) (persons p : ℕ) (id : List ℕ) → p < persons
     → AreCells unit persons (done_looks unit (of_person p) id)
 done_there unit persons p id below =
     cells_of_number unit persons (λ n. mark_for unit (of_person p) n ∷ []) (completing_number unit id)
@@ -167,7 +167,7 @@ done_there unit persons p id below =
     one_is_cell unit persons (mark_for unit (of_person p) n)
     (mark_for_there unit persons n (of_person p) some.persons some.has (owner_there persons p some.persons below)))
 
-pub run_done_there : (unit : Course) (persons : ℕ) (id : List ℕ) (place : Place) → IsThing unit id place
+pub run_done_there : (unit : Unit) (persons : ℕ) (id : List ℕ) (place : Place) → IsThing unit id place
     → is_run_place place ≡ true → AreCells unit persons (done_looks unit Run id)
 run_done_there unit persons id place thing run =
     cells_of_number unit persons (λ n. mark_for unit Run n ∷ []) (completing_number unit id)
@@ -177,13 +177,13 @@ run_done_there unit persons id place thing run =
 
 -- ---- roles
 
-pub member_looks_there : (unit : Course) (persons p : ℕ) (role : List ℕ) → p < persons
+pub member_looks_there : (unit : Unit) (persons p : ℕ) (role : List ℕ) → p < persons
     → AreCells unit persons (member_looks unit (of_person p) role)
 member_looks_there unit persons p role below =
     cells_of_number unit persons (λ r. member_cell r p ∷ []) (role_number unit role)
     (λ r is. one_is_cell unit persons (member_cell r p) (member_there unit persons r p (role_below unit role r is) below))
 
-pub members_looks_there : (unit : Course) (seen : Seen) (role : List ℕ)
+pub members_looks_there : (unit : Unit) (seen : Seen) (role : List ℕ)
     → AreCells unit seen.persons (members_looks unit seen role)
 members_looks_there unit seen role c (inl is) =
     subst (λ name. IsIn (all_cells unit seen.persons) name) is (roster_there unit seen.persons)
@@ -196,7 +196,7 @@ members_looks_there unit seen role c (inr later) =
 
 -- ---- properties
 
-value_looks_there : (unit : Course) (persons : ℕ) (owner : Owner) (n : ℕ) (property : Option Property)
+value_looks_there : (unit : Unit) (persons : ℕ) (owner : Owner) (n : ℕ) (property : Option Property)
     → slice_get unit.properties n ≡ property
     → ((one : Property) → property ≡ Some one → IsOwner persons (is_personal one.kind) (owner_of (is_personal one.kind) owner))
     → AreCells unit persons (list_from (λ cell. cell ∷ []) (property >>= λ one. Some (property_cell n (owner_of (is_personal one.kind) owner))))
@@ -207,7 +207,7 @@ value_looks_there unit persons owner n (Some one) at owned c inside =
     c inside
 
 -- A property looked at where a person speaks, or where the run does of a property that is no person's.
-property_looks_by : (unit : Course) (persons : ℕ) (owner : Owner) (id : List ℕ)
+property_looks_by : (unit : Unit) (persons : ℕ) (owner : Owner) (id : List ℕ)
     → ((one : Property) → property_named unit (names_of unit) id ≡ Some one → IsOwner persons (is_personal one.kind) (owner_of (is_personal one.kind) owner))
     → AreCells unit persons (property_looks unit owner id)
 property_looks_by unit persons owner id owned = by (named_by (names_of unit) id) owned
@@ -222,12 +222,12 @@ property_looks_by unit persons owner id owned = by (named_by (names_of unit) id)
     by (Some (Prop p)) owned c inside =
         value_looks_there unit persons owner p.0 (slice_get unit.properties p.0) refl owned c inside
 
-pub property_looks_there : (unit : Course) (persons p : ℕ) (id : List ℕ) → p < persons
+pub property_looks_there : (unit : Unit) (persons p : ℕ) (id : List ℕ) → p < persons
     → AreCells unit persons (property_looks unit (of_person p) id)
 property_looks_there unit persons p id below =
     property_looks_by unit persons (of_person p) id (λ one is. owner_there persons p (is_personal one.kind) below)
 
-pub run_property_looks_there : (unit : Course) (persons : ℕ) (id : List ℕ)
+pub run_property_looks_there : (unit : Unit) (persons : ℕ) (id : List ℕ)
     → is_person's (property_named unit (names_of unit) id) ≡ false
     → AreCells unit persons (property_looks unit Run id)
 run_property_looks_there unit persons id run =

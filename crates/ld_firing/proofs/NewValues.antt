@@ -6,7 +6,7 @@ use Rattle.ld_model.specs.Expressions.{TermOf, TermsOf, property_term, literal_t
 use Rattle.ld_model.specs.declared.cell.CellName.{CellName}
 use Rattle.ld_model.specs.declared.cell.Owner.{Owner}
 use Rattle.ld_model.specs.declared.property.Property.{Property}
-use Rattle.ld_model.specs.declared.unit.Unit.{Unit as Course}
+use Rattle.ld_model.specs.declared.unit.Unit.{Unit}
 use Rattle.ld_names.specs.Names.{thing_number}
 use Rattle.ld_expr.specs.Looks.{term_looks, terms_looks}
 use Rattle.ld_expr.specs.Lookup.{is_some_and, list_from}
@@ -50,7 +50,7 @@ one_look cell (Some x) = omega arith
 
 mutual
   -- A term looks at no more cells than it has leaves.
-  pub looks_within : (unit : Course) (owner : Owner) (term : TermOf) → length (term_looks unit owner term) ≤ term_leaves term
+  pub looks_within : (unit : Unit) (owner : Owner) (term : TermOf) → length (term_looks unit owner term) ≤ term_leaves term
   looks_within unit owner (property_term id) = one_look (λ cell. cell) (cell_of_property unit owner id)
   looks_within unit owner (literal_term kind text) = omega arith
   looks_within unit owner (list_term operator terms) = all_looks_within unit owner terms
@@ -60,11 +60,11 @@ mutual
   looks_within unit owner (opened_term id) = one_look (λ thing. opened_cell thing owner) (thing_number unit id)
   looks_within unit owner started_term = omega arith
 
-  all_looks_within : (unit : Course) (owner : Owner) (terms : TermsOf) → length (terms_looks unit owner terms) ≤ terms_leaves terms
+  all_looks_within : (unit : Unit) (owner : Owner) (terms : TermsOf) → length (terms_looks unit owner terms) ≤ terms_leaves terms
   all_looks_within unit owner no_term = omega arith
   all_looks_within unit owner (term_and term terms) =
       omega (arith, length-append (term_looks unit owner term) (terms_looks unit owner terms), looks_within unit owner term, all_looks_within unit owner terms)
 
-pub worked_out : (unit : Course) (owner : Owner) (term : TermOf) (old new : ℕ) → new ≤ old + length (term_looks unit owner term)
+pub worked_out : (unit : Unit) (owner : Owner) (term : TermOf) (old new : ℕ) → new ≤ old + length (term_looks unit owner term)
     → new ≤ old + term_leaves term
 worked_out unit owner term old new within = omega (arith, within, looks_within unit owner term)

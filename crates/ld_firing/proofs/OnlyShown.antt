@@ -28,7 +28,7 @@ use Rattle.ld_model.specs.RoleRows.{RoleRow}
 use Rattle.ld_model.specs.Roles.{roles_of}
 use Rattle.ld_model.specs.declared.method.RolePart.{RolePart as RolePartOf}
 use Rattle.ld_model.specs.declared.property.Property.{Property as PropertyOf}
-use Rattle.ld_model.specs.declared.unit.Unit.{Unit as Course}
+use Rattle.ld_model.specs.declared.unit.Unit.{Unit}
 use Rattle.ld_model.specs.declared.unit.Level.{Level}
 use Rattle.ld_model.specs.declared.unit.Level.TheVariants.{B, C}
 use Rattle.ld_walk.specs.declared.kind.Kind.{Kind}
@@ -307,7 +307,7 @@ property_shown at n property =
     let place = nth at (codes "properties") n in
     both (shared_parts place property.uri) (plain_part place (Types (Declared property)) ∷ optional_reference_parts place (codes "role") wanted.Role property.role) (uri_shown place property.uri) (optional_shown place (codes "role") wanted.Role property.role)
 
-middle_shown : (unit : Course) → OnlyShown (middle_parts unit)
+middle_shown : (unit : Unit) → OnlyShown (middle_parts unit)
 unfolding middle_parts
 middle_shown unit =
     let properties = each_numbered (property_parts (root file.Properties)) unit.properties in
@@ -318,11 +318,11 @@ middle_shown unit =
     let second = both environments (activities ++ structures) (environments_shown (root file.Environments) unit.environments) third in
     both properties (environments ++ (activities ++ structures)) (numbered (property_parts (root file.Properties)) (property_shown (root file.Properties)) 0 unit.properties) second
 
-own_shown : (unit : Course) → OnlyShown (unit_parts unit)
+own_shown : (unit : Unit) → OnlyShown (unit_parts unit)
 unfolding unit_parts
 own_shown unit = unit_shown (root file.Unit) unit.learning_objectives unit.prerequisites unit.method
 
-all_shown : (unit : Course) → OnlyShown (parts_of unit)
+all_shown : (unit : Unit) → OnlyShown (parts_of unit)
 unfolding parts_of
 all_shown unit =
     let roles = map (role_part (root file.Roles)) (roles_of unit) in
@@ -348,7 +348,7 @@ entry_says (Declares (kind.Thing place) id visible) entry (inr later) says shown
 entry_says _ entry inside says shown = absurd inside
 
 -- Of a thing that is shown and hidden it is said whether it is visible at first.
-pub thing_shown : (unit : Course) (n : ℕ) (entry : Entry) → slice_get (things_of unit) n ≡ Some entry
+pub thing_shown : (unit : Unit) (n : ℕ) (entry : Entry) → slice_get (things_of unit) n ≡ Some entry
     → has_visibility (kind.Thing entry.place) ≡ true → is_some entry.visible ≡ true
 thing_shown unit n entry at shown =
     let by = from_flat_map (λ (part : Part). thing_in part.what) (parts_of unit) entry (in_stands (things_of unit) n entry at) in

@@ -25,7 +25,7 @@ use Rattle.ld_model.specs.declared.completion.OnCompletion.{OnCompletion}
 use Rattle.ld_model.specs.declared.condition.Action.{Action}
 use Rattle.ld_model.specs.declared.condition.Action.TheVariants.{Change, Notify}
 use Rattle.ld_model.specs.declared.property.Property.{Property}
-use Rattle.ld_model.specs.declared.unit.Unit.{Unit as Course}
+use Rattle.ld_model.specs.declared.unit.Unit.{Unit}
 use Rattle.ld_names.specs.Names.{thing_number}
 use Rattle.ld_names.specs.Rules.{Site}
 use Rattle.ld_names.specs.declared.rule.Rule.{Rule}
@@ -47,22 +47,22 @@ use Rattle.ld_firing.proofs.SeenInStates.{persons_counted, slot_same}
 
 -- ---- one after another
 
-pub does_nothing : (unit : Course) (p : Progress) → Does unit p p (λ doing. doing)
+pub does_nothing : (unit : Unit) (p : Progress) → Does unit p p (λ doing. doing)
 does_nothing unit p = record { each = λ before doing is. is }
 
-pub does_then : {unit : Course} {p q r : Progress} (f g : Doing → Doing) → Does unit p q f → Does unit q r g
+pub does_then : {unit : Unit} {p q r : Progress} (f g : Doing → Doing) → Does unit p q f → Does unit q r g
     → Does unit p r (λ doing. g (f doing))
 does_then f g first second =
     record { each = λ before doing is. second.each before (f doing) (first.each before doing is) }
 
-pub does_same : {unit : Course} {p q : Progress} (f g : Doing → Doing) → ((doing : Doing) → f doing ≡ g doing)
+pub does_same : {unit : Unit} {p q : Progress} (f g : Doing → Doing) → ((doing : Doing) → f doing ≡ g doing)
     → Does unit p q f → Does unit p q g
 does_same {unit = unit} f g same does = record {
   each = λ before doing is. does.each before doing is ∙ ap (progress_by unit before) (same doing);
 }
 
 -- The next of a list.
-pub does_next : {A : Type 0} {unit : Course} {p q r : Progress} (step : Doing → A → Doing) (xs : List A) (i : ℕ) (x : A)
+pub does_next : {A : Type 0} {unit : Unit} {p q r : Progress} (step : Doing → A → Doing) (xs : List A) (i : ℕ) (x : A)
     → i < length xs → x ≡ get_or xs i x → Does unit p q (λ doing. fold step doing (take i xs))
     → Does unit q r (λ doing. step doing x) → Does unit p r (λ doing. fold step doing (take (i + 1) xs))
 does_next step xs i x within is before one =
@@ -77,7 +77,7 @@ one_more xs i x within is =
     ap (λ n. take n xs) more ∙ take-suc xs i x within ∙ ap (λ y. take i xs ++ y ∷ []) (sym is)
 
 -- The next of a list that is made of another.
-pub does_next_of : {A B : Type 0} {unit : Course} {p q r : Progress} (step : Doing → B → Doing) (f : A → B) (xs : List A) (i : ℕ) (x : A)
+pub does_next_of : {A B : Type 0} {unit : Unit} {p q r : Progress} (step : Doing → B → Doing) (f : A → B) (xs : List A) (i : ℕ) (x : A)
     → i < length xs → x ≡ get_or xs i x → Does unit p q (λ doing. fold step doing (map f (take i xs)))
     → Does unit q r (λ doing. step doing (f x)) → Does unit p r (λ doing. fold step doing (map f (take (i + 1) xs)))
 does_next_of step f xs i x within is before one =
@@ -88,14 +88,14 @@ does_next_of step f xs i x within is before one =
     (does_then (λ doing. fold step doing (map f (take i xs))) (λ doing. step doing (f x)) before one)
 
 -- All of a list.
-pub does_all : {A : Type 0} {unit : Course} {p q : Progress} (step : Doing → A → Doing) (xs : List A) (i : ℕ)
+pub does_all : {A : Type 0} {unit : Unit} {p q : Progress} (step : Doing → A → Doing) (xs : List A) (i : ℕ)
     → length xs ≤ i → Does unit p q (λ doing. fold step doing (take i xs))
     → Does unit p q (λ doing. fold step doing xs)
 does_all step xs i whole does =
     does_same (λ doing. fold step doing (take i xs)) (λ doing. fold step doing xs)
     (λ doing. ap (fold step doing) (take_all i xs whole)) does
 
-pub does_all_of : {A B : Type 0} {unit : Course} {p q : Progress} (step : Doing → B → Doing) (f : A → B) (xs : List A) (i : ℕ)
+pub does_all_of : {A B : Type 0} {unit : Unit} {p q : Progress} (step : Doing → B → Doing) (f : A → B) (xs : List A) (i : ℕ)
     → length xs ≤ i → Does unit p q (λ doing. fold step doing (map f (take i xs)))
     → Does unit p q (λ doing. fold step doing (map f xs))
 does_all_of step f xs i whole does =
@@ -103,7 +103,7 @@ does_all_of step f xs i whole does =
     (λ doing. ap (λ ys. fold step doing (map f ys)) (take_all i xs whole)) does
 
 -- The next number.
-pub does_number : {B : Type 0} {unit : Course} {p q r : Progress} (step : Doing → B → Doing) (f : ℕ → B) (n : ℕ)
+pub does_number : {B : Type 0} {unit : Unit} {p q r : Progress} (step : Doing → B → Doing) (f : ℕ → B) (n : ℕ)
     → Does unit p q (λ doing. fold step doing (map f (numbers_below n))) → Does unit q r (λ doing. step doing (f n))
     → Does unit p r (λ doing. fold step doing (map f (numbers_below (n + 1))))
 does_number step f n before one =
@@ -129,7 +129,7 @@ same_value_itself : (v : Option Datum) → option_eq same_datum v v ≡ true
 same_value_itself None = refl
 same_value_itself (Some d) = same_datum_itself d
 
-module _ (unit : Course) (s t : StateView) (told after : List ℕ) (cell : CellName) (value : Option Datum) where
+module _ (unit : Unit) (s t : StateView) (told after : List ℕ) (cell : CellName) (value : Option Datum) where
   -- The slots that are told of it.
   pub told_where : (b : Bool) → option_eq same_datum ((run_of s).cells cell) value ≡ b → IsStateOf unit s
       → ((run_of s).cells cell ≡ value → after ≡ told)
@@ -173,7 +173,7 @@ module _ (unit : Course) (s t : StateView) (told after : List ℕ) (cell : CellN
             sent = (is i).sent;
           }
 
-pub wrote_if : {A E : Type 0} → (result : Result A E) (unit : Course) (s t : StateView) (told after : List ℕ) (cell : CellName) (value : Option Datum) (fired : Fired)
+pub wrote_if : {A E : Type 0} → (result : Result A E) (unit : Unit) (s t : StateView) (told after : List ℕ) (cell : CellName) (value : Option Datum) (fired : Fired)
     → IsStateOf unit s → OnOk result (run_of t ≡ with_cell (run_of s) cell value)
     → OnOk result ((run_of s).cells cell ≡ value → after ≡ told)
     → OnOk result (((run_of s).cells cell ≡ value → ⊥) → Some after ≡ option_map (λ slot. told ++ slot ∷ []) (slot_in s.layout (length s.rows) cell))
@@ -185,7 +185,7 @@ wrote_if (Err e) unit s t told after cell value fired own written same other = t
 -- ---- changes
 
 -- The value of the cell of a property does not follow from the persons.
-pub property_plain : (unit : Course) (owner : Owner) (id : List ℕ) (cell : CellName)
+pub property_plain : (unit : Unit) (owner : Owner) (id : List ℕ) (cell : CellName)
     → cell_of_property unit owner id ≡ Some cell → is_following cell ≡ false
 property_plain unit owner id cell is = by (property_number unit id) is
   where
@@ -201,7 +201,7 @@ property_plain unit owner id cell is = by (property_number unit id) is
     by None is = none_is_some is
     by (Some n) is = of_property n (slice_get unit.properties n) is
 
-module _ (unit : Course) (change : ChangeOf) (owner : Owner) where
+module _ (unit : Unit) (change : ChangeOf) (owner : Owner) where
   -- The owner's new value of the property in the run, where it fits.
   abbrev pub new_in : RunState → Option Datum
   new_in s = term_value unit (seen_in unit s) owner change.value >>= if_fitting unit change.property
@@ -258,7 +258,7 @@ owners_alone n p owner own is =
     subst (λ (one : Owner). owners_of_change n one own ≡ one ∷ []) (sym is) refl
 
 -- A change that is made for a person alone.
-pub changed_by_person : {unit : Course} {q r : Progress} (change : ChangeOf) (owner : Owner) (p : ℕ) → owner ≡ of_person p
+pub changed_by_person : {unit : Unit} {q r : Progress} (change : ChangeOf) (owner : Owner) (p : ℕ) → owner ≡ of_person p
     → Does unit q r (λ doing. change_for unit change doing owner) → Does unit q r (λ doing. do_change unit owner doing change)
 changed_by_person {unit = unit} change owner p is does =
     does_same (λ doing. change_for unit change doing owner) (λ doing. do_change unit owner doing change)
@@ -266,7 +266,7 @@ changed_by_person {unit = unit} change owner p is does =
     (sym (owners_alone (length doing.state.persons) p owner (is_of_persons unit change.property) is))) does
 
 -- A change that is made for the run as a whole.
-pub changed_by_run : {unit : Course} {q r : Progress} (change : ChangeOf) (owner : Owner) → owner ≡ Run
+pub changed_by_run : {unit : Unit} {q r : Progress} (change : ChangeOf) (owner : Owner) → owner ≡ Run
     → is_of_persons unit change.property ≡ false → Does unit q r (λ doing. change_for unit change doing Run)
     → Does unit q r (λ doing. do_change unit owner doing change)
 changed_by_run {unit = unit} {q = q} {r = r} change owner is run does =
@@ -275,7 +275,7 @@ changed_by_run {unit = unit} {q = q} {r = r} change owner is run does =
     (λ doing. ap (λ own. fold (change_for unit change) doing (owners_of_change (length doing.state.persons) Run own)) (sym run)) does)
 
 -- A change that is made for each person.
-pub changed_by_all : {unit : Course} {q r : Progress} (change : ChangeOf) (owner : Owner) (n : ℕ) → owner ≡ Run
+pub changed_by_all : {unit : Unit} {q r : Progress} (change : ChangeOf) (owner : Owner) (n : ℕ) → owner ≡ Run
     → is_of_persons unit change.property ≡ true → length q.run.persons ≡ n
     → Does unit q r (λ doing. fold (change_for unit change) doing (map of_person (numbers_below n)))
     → Does unit q r (λ doing. do_change unit owner doing change)
@@ -294,7 +294,7 @@ changed_by_all {unit = unit} {q = q} {r = r} change owner n is all count does =
 -- ---- notices
 
 -- The notice is sent, and counted.
-pub notified : (unit : Course) (notice : Notice) (s t : StateView) (told : List ℕ) (old new : Fired) (sent : NoticeState)
+pub notified : (unit : Unit) (notice : Notice) (s t : StateView) (told : List ℕ) (old new : Fired) (sent : NoticeState)
     → run_of t ≡ with_notice (run_of s) sent → sent ≡ notice_now unit (run_of s) notice
     → new.rejected ≡ old.rejected → new.sent ≡ old.sent + 1
     → Does unit (progress_of s told old) (progress_of t told new) (λ doing. do_notify unit doing notice)
@@ -313,7 +313,7 @@ notified unit notice s t told old new sent run is_now rejected counted = record 
 
 -- ---- the opening of an act
 
-pub opened_now : {unit : Course} {p q : Progress} (thing : ℕ) (opened : Option ℕ) (value : Option Datum)
+pub opened_now : {unit : Unit} {p q : Progress} (thing : ℕ) (opened : Option ℕ) (value : Option Datum)
     → opened ≡ Some thing → value ≡ p.run.cells Now
     → Does unit p q (λ doing. with_write doing (act_opened_cell thing) value)
     → Does unit p q (λ doing. with_opening doing opened)
@@ -325,7 +325,7 @@ opened_now {unit = unit} thing opened value names now does = record {
       ∙ ap (λ o. progress_by unit before (with_opening doing o)) (sym names);
 }
 
-pub nothing_opened : {unit : Course} {p : Progress} (opened : Option ℕ) → opened ≡ None
+pub nothing_opened : {unit : Unit} {p : Progress} (opened : Option ℕ) → opened ≡ None
     → Does unit p p (λ doing. with_opening doing opened)
 nothing_opened {unit = unit} opened none = record {
   each = λ before doing is. is ∙ ap (λ o. progress_by unit before (with_opening doing o)) (sym none);
@@ -333,13 +333,13 @@ nothing_opened {unit = unit} opened none = record {
 
 -- ---- visibility
 
-pub nothing_shown : {unit : Course} {p : Progress} (q : ℕ) (visible : Bool) (thing : Option ℕ) → thing ≡ None
+pub nothing_shown : {unit : Unit} {p : Progress} (q : ℕ) (visible : Bool) (thing : Option ℕ) → thing ≡ None
     → Does unit p p (λ doing. with_visible q visible doing thing)
 nothing_shown {unit = unit} q visible thing none = record {
   each = λ before doing is. is ∙ ap (λ o. progress_by unit before (with_visible q visible doing o)) (sym none);
 }
 
-pub one_shown : {unit : Course} {p r : Progress} (q : ℕ) (visible : Bool) (n : ℕ) (thing : Option ℕ) → thing ≡ Some n
+pub one_shown : {unit : Unit} {p r : Progress} (q : ℕ) (visible : Bool) (n : ℕ) (thing : Option ℕ) → thing ≡ Some n
     → Does unit p r (λ doing. with_write doing (visibility_cell n q) (Some (truth_datum visible)))
     → Does unit p r (λ doing. with_visible q visible doing thing)
 one_shown {unit = unit} q visible n thing is does = record {
@@ -348,7 +348,7 @@ one_shown {unit = unit} q visible n thing is does = record {
 }
 
 -- What is shown to a person who acts.
-pub shown_by : {unit : Course} {p r : Progress} (owner : Owner) (q : ℕ) (visible : Bool) (id : List ℕ) → owner ≡ of_person q
+pub shown_by : {unit : Unit} {p r : Progress} (owner : Owner) (q : ℕ) (visible : Bool) (id : List ℕ) → owner ≡ of_person q
     → Does unit p r (λ doing. with_visible q visible doing (thing_number unit id))
     → Does unit p r (λ doing. set_visible unit owner visible doing id)
 shown_by {unit = unit} {p = p} {r = r} owner q visible id is does =
@@ -357,13 +357,13 @@ shown_by {unit = unit} {p = p} {r = r} owner q visible id is does =
 -- ---- actions
 
 -- The same action.
-pub acts_as : {unit : Course} {q r : Progress} (owner : Owner) (one other : Action) → one ≡ other
+pub acts_as : {unit : Unit} {q r : Progress} (owner : Owner) (one other : Action) → one ≡ other
     → Does unit q r (λ doing. do_action unit owner doing other) → Does unit q r (λ doing. do_action unit owner doing one)
 acts_as {unit = unit} {q = q} {r = r} owner one other is does =
     subst (λ (a : Action). Does unit q r (λ doing. do_action unit owner doing a)) (sym is) does
 
 -- What follows a completion: first the changes, then the notices.
-pub followed : {unit : Course} {p q r : Progress} (owner : Owner) (follows : Option OnCompletion) (one : OnCompletion)
+pub followed : {unit : Unit} {p q r : Progress} (owner : Owner) (follows : Option OnCompletion) (one : OnCompletion)
     (changes : List ChangeOf) (notices : List Notice) → follows ≡ Some one → changes ≡ one.change → notices ≡ one.notify
     → Does unit p q (λ doing. fold (do_action unit owner) doing (map Change changes))
     → Does unit q r (λ doing. fold (do_action unit owner) doing (map Notify notices))
@@ -378,7 +378,7 @@ followed {unit = unit} owner follows one changes notices is same_changes same_no
     (does_then (λ doing. fold (do_action unit owner) doing (map Change changes)) (λ doing. fold (do_action unit owner) doing (map Notify notices)) first second)
 
 -- The actions of another list that is the same.
-pub does_listed : {A : Type 0} {unit : Course} {q r : Progress} (step : Doing → A → Doing) (xs ys : List A) → xs ≡ ys
+pub does_listed : {A : Type 0} {unit : Unit} {q r : Progress} (step : Doing → A → Doing) (xs ys : List A) → xs ≡ ys
     → Does unit q r (λ doing. fold step doing xs) → Does unit q r (λ doing. fold step doing ys)
 does_listed {unit = unit} {q = q} {r = r} step xs ys same does =
     subst (λ zs. Does unit q r (λ doing. fold step doing zs)) same does
@@ -386,7 +386,7 @@ does_listed {unit = unit} {q = q} {r = r} step xs ys same does =
 -- ---- from nothing
 
 -- What was done from the start on.
-pub done_at_all : (unit : Course) (s : StateView) (told : List ℕ) (q : Progress) (step : Doing → Doing)
+pub done_at_all : (unit : Unit) (s : StateView) (told : List ℕ) (q : Progress) (step : Doing → Doing)
     → Does unit (progress_of s told (record { rejected = 0; sent = 0 })) q step
     → q ≡ progress_by unit told (step (nothing_done (run_of s)))
 done_at_all unit s told q step does =
@@ -398,7 +398,7 @@ done_at_all unit s told q step does =
     })
 
 -- What is done once the mark is set is the firing of the site.
-pub fired_is : (unit : Course) (s : RunState) (site : Site) (rule : Rule) (verdict : Bool) → rule_of unit site ≡ Some rule
+pub fired_is : (unit : Unit) (s : RunState) (site : Site) (rule : Rule) (verdict : Bool) → rule_of unit site ≡ Some rule
     → verdict ≡ site_test unit (seen_in unit s) site
     → rule_effect unit site.owner rule verdict (with_write (nothing_done s) (mark_cell site.rule site.owner) (Some (truth_datum verdict)))
     ≡ site_firing unit s site

@@ -1,7 +1,7 @@
 -- That what a site reads follows from the persons and from its own mark.
 use Rattle.std.proofs.Common.{◌≡◌, refl, sym, ap, ap₂, ◌∙◌, ℕ, [], ◌∷◌, length, filter_map, Option, Some, None, true, false, ◌&&◌, unwrap_or, if◌then◌else◌}
 use Rattle.ld_value.specs.Datum.{Datum, text_datum, truth_datum, number_datum, moment_datum, span_datum}
-use Rattle.ld_model.specs.declared.unit.Unit.{Unit as Course}
+use Rattle.ld_model.specs.declared.unit.Unit.{Unit}
 use Rattle.ld_names.specs.declared.rule.Rule.{Rule}
 use Rattle.ld_names.specs.Rules.{Site}
 use Rattle.ld_expr.specs.Lookup.{is_some_and, list_from}
@@ -25,7 +25,7 @@ yes_by_verdict (Some (number_datum _)) = refl
 yes_by_verdict (Some (moment_datum _)) = refl
 yes_by_verdict (Some (span_datum _)) = refl
 
-module _ (unit : Course) (s t : RunState) where
+module _ (unit : Unit) (s t : RunState) where
   -- A rule has said yes for good in both, where the mark holds the same verdict.
   latched_alike : (site : Site) → verdict_in (s.cells (site_mark site)) ≡ verdict_in (t.cells (site_mark site))
       → (rule : Rule) → is_latched (seen_in unit s) site rule ≡ is_latched (seen_in unit t) site rule
@@ -51,15 +51,15 @@ module _ (unit : Course) (s t : RunState) where
       by (Some rule) = latched_alike site same rule
 
   pub reads_by_mark : (i : ℕ) → IsSoundRun unit s → IsSoundRun unit t
-      → (run_system unit).course s ≡ (run_system unit).course t → (run_system unit).is_site s i ≡ true
+      → (run_system unit).setting s ≡ (run_system unit).setting t → (run_system unit).is_site s i ≡ true
       → (run_system unit).is_site t i ≡ true → (run_system unit).mark s i ≡ (run_system unit).mark t i
       → (run_system unit).reads s i ≡ (run_system unit).reads t i
-  reads_by_mark i sound sound_too course there there_too marks =
+  reads_by_mark i sound sound_too setting there there_too marks =
       let found = some_of (site_at unit s i) there in
       let site = found.0 in
-      let persons = enrolment_persons s t unit course in
+      let persons = enrolment_persons s t unit setting in
       let at_too : site_at unit t i ≡ Some site =
-      sym (same_site_at unit s t i (enrolment_seats s t unit course) persons) ∙ found.1 in
+      sym (same_site_at unit s t i (enrolment_seats s t unit setting) persons) ∙ found.1 in
       let verdicts : verdict_in (s.cells (site_mark site)) ≡ verdict_in (t.cells (site_mark site)) =
       sym (said_of unit s i site (λ one. verdict_in (s.cells (site_mark one))) (Some false) found.1) ∙ marks
       ∙ said_of unit t i site (λ one. verdict_in (t.cells (site_mark one))) (Some false) at_too in

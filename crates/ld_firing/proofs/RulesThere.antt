@@ -17,7 +17,7 @@ use Rattle.ld_model.specs.declared.condition.Condition.{Condition}
 use Rattle.ld_model.specs.declared.method.Act.{Act as ActOf}
 use Rattle.ld_model.specs.declared.method.Play.{Play as PlayOf}
 use Rattle.ld_model.specs.declared.method.RolePart.{RolePart as RolePartOf}
-use Rattle.ld_model.specs.declared.unit.Unit.{Unit as Course}
+use Rattle.ld_model.specs.declared.unit.Unit.{Unit}
 use Rattle.ld_walk.specs.CommonParts.{shown_part, unshown_part, items_parts}
 use Rattle.ld_walk.specs.ExpressionParts.{test_parts}
 use Rattle.ld_walk.specs.Places.{root, member, nth}
@@ -43,17 +43,17 @@ use Rattle.ld_firing.proofs.Named.{IsThing, done_there, run_done_there, members_
 use Rattle.ld_firing.proofs.MetChecks.{AreMet, MeetsChecks, declared_thing, activity_listed, condition_listed, method_listed, play_listed, act_listed}
 use Rattle.ld_firing.proofs.Sites.{IsOwner, a_person, the_run}
 
-pub cells_from : {A : Type 0} → (unit : Course) (persons : ℕ) (looks : A → List CellName) (o : Option A)
+pub cells_from : {A : Type 0} → (unit : Unit) (persons : ℕ) (looks : A → List CellName) (o : Option A)
     → ((x : A) → o ≡ Some x → AreCells unit persons (looks x)) → AreCells unit persons (list_from looks o)
 cells_from unit persons looks None each c inside = absurd inside
 cells_from unit persons looks (Some x) each c inside = each x refl c inside
 
-cells_if : (unit : Course) (persons : ℕ) (there : Bool) (cell : CellName) → IsIn (all_cells unit persons) cell
+cells_if : (unit : Unit) (persons : ℕ) (there : Bool) (cell : CellName) → IsIn (all_cells unit persons) cell
     → AreCells unit persons (cell_if there cell)
 cells_if unit persons true cell inside c is = one_is_cell unit persons cell inside c is
 cells_if unit persons false cell inside c none = absurd none
 
-cells_unless : (unit : Course) (persons : ℕ) (nothing : Bool) (cells : List CellName)
+cells_unless : (unit : Unit) (persons : ℕ) (nothing : Bool) (cells : List CellName)
     → AreCells unit persons cells → AreCells unit persons (if nothing then [] else cells)
 cells_unless unit persons true cells are c none = absurd none
 cells_unless unit persons false cells are c inside = are c inside
@@ -65,12 +65,12 @@ last_in [] before x is = inl is
 last_in (y ∷ ys) before x is = elim (last_in ys (Some y) x is) [ inl here ↦ inr (inl (some_same here)) | inr later ↦ inr (inr later) ]
 
 -- An act, and the play in which it is.
-pub record IsAct (unit : Course) (p a : ℕ) (act : ActOf) : Type 0 where
+pub record IsAct (unit : Unit) (p a : ℕ) (act : ActOf) : Type 0 where
   play : PlayOf
   at : slice_get unit.method.plays p ≡ Some play
   within : slice_get play.acts a ≡ Some act
 
-pub act_of : (unit : Course) (p a : ℕ) (act : ActOf) → act_at unit p a ≡ Some act → IsAct unit p a act
+pub act_of : (unit : Unit) (p a : ℕ) (act : ActOf) → act_at unit p a ≡ Some act → IsAct unit p a act
 act_of unit p a act is = by (slice_get unit.method.plays p) refl is
   where
     by : (play : Option PlayOf) → slice_get unit.method.plays p ≡ play
@@ -78,7 +78,7 @@ act_of unit p a act is = by (slice_get unit.method.plays p) refl is
     by None at is = none_is_some is
     by (Some play) at is = record { play = play; at = at; within = is }
 
-module _ (unit : Course) (meets : MeetsChecks unit) where
+module _ (unit : Unit) (meets : MeetsChecks unit) where
   -- ---- what is declared
 
   activity_is : (n : ℕ) (activity : ActivityOf) → slice_get unit.activities n ≡ Some activity

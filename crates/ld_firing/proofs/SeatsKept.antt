@@ -10,7 +10,7 @@ use Rattle.ld_model.specs.declared.completion.Change.{Change as ChangeOf}
 use Rattle.ld_model.specs.declared.completion.Notice.{Notice}
 use Rattle.ld_model.specs.declared.condition.Action.{Action}
 use Rattle.ld_model.specs.declared.condition.Action.TheVariants.{Show, Hide, Change, Notify}
-use Rattle.ld_model.specs.declared.unit.Unit.{Unit as Course}
+use Rattle.ld_model.specs.declared.unit.Unit.{Unit}
 use Rattle.ld_names.specs.declared.rule.Rule.{Rule}
 use Rattle.ld_names.specs.Names.{thing_number}
 use Rattle.ld_names.specs.Rules.{Site}
@@ -34,7 +34,7 @@ fold_keeps part f each b (x ∷ xs) = fold_keeps part f each (f b x) xs ∙ each
 
 -- ---- seats
 
-cell_same : (unit : Course) (n : ℕ) (s : RunState) (name : CellName) → cell_of unit (reseated n s) name ≡ cell_of unit s name
+cell_same : (unit : Unit) (n : ℕ) (s : RunState) (name : CellName) → cell_of unit (reseated n s) name ≡ cell_of unit s name
 unfolding cell_of
 cell_same unit n s (Prop p owner) = refl
 cell_same unit n s (Vis t p) = refl
@@ -48,7 +48,7 @@ cell_same unit n s Now = refl
 cell_same unit n s Roster = refl
 
 -- Nothing that is seen of a run tells its seats.
-pub seen_same : (unit : Course) (n : ℕ) (s : RunState) → seen_in unit (reseated n s) ≡ seen_in unit s
+pub seen_same : (unit : Unit) (n : ℕ) (s : RunState) → seen_in unit (reseated n s) ≡ seen_in unit s
 seen_same unit n s = λ i. record { persons = length s.persons; value = λ name. cell_same unit n s name i }
 
 abbrev doing_reseated : ℕ → Doing → Doing
@@ -59,22 +59,22 @@ change_through n doing None value = refl
 change_through n doing (Some cell) None = refl
 change_through n doing (Some cell) (Some value) = refl
 
-change_for_through : (unit : Course) (n : ℕ) (change : ChangeOf) (doing : Doing) (owner : Owner) → change_for unit change (doing_reseated n doing) owner ≡ doing_reseated n (change_for unit change doing owner)
+change_for_through : (unit : Unit) (n : ℕ) (change : ChangeOf) (doing : Doing) (owner : Owner) → change_for unit change (doing_reseated n doing) owner ≡ doing_reseated n (change_for unit change doing owner)
 change_for_through unit n change doing owner =
     ap (λ seen. with_change (doing_reseated n doing) (cell_of_property unit owner change.property) (term_value unit seen owner change.value >>= if_fitting unit change.property)) (seen_same unit n doing.state)
     ∙ change_through n doing (cell_of_property unit owner change.property) (term_value unit (seen_in unit doing.state) owner change.value >>= if_fitting unit change.property)
 
-targets_same : (unit : Course) (n : ℕ) (s : RunState) (owner : Owner) (change : ChangeOf) → targets_of unit (reseated n s) owner change ≡ targets_of unit s owner change
+targets_same : (unit : Unit) (n : ℕ) (s : RunState) (owner : Owner) (change : ChangeOf) → targets_of unit (reseated n s) owner change ≡ targets_of unit s owner change
 targets_same unit n s owner change = refl
 
-do_change_through : (unit : Course) (n : ℕ) (owner : Owner) (doing : Doing) (change : ChangeOf) → do_change unit owner (doing_reseated n doing) change ≡ doing_reseated n (do_change unit owner doing change)
+do_change_through : (unit : Unit) (n : ℕ) (owner : Owner) (doing : Doing) (change : ChangeOf) → do_change unit owner (doing_reseated n doing) change ≡ doing_reseated n (do_change unit owner doing change)
 do_change_through unit n owner doing change =
     fold_through (doing_reseated n) (change_for unit change) (change_for_through unit n change) doing (targets_of unit doing.state owner change)
 
-notice_same : (unit : Course) (n : ℕ) (s : RunState) (notice : Notice) → notice_now unit (reseated n s) notice ≡ notice_now unit s notice
+notice_same : (unit : Unit) (n : ℕ) (s : RunState) (notice : Notice) → notice_now unit (reseated n s) notice ≡ notice_now unit s notice
 notice_same unit n s notice = ap (λ seen. record (notice_now unit s notice) { to = recipients unit seen notice.roles }) (seen_same unit n s)
 
-do_notify_through : (unit : Course) (n : ℕ) (doing : Doing) (notice : Notice) → do_notify unit (doing_reseated n doing) notice ≡ doing_reseated n (do_notify unit doing notice)
+do_notify_through : (unit : Unit) (n : ℕ) (doing : Doing) (notice : Notice) → do_notify unit (doing_reseated n doing) notice ≡ doing_reseated n (do_notify unit doing notice)
 do_notify_through unit n doing notice =
     ap (λ (sent : NoticeState). record (doing_reseated n doing) { state = record (reseated n doing.state) { outbox = doing.state.outbox ++ sent ∷ [] }; sent = (do_notify unit doing notice).sent }) (notice_same unit n doing.state notice)
 
@@ -82,11 +82,11 @@ visible_through : (n p : ℕ) (visible : Bool) (doing : Doing) (thing : Option �
 visible_through n p visible doing None = refl
 visible_through n p visible doing (Some thing) = refl
 
-set_visible_through : (unit : Course) (n : ℕ) (owner : Owner) (visible : Bool) (doing : Doing) (id : List ℕ) → set_visible unit owner visible (doing_reseated n doing) id ≡ doing_reseated n (set_visible unit owner visible doing id)
+set_visible_through : (unit : Unit) (n : ℕ) (owner : Owner) (visible : Bool) (doing : Doing) (id : List ℕ) → set_visible unit owner visible (doing_reseated n doing) id ≡ doing_reseated n (set_visible unit owner visible doing id)
 set_visible_through unit n Run visible doing id = refl
 set_visible_through unit n (Person p) visible doing id = visible_through n p.0 visible doing (thing_number unit id)
 
-do_action_through : (unit : Course) (n : ℕ) (owner : Owner) (doing : Doing) (action : Action) → do_action unit owner (doing_reseated n doing) action ≡ doing_reseated n (do_action unit owner doing action)
+do_action_through : (unit : Unit) (n : ℕ) (owner : Owner) (doing : Doing) (action : Action) → do_action unit owner (doing_reseated n doing) action ≡ doing_reseated n (do_action unit owner doing action)
 do_action_through unit n owner doing (Show things) = fold_through (doing_reseated n) (set_visible unit owner true) (set_visible_through unit n owner true) doing things
 do_action_through unit n owner doing (Hide things) = fold_through (doing_reseated n) (set_visible unit owner false) (set_visible_through unit n owner false) doing things
 do_action_through unit n owner doing (Change change) = do_change_through unit n owner doing change
@@ -96,18 +96,18 @@ opening_through : (n : ℕ) (doing : Doing) (thing : Option ℕ) → with_openin
 opening_through n doing None = refl
 opening_through n doing (Some thing) = refl
 
-effect_through : (unit : Course) (n : ℕ) (owner : Owner) (rule : Rule) (verdict : Bool) (doing : Doing) → rule_effect unit owner rule verdict (doing_reseated n doing) ≡ doing_reseated n (rule_effect unit owner rule verdict doing)
+effect_through : (unit : Unit) (n : ℕ) (owner : Owner) (rule : Rule) (verdict : Bool) (doing : Doing) → rule_effect unit owner rule verdict (doing_reseated n doing) ≡ doing_reseated n (rule_effect unit owner rule verdict doing)
 effect_through unit n owner rule verdict doing =
     ap (λ (opened : Doing). fold (do_action unit owner) opened (actions_of unit rule verdict)) (opening_through n doing (opened_by unit rule))
     ∙ fold_through (doing_reseated n) (do_action unit owner) (do_action_through unit n owner) (with_opening doing (opened_by unit rule)) (actions_of unit rule verdict)
 
-firing_by_through : (unit : Course) (n : ℕ) (s : RunState) (site : Site) (rule : Rule) → firing_by unit (reseated n s) site rule ≡ doing_reseated n (firing_by unit s site rule)
+firing_by_through : (unit : Unit) (n : ℕ) (s : RunState) (site : Site) (rule : Rule) → firing_by unit (reseated n s) site rule ≡ doing_reseated n (firing_by unit s site rule)
 firing_by_through unit n s site rule =
     ap (λ seen. rule_effect unit site.owner rule (site_test unit seen site) (with_write (nothing_done (reseated n s)) (site_mark site) (Some (truth_datum (site_test unit seen site))))) (seen_same unit n s)
     ∙ effect_through unit n site.owner rule (site_test unit (seen_in unit s) site) (with_write (nothing_done s) (site_mark site) (Some (truth_datum (site_test unit (seen_in unit s) site))))
 
 -- A firing does the same for any number of seats.
-pub firing_through : (unit : Course) (n : ℕ) (s : RunState) (site : Site) → site_firing unit (reseated n s) site ≡ doing_reseated n (site_firing unit s site)
+pub firing_through : (unit : Unit) (n : ℕ) (s : RunState) (site : Site) → site_firing unit (reseated n s) site ≡ doing_reseated n (site_firing unit s site)
 unfolding site_firing
 firing_through unit n s site = by (rule_of unit site)
   where
@@ -118,7 +118,7 @@ firing_through unit n s site = by (rule_of unit site)
 -- ---- what firings leave as it is
 
 -- A firing leaves the seats as they are.
-pub seats_kept : (unit : Course) (s : RunState) (site : Site) → (site_firing unit s site).state.seats ≡ s.seats
+pub seats_kept : (unit : Unit) (s : RunState) (site : Site) → (site_firing unit s site).state.seats ≡ s.seats
 seats_kept unit s site = ap (λ (doing : Doing). doing.state.seats) (firing_through unit s.seats s site)
 
 abbrev persons_in : Doing → Persons
@@ -133,14 +133,14 @@ visible_keeps : (p : ℕ) (visible : Bool) (doing : Doing) (thing : Option ℕ) 
 visible_keeps p visible doing None = refl
 visible_keeps p visible doing (Some thing) = refl
 
-set_visible_keeps : (unit : Course) (owner : Owner) (visible : Bool) (doing : Doing) (id : List ℕ) → persons_in (set_visible unit owner visible doing id) ≡ persons_in doing
+set_visible_keeps : (unit : Unit) (owner : Owner) (visible : Bool) (doing : Doing) (id : List ℕ) → persons_in (set_visible unit owner visible doing id) ≡ persons_in doing
 set_visible_keeps unit Run visible doing id = refl
 set_visible_keeps unit (Person p) visible doing id = visible_keeps p.0 visible doing (thing_number unit id)
 
-change_for_keeps : (unit : Course) (change : ChangeOf) (doing : Doing) (owner : Owner) → persons_in (change_for unit change doing owner) ≡ persons_in doing
+change_for_keeps : (unit : Unit) (change : ChangeOf) (doing : Doing) (owner : Owner) → persons_in (change_for unit change doing owner) ≡ persons_in doing
 change_for_keeps unit change doing owner = change_keeps doing (cell_of_property unit owner change.property) (term_value unit (seen_in unit doing.state) owner change.value >>= if_fitting unit change.property)
 
-do_action_keeps : (unit : Course) (owner : Owner) (doing : Doing) (action : Action) → persons_in (do_action unit owner doing action) ≡ persons_in doing
+do_action_keeps : (unit : Unit) (owner : Owner) (doing : Doing) (action : Action) → persons_in (do_action unit owner doing action) ≡ persons_in doing
 do_action_keeps unit owner doing (Show things) = fold_keeps persons_in (set_visible unit owner true) (set_visible_keeps unit owner true) doing things
 do_action_keeps unit owner doing (Hide things) = fold_keeps persons_in (set_visible unit owner false) (set_visible_keeps unit owner false) doing things
 do_action_keeps unit owner doing (Change change) = fold_keeps persons_in (change_for unit change) (change_for_keeps unit change) doing (targets_of unit doing.state owner change)
@@ -150,13 +150,13 @@ opening_keeps : (doing : Doing) (thing : Option ℕ) → persons_in (with_openin
 opening_keeps doing None = refl
 opening_keeps doing (Some thing) = refl
 
-effect_keeps : (unit : Course) (owner : Owner) (rule : Rule) (verdict : Bool) (doing : Doing) → persons_in (rule_effect unit owner rule verdict doing) ≡ persons_in doing
+effect_keeps : (unit : Unit) (owner : Owner) (rule : Rule) (verdict : Bool) (doing : Doing) → persons_in (rule_effect unit owner rule verdict doing) ≡ persons_in doing
 effect_keeps unit owner rule verdict doing =
     fold_keeps persons_in (do_action unit owner) (do_action_keeps unit owner) (with_opening doing (opened_by unit rule)) (actions_of unit rule verdict)
     ∙ opening_keeps doing (opened_by unit rule)
 
 -- A firing leaves the persons as they are.
-pub persons_kept : (unit : Course) (s : RunState) (site : Site) → (site_firing unit s site).state.persons ≡ s.persons
+pub persons_kept : (unit : Unit) (s : RunState) (site : Site) → (site_firing unit s site).state.persons ≡ s.persons
 unfolding site_firing
 persons_kept unit s site = by (rule_of unit site)
   where
@@ -166,10 +166,10 @@ persons_kept unit s site = by (rule_of unit site)
 
 -- ---- visits and walks
 
-pub due_same : (unit : Course) (n : ℕ) (s : RunState) (site : Site) → is_due unit (reseated n s) site ≡ is_due unit s site
+pub due_same : (unit : Unit) (n : ℕ) (s : RunState) (site : Site) → is_due unit (reseated n s) site ≡ is_due unit s site
 due_same unit n s site = ap (λ seen. due (site_test unit seen site) (verdict_in (s.cells (site_mark site)))) (seen_same unit n s)
 
-pub visit_through : (unit : Course) (n : ℕ) (s : RunState) (site : Site) → after_visit unit (reseated n s) site ≡ reseated n (after_visit unit s site)
+pub visit_through : (unit : Unit) (n : ℕ) (s : RunState) (site : Site) → after_visit unit (reseated n s) site ≡ reseated n (after_visit unit s site)
 visit_through unit n s site =
     ap (λ b. cond b (site_firing unit (reseated n s) site).state (reseated n s)) (due_same unit n s site)
     ∙ ap (λ (doing : Doing). cond (is_due unit s site) doing.state (reseated n s)) (firing_through unit n s site)
@@ -179,25 +179,25 @@ visit_through unit n s site =
     by true = refl
     by false = refl
 
-pub visit_keeps_persons : (unit : Course) (s : RunState) (site : Site) → (after_visit unit s site).persons ≡ s.persons
+pub visit_keeps_persons : (unit : Unit) (s : RunState) (site : Site) → (after_visit unit s site).persons ≡ s.persons
 visit_keeps_persons unit s site = by (is_due unit s site)
   where
     by : (b : Bool) → (cond b (site_firing unit s site).state s).persons ≡ s.persons
     by true = persons_kept unit s site
     by false = refl
 
-pub visit_keeps_seats : (unit : Course) (s : RunState) (site : Site) → (after_visit unit s site).seats ≡ s.seats
+pub visit_keeps_seats : (unit : Unit) (s : RunState) (site : Site) → (after_visit unit s site).seats ≡ s.seats
 visit_keeps_seats unit s site = by (is_due unit s site)
   where
     by : (b : Bool) → (cond b (site_firing unit s site).state s).seats ≡ s.seats
     by true = seats_kept unit s site
     by false = refl
 
-pub walk_through : (unit : Course) (n : ℕ) (s : RunState) (sites : List Site) → walked unit (reseated n s) sites ≡ reseated n (walked unit s sites)
+pub walk_through : (unit : Unit) (n : ℕ) (s : RunState) (sites : List Site) → walked unit (reseated n s) sites ≡ reseated n (walked unit s sites)
 walk_through unit n s sites = fold_through (reseated n) (after_visit unit) (visit_through unit n) s sites
 
-pub walk_keeps_persons : (unit : Course) (s : RunState) (sites : List Site) → (walked unit s sites).persons ≡ s.persons
+pub walk_keeps_persons : (unit : Unit) (s : RunState) (sites : List Site) → (walked unit s sites).persons ≡ s.persons
 walk_keeps_persons unit s sites = fold_keeps (λ (t : RunState). t.persons) (after_visit unit) (visit_keeps_persons unit) s sites
 
-pub walk_keeps_seats : (unit : Course) (s : RunState) (sites : List Site) → (walked unit s sites).seats ≡ s.seats
+pub walk_keeps_seats : (unit : Unit) (s : RunState) (sites : List Site) → (walked unit s sites).seats ≡ s.seats
 walk_keeps_seats unit s sites = fold_keeps (λ (t : RunState). t.seats) (after_visit unit) (visit_keeps_seats unit) s sites

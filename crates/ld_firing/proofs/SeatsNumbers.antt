@@ -3,7 +3,7 @@ use Rattle.std.proofs.Common.{◌≡◌, ℕ, zero, suc, ◌+◌, ◌*◌, ◌<�
 use Rattle.std.specs.List.{range_with_len}
 use Rattle.ld_base.specs.Numbers.{numbers_below}
 use Rattle.ld_model.specs.Counting.{each_numbered_from}
-use Rattle.ld_model.specs.declared.unit.Unit.{Unit as Course}
+use Rattle.ld_model.specs.declared.unit.Unit.{Unit}
 use Rattle.ld_names.specs.declared.rule.Rule.{Rule}
 use Rattle.ld_names.specs.declared.rule.RuleKind.{RuleKind}
 use Rattle.ld_names.specs.declared.rule.RuleKind.TheVariants.{Person as OfPerson, Run as OfRun}
@@ -30,6 +30,6 @@ rules_ascend seats persons n (rule ∷ rules) seat seated =
     (widened (site_number seats) (n * seats + seats) ((n + 1) * seats) ((n + 1 + length rules) * seats) ((n + length (rule ∷ rules)) * seats) (each_numbered_from (sites_of_rule persons) (n + 1) rules) (omega arith) (omega arith) (rules_ascend seats persons (n + 1) rules seat seated))
 
 -- The numbers below the count, in order, have the sites in their order.
-pub sites_in_order : (unit : Course) (seats persons : ℕ) → 0 < seats → persons ≤ seats → filter_map (numbered (site_number seats) (sites_of unit persons)) (numbers_below (length (rules_of unit) * seats)) ≡ sites_of unit persons
+pub sites_in_order : (unit : Unit) (seats persons : ℕ) → 0 < seats → persons ≤ seats → filter_map (numbered (site_number seats) (sites_of unit persons)) (numbers_below (length (rules_of unit) * seats)) ≡ sites_of unit persons
 sites_in_order unit seats persons seat seated =
     found_again (site_number seats) (sites_of unit persons) (length (rules_of unit) * seats) 0 (sites_of unit persons) (widened (site_number seats) 0 (0 * seats) ((0 + length (rules_of unit)) * seats) (0 + length (rules_of unit) * seats) (sites_of unit persons) (omega arith) (omega arith) (rules_ascend seats persons 0 (rules_of unit) seat seated)) (λ i _. refl)

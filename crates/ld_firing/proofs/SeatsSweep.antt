@@ -8,7 +8,7 @@ use Rattle.std.proofs.lemmas.List.Sums.{fold-append, sum_by-append}
 use Rattle.ld_base.specs.Numbers.{numbers_below}
 use Rattle.ld_cascade.specs.System.{System, due}
 use Rattle.ld_cascade.specs.Settling.{Firing, step, fired, visited, fired_below, swept, sweep_firings, sums_of, counted}
-use Rattle.ld_model.specs.declared.unit.Unit.{Unit as Course}
+use Rattle.ld_model.specs.declared.unit.Unit.{Unit}
 use Rattle.ld_names.specs.Rules.{Site, sites_of, rules_of}
 use Rattle.ld_firing.specs.Actions.{nothing_done, site_firing}
 use Rattle.ld_state.specs.RunState.{RunState, seen_in}
@@ -57,27 +57,27 @@ fired_numbers y s (suc n) =
 -- ---- visits of the numbers of sites
 
 -- The site of this number, in a run with so many seats and persons.
-abbrev site_by : Course → ℕ → ℕ → ℕ → Option Site
+abbrev site_by : Unit → ℕ → ℕ → ℕ → Option Site
 site_by unit seats persons number = numbered (site_number seats) (sites_of unit persons) number
 
-same_site : (unit : Course) (s : RunState) (seats persons i : ℕ) → s.seats ≡ seats → length s.persons ≡ persons → site_at unit s i ≡ site_by unit seats persons i
+same_site : (unit : Unit) (s : RunState) (seats persons i : ℕ) → s.seats ≡ seats → length s.persons ≡ persons → site_at unit s i ≡ site_by unit seats persons i
 same_site unit s seats persons i with_seats with_persons =
     ap (λ k. site_by unit k (length s.persons) i) with_seats ∙ ap (λ k. site_by unit seats k i) with_persons
 
 -- What the visit of a number does, by the site that it has.
-abbrev due_by : Course → RunState → Option Site → Bool
+abbrev due_by : Unit → RunState → Option Site → Bool
 due_by unit s found = due (option_map_or (site_test unit (seen_in unit s)) found false) (option_map_or (λ site. verdict_in (s.cells (site_mark site))) found (Some false))
 
-abbrev after_by : Course → RunState → Option Site → RunState
+abbrev after_by : Unit → RunState → Option Site → RunState
 after_by unit s found = cond (due_by unit s found) (option_map_or (site_firing unit s) found (nothing_done s)).state s
 
-step_by : (unit : Course) (s : RunState) (i : ℕ) → step (run_system unit) s i ≡ after_by unit s (site_at unit s i)
+step_by : (unit : Unit) (s : RunState) (i : ℕ) → step (run_system unit) s i ≡ after_by unit s (site_at unit s i)
 step_by unit s i = refl
 
-step_is : (unit : Course) (s : RunState) (seats persons i : ℕ) → s.seats ≡ seats → length s.persons ≡ persons → step (run_system unit) s i ≡ after_by unit s (site_by unit seats persons i)
+step_is : (unit : Unit) (s : RunState) (seats persons i : ℕ) → s.seats ≡ seats → length s.persons ≡ persons → step (run_system unit) s i ≡ after_by unit s (site_by unit seats persons i)
 step_is unit s seats persons i with_seats with_persons = ap (after_by unit s) (same_site unit s seats persons i with_seats with_persons)
 
-states_walk : (unit : Course) (s : RunState) (seats persons : ℕ) (numbers : List ℕ) → s.seats ≡ seats → length s.persons ≡ persons → fold (step (run_system unit)) s numbers ≡ walked unit s (filter_map (site_by unit seats persons) numbers)
+states_walk : (unit : Unit) (s : RunState) (seats persons : ℕ) (numbers : List ℕ) → s.seats ≡ seats → length s.persons ≡ persons → fold (step (run_system unit)) s numbers ≡ walked unit s (filter_map (site_by unit seats persons) numbers)
 states_walk unit s seats persons [] with_seats with_persons = refl
 states_walk unit s seats persons (i ∷ numbers) with_seats with_persons =
     ap (λ t. fold (step (run_system unit)) t numbers) (step_is unit s seats persons i with_seats with_persons)
@@ -88,7 +88,7 @@ states_walk unit s seats persons (i ∷ numbers) with_seats with_persons =
     by (Some site) rest = rest (after_visit unit s site) (visit_keeps_seats unit s site ∙ with_seats) (ap length (visit_keeps_persons unit s site) ∙ with_persons)
 
 -- A sweep is a walk over all sites.
-pub sweep_walks : (unit : Course) (s : RunState) → HasSeats s → swept (run_system unit) s ≡ walked unit s (all_sites unit s)
+pub sweep_walks : (unit : Unit) (s : RunState) → HasSeats s → swept (run_system unit) s ≡ walked unit s (all_sites unit s)
 sweep_walks unit s seats =
     visited_numbers (run_system unit) s (length (rules_of unit) * s.seats)
     ∙ states_walk unit s s.seats (length s.persons) (numbers_below (length (rules_of unit) * s.seats)) refl refl
@@ -104,23 +104,23 @@ found_passes test (y ∷ xs) x found = by (test y) refl (found_passes test xs x)
     by true passes rest here = let same : y ≡ x = cc in ap test (sym same) ∙ passes
     by false fails rest later = rest later
 
-has_number : (unit : Course) (seats persons i : ℕ) (site : Site) → site_by unit seats persons i ≡ Some site → site_number seats site ≡ i
+has_number : (unit : Unit) (seats persons i : ℕ) (site : Site) → site_by unit seats persons i ≡ Some site → site_number seats site ≡ i
 has_number unit seats persons i site found = eqb-true (site_number seats site) i (found_passes (λ x. nat_eq (site_number seats x) i) (sites_of unit persons) site found)
 
-abbrev fired_by : (unit : Course) → RunState → ℕ → Option Site → List (Firing (run_system unit))
+abbrev fired_by : (unit : Unit) → RunState → ℕ → Option Site → List (Firing (run_system unit))
 fired_by unit s i found = cond (due_by unit s found) (record { before = s; site = i } ∷ []) []
 
-fired_is : (unit : Course) (s : RunState) (seats persons i : ℕ) → s.seats ≡ seats → length s.persons ≡ persons → fired (run_system unit) s i ≡ fired_by unit s i (site_by unit seats persons i)
+fired_is : (unit : Unit) (s : RunState) (seats persons i : ℕ) → s.seats ≡ seats → length s.persons ≡ persons → fired (run_system unit) s i ≡ fired_by unit s i (site_by unit seats persons i)
 fired_is unit s seats persons i with_seats with_persons = ap (fired_by unit s i) (same_site unit s seats persons i with_seats with_persons)
 
-firing_numbered : (unit : Course) (s : RunState) (seats i : ℕ) (site : Site) → site_number seats site ≡ i → fired_by unit s i (Some site) ≡ map (with_number unit seats) (visit_firings unit s site)
+firing_numbered : (unit : Unit) (s : RunState) (seats i : ℕ) (site : Site) → site_number seats site ≡ i → fired_by unit s i (Some site) ≡ map (with_number unit seats) (visit_firings unit s site)
 firing_numbered unit s seats i site number = by (is_due unit s site)
   where
     by : (b : Bool) → cond b (record { before = s; site = i } ∷ []) [] ≡ map (with_number unit seats) (cond b (record { before = s; site = site } ∷ []) [])
     by true = ap (λ k. record { before = s; site = k } ∷ []) (sym number)
     by false = refl
 
-firings_walk : (unit : Course) (s : RunState) (seats persons : ℕ) (numbers : List ℕ) → s.seats ≡ seats → length s.persons ≡ persons → firings_at (run_system unit) s numbers ≡ map (with_number unit seats) (walk_firings unit s (filter_map (site_by unit seats persons) numbers))
+firings_walk : (unit : Unit) (s : RunState) (seats persons : ℕ) (numbers : List ℕ) → s.seats ≡ seats → length s.persons ≡ persons → firings_at (run_system unit) s numbers ≡ map (with_number unit seats) (walk_firings unit s (filter_map (site_by unit seats persons) numbers))
 firings_walk unit s seats persons [] with_seats with_persons = refl
 firings_walk unit s seats persons (i ∷ numbers) with_seats with_persons =
     ap (λ first. first ++ firings_at (run_system unit) (step (run_system unit) s i) numbers) (fired_is unit s seats persons i with_seats with_persons)
@@ -135,7 +135,7 @@ firings_walk unit s seats persons (i ∷ numbers) with_seats with_persons =
         ∙ sym (map-append (with_number unit seats) (visit_firings unit s site) (walk_firings unit (after_visit unit s site) (filter_map (site_by unit seats persons) numbers)))
 
 -- The firings of a sweep are those of the walk.
-pub sweep_fires : (unit : Course) (s : RunState) → HasSeats s → sweep_firings (run_system unit) s ≡ map (with_number unit s.seats) (walk_firings unit s (all_sites unit s))
+pub sweep_fires : (unit : Unit) (s : RunState) → HasSeats s → sweep_firings (run_system unit) s ≡ map (with_number unit s.seats) (walk_firings unit s (all_sites unit s))
 sweep_fires unit s seats =
     fired_numbers (run_system unit) s (length (rules_of unit) * s.seats)
     ∙ firings_walk unit s s.seats (length s.persons) (numbers_below (length (rules_of unit) * s.seats)) refl refl
@@ -144,17 +144,17 @@ sweep_fires unit s seats =
 -- ---- sums
 
 -- A number that a visit of a site's number gives is the one that the visit of the site gives.
-abbrev Measures : Course → (RunState → ℕ → ℕ) → (RunState → Site → ℕ) → Type 0
+abbrev Measures : Unit → (RunState → ℕ → ℕ) → (RunState → Site → ℕ) → Type 0
 Measures unit of_number of_site =
     (s : RunState) (i : ℕ) (site : Site) → site_at unit s i ≡ Some site → of_number s i ≡ of_site s site
 
-abbrev by_number : (unit : Course) → (RunState → ℕ → ℕ) → Firing (run_system unit) → ℕ
+abbrev by_number : (unit : Unit) → (RunState → ℕ → ℕ) → Firing (run_system unit) → ℕ
 by_number unit of_number f = of_number f.before f.site
 
 abbrev by_site : (RunState → Site → ℕ) → SiteFiring → ℕ
 by_site of_site f = of_site f.before f.site
 
-sum_walk : (unit : Course) (seats persons : ℕ) (of_number : RunState → ℕ → ℕ) (of_site : RunState → Site → ℕ) → Measures unit of_number of_site → (s : RunState) (numbers : List ℕ) → s.seats ≡ seats → length s.persons ≡ persons → sum_by (by_number unit of_number) (firings_at (run_system unit) s numbers) ≡ sum_by (by_site of_site) (walk_firings unit s (filter_map (site_by unit seats persons) numbers))
+sum_walk : (unit : Unit) (seats persons : ℕ) (of_number : RunState → ℕ → ℕ) (of_site : RunState → Site → ℕ) → Measures unit of_number of_site → (s : RunState) (numbers : List ℕ) → s.seats ≡ seats → length s.persons ≡ persons → sum_by (by_number unit of_number) (firings_at (run_system unit) s numbers) ≡ sum_by (by_site of_site) (walk_firings unit s (filter_map (site_by unit seats persons) numbers))
 sum_walk unit seats persons of_number of_site measures s [] with_seats with_persons = refl
 sum_walk unit seats persons of_number of_site measures s (i ∷ numbers) with_seats with_persons =
     sum_by-append (by_number unit of_number) (fired (run_system unit) s i) (firings_at (run_system unit) (step (run_system unit) s i) numbers)
@@ -173,14 +173,14 @@ sum_walk unit seats persons of_number of_site measures s (i ∷ numbers) with_se
         ∙ ap (λ later. sum_by (by_site of_site) (visit_firings unit s site) + later) (rest (after_visit unit s site) (visit_keeps_seats unit s site ∙ with_seats) (ap length (visit_keeps_persons unit s site) ∙ with_persons))
         ∙ sym (sum_by-append (by_site of_site) (visit_firings unit s site) (walk_firings unit (after_visit unit s site) (filter_map (site_by unit seats persons) numbers)))
 
-sweep_sum : (unit : Course) (of_number : RunState → ℕ → ℕ) (of_site : RunState → Site → ℕ) (s : RunState) → Measures unit of_number of_site → HasSeats s → sum_by (by_number unit of_number) (sweep_firings (run_system unit) s) ≡ sum_by (by_site of_site) (walk_firings unit s (all_sites unit s))
+sweep_sum : (unit : Unit) (of_number : RunState → ℕ → ℕ) (of_site : RunState → Site → ℕ) (s : RunState) → Measures unit of_number of_site → HasSeats s → sum_by (by_number unit of_number) (sweep_firings (run_system unit) s) ≡ sum_by (by_site of_site) (walk_firings unit s (all_sites unit s))
 sweep_sum unit of_number of_site s measures seats =
     ap (sum_by (by_number unit of_number)) (fired_numbers (run_system unit) s (length (rules_of unit) * s.seats))
     ∙ sum_walk unit s.seats (length s.persons) of_number of_site measures s (numbers_below (length (rules_of unit) * s.seats)) refl refl
     ∙ ap (λ sites. sum_by (by_site of_site) (walk_firings unit s sites)) (sites_in_order unit s.seats (length s.persons) seats.seat seats.seated)
 
 -- The sums of a sweep are those of the walk.
-pub sweep_sums : (unit : Course) (s : RunState) → HasSeats s → sums_of (run_system unit) (sweep_firings (run_system unit) s) ≡ walk_sums unit (walk_firings unit s (all_sites unit s))
+pub sweep_sums : (unit : Unit) (s : RunState) → HasSeats s → sums_of (run_system unit) (sweep_firings (run_system unit) s) ≡ walk_sums unit (walk_firings unit s (all_sites unit s))
 sweep_sums unit s seats = λ i. counted (fired_same i) (rejected_same i) (sent_same i)
   where
     fired_same : length (sweep_firings (run_system unit) s) ≡ length (walk_firings unit s (all_sites unit s))

@@ -7,7 +7,7 @@ use Rattle.std.specs.List.{list_all}
 use Rattle.ld_value.specs.Datum.{truth_datum, number_datum}
 use Rattle.ld_model.specs.declared.cell.CellName.{CellName}
 use Rattle.ld_model.specs.declared.cell.CellName.TheVariants.{Prop, Vis, Member, Chosen, Opened, ActOpened, Started, Mark, Now, Roster}
-use Rattle.ld_model.specs.declared.unit.Unit.{Unit as Course}
+use Rattle.ld_model.specs.declared.unit.Unit.{Unit}
 use Rattle.ld_expr.specs.Viewing.{HasCells, seen_by}
 use Rattle.ld_roles.specs.Kept.{person_of, persons_of}
 use Rattle.ld_roles.specs.Membership.{is_member_among}
@@ -24,7 +24,7 @@ use Rattle.ld_firing.proofs.CellsThere.{AreCells}
 pub persons_counted : (s : StateView) → length (run_of s).persons ≡ length s.rows
 persons_counted s = length-map s.rows person_of
 
-module _ (unit : Course) (s : StateView) (own : IsStateOf unit s) where
+module _ (unit : Unit) (s : StateView) (own : IsStateOf unit s) where
   cell_seen : (name : CellName) → cells_seen s name ≡ cell_of unit (run_of s) name
   unfolding cell_of
   cell_seen (Member r p) = ap (λ roles. Some (truth_datum (is_member_among roles (persons_of s.rows) r.0 p.0))) own.roles
@@ -59,13 +59,13 @@ module _ (unit : Course) (s : StateView) (own : IsStateOf unit s) where
 
 -- ---- cells of the unit's runs
 
-pub slot_there : (unit : Course) (persons : ℕ) (name : CellName) → IsIn (all_cells unit persons) name
+pub slot_there : (unit : Unit) (persons : ℕ) (name : CellName) → IsIn (all_cells unit persons) name
     → has_slot unit persons name ≡ true
 slot_there unit persons name inside =
     let stands = stands_in (all_cells unit persons) name inside in
     ap is_some (slot_stands unit persons stands.number name stands.at)
 
-pub slots_there : (unit : Course) (persons : ℕ) (names : List CellName) → AreCells unit persons names
+pub slots_there : (unit : Unit) (persons : ℕ) (names : List CellName) → AreCells unit persons names
     → HasCells (has_slot unit persons) names
 slots_there unit persons names are = record { each = by names are }
   where

@@ -6,7 +6,7 @@ use Rattle.std.specs.Option.{option_map_or}
 use Rattle.ld_base.specs.Numbers.{numbers_below}
 use Rattle.ld_model.specs.declared.cell.Owner.{Owner}
 use Rattle.ld_model.specs.declared.cell.Owner.TheVariants.{Run, Person}
-use Rattle.ld_model.specs.declared.unit.Unit.{Unit as Course}
+use Rattle.ld_model.specs.declared.unit.Unit.{Unit}
 use Rattle.ld_names.specs.declared.rule.Rule.{Rule}
 use Rattle.ld_names.specs.declared.rule.RuleKind.{RuleKind}
 use Rattle.ld_names.specs.declared.rule.RuleKind.TheVariants.{Person as OfPerson, Run as OfRun}
@@ -25,7 +25,7 @@ pub data IsOwner (persons : ℕ) : Bool → Owner → Type 0 where
   the_run : IsOwner persons false Run
 
 -- The site of a number, its rule, and that the run has its owner.
-pub record HasSite (unit : Course) (s : RunState) (i : ℕ) (site : Site) : Type 0 where
+pub record HasSite (unit : Unit) (s : RunState) (i : ℕ) (site : Site) : Type 0 where
   pub at : site_at unit s i ≡ Some site
   pub number : site_number s.seats site ≡ i
   pub rule : Rule
@@ -46,7 +46,7 @@ of_rule persons n OfPerson site inside =
 of_rule persons n OfRun site (inl is) = subst (λ found. IsOfRule persons n OfRun found) is (record { number = refl; owned = the_run })
 of_rule persons n OfRun site (inr later) = absurd later
 
-pub site_found : (unit : Course) (s : RunState) (i : ℕ) (site : Site) → site_at unit s i ≡ Some site
+pub site_found : (unit : Unit) (s : RunState) (i : ℕ) (site : Site) → site_at unit s i ≡ Some site
     → HasSite unit s i site
 site_found unit s i site at =
     let chosen = chosen_by (λ one. nat_eq (site_number s.seats one) i) (sites_of unit (length s.persons)) site at in
@@ -71,17 +71,17 @@ none_of None is = refl
 none_of (Some x) is = absurd (cc)
 
 -- What is said of the site that a number has, and of one that has none.
-pub said_of : {A : Type 0} → (unit : Course) (s : RunState) (i : ℕ) (site : Site) (said : Site → A) (other : A)
+pub said_of : {A : Type 0} → (unit : Unit) (s : RunState) (i : ℕ) (site : Site) (said : Site → A) (other : A)
     → site_at unit s i ≡ Some site → of_site unit s i said other ≡ said site
 said_of unit s i site said other at = ap (λ o. option_map_or said o other) at
 
-pub said_of_none : {A : Type 0} → (unit : Course) (s : RunState) (i : ℕ) (said : Site → A) (other : A)
+pub said_of_none : {A : Type 0} → (unit : Unit) (s : RunState) (i : ℕ) (said : Site → A) (other : A)
     → site_at unit s i ≡ None → of_site unit s i said other ≡ other
 said_of_none unit s i said other at = ap (λ o. option_map_or said o other) at
 
 -- ---- the same enrolment
 
-pub same_site_at : (unit : Course) (s t : RunState) (i : ℕ) → s.seats ≡ t.seats → s.persons ≡ t.persons
+pub same_site_at : (unit : Unit) (s t : RunState) (i : ℕ) → s.seats ≡ t.seats → s.persons ≡ t.persons
     → site_at unit s i ≡ site_at unit t i
 same_site_at unit s t i seats persons =
     ap₂ (λ n ps. find (λ site. nat_eq (site_number n site) i) (sites_of unit (length ps))) seats persons
@@ -99,7 +99,7 @@ number_below rule rules seats owner lower inside =
     let whole : suc rule * seats ≤ rules * seats = mul-le-mul_right seats (omega (arith, lower)) in
     omega (arith, whole, inside, suc-mul rule seats)
 
-pub site_below : (unit : Course) (s : RunState) (i : ℕ) (site : Site) → 0 < s.seats → length s.persons ≤ s.seats
+pub site_below : (unit : Unit) (s : RunState) (i : ℕ) (site : Site) → 0 < s.seats → length s.persons ≤ s.seats
     → HasSite unit s i site → i < length (rules_of unit) * s.seats
 site_below unit s i site seat seated has =
     subst (λ n. n < length (rules_of unit) * s.seats) has.number
@@ -110,7 +110,7 @@ site_below unit s i site seat seated has =
 -- ---- what a firing leaves
 
 -- What holds of nothing done, and of the firing of the site of the number, holds of what its firing does.
-pub at_firing : (unit : Course) (s : RunState) (i : ℕ) (P : Doing → Type 0) → P (nothing_done s)
+pub at_firing : (unit : Unit) (s : RunState) (i : ℕ) (P : Doing → Type 0) → P (nothing_done s)
     → ((site : Site) → site_at unit s i ≡ Some site → P (site_firing unit s site)) → P (firing_at unit s i)
 at_firing unit s i P nothing fired = by (site_at unit s i) fired
   where

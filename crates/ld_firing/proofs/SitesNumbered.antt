@@ -5,7 +5,7 @@ use Rattle.std.specs.List.{list_all}
 use Rattle.ld_base.specs.Numbers.{numbers_below}
 use Rattle.ld_model.specs.declared.cell.CellName.{CellName}
 use Rattle.ld_model.specs.declared.cell.Owner.TheVariants.{Run}
-use Rattle.ld_model.specs.declared.unit.Unit.{Unit as Course}
+use Rattle.ld_model.specs.declared.unit.Unit.{Unit}
 use Rattle.ld_names.specs.declared.rule.Rule.{Rule}
 use Rattle.ld_names.specs.declared.rule.RuleKind.TheVariants.{Person as OfPerson, Run as OfRun}
 use Rattle.ld_names.specs.Rules.{Site, kind_of, person_site, rules_of, sites_by_kind, sites_of, sites_of_rule}
@@ -40,11 +40,11 @@ found_by_number number a b (y ∷ ys) x ascends (inr later) =
     let rest = found_by_number number (number y + 1) b ys x ascends.1 later in
     (omega (arith, ascends.0, rest.0), rw (ne_eqb (number y) (number x) (λ same. omega (arith, same, rest.0))) rest.1)
 
-pub seats_of : (unit : Course) (s : RunState) → IsSoundRun unit s → HasSeats s
+pub seats_of : (unit : Unit) (s : RunState) → IsSoundRun unit s → HasSeats s
 seats_of unit s sound = record { seat = sound.seat; seated = sound.seated }
 
 -- A site is the one of its number.
-pub site_numbered : (unit : Course) (s : RunState) (site : Site) → HasSeats s → Contains (sites_of unit (length s.persons)) site
+pub site_numbered : (unit : Unit) (s : RunState) (site : Site) → HasSeats s → Contains (sites_of unit (length s.persons)) site
     → site_at unit s (site_number s.seats site) ≡ Some site
 site_numbered unit s site seats there =
     (found_by_number (site_number s.seats) (0 * s.seats) ((0 + length (rules_of unit)) * s.seats) (sites_of unit (length s.persons)) site
@@ -58,7 +58,7 @@ all_have has [] each = refl
 all_have has (c ∷ cells) each = and_from (has c) (list_all has cells) (each c (inl refl)) (all_have has cells (λ d inside. each d (inr inside)))
 
 -- A state has the cells of the runs of its unit.
-has_there : (unit : Course) (s : StateView) → IsStateOf unit s → (c : CellName) → IsIn (all_cells unit (length (run_of s).persons)) c → has_cell s c ≡ true
+has_there : (unit : Unit) (s : StateView) → IsStateOf unit s → (c : CellName) → IsIn (all_cells unit (length (run_of s).persons)) c → has_cell s c ≡ true
 has_there unit s own c inside =
     let stands = stands_in (all_cells unit (length (run_of s).persons)) c inside in
     ap (λ layout. is_some (slot_in layout (length s.rows) c)) own.layout
@@ -66,7 +66,7 @@ has_there unit s own c inside =
     ∙ ap (λ n. is_some (slot_of unit n c)) (sym (persons_counted s))
     ∙ ap is_some (slot_stands unit (length (run_of s).persons) stands.number c stands.at)
 
-module _ (unit : Course) (s : StateView) (own : IsStateOf unit s) (sound : IsSoundRun unit (run_of s)) (site : Site) (there : Contains (sites_of unit (length s.rows)) site) where
+module _ (unit : Unit) (s : StateView) (own : IsStateOf unit s) (sound : IsSoundRun unit (run_of s)) (site : Site) (there : Contains (sites_of unit (length s.rows)) site) where
   there_in_run : Contains (sites_of unit (length (run_of s).persons)) site
   there_in_run = subst (λ n. Contains (sites_of unit n) site) (sym (persons_counted s)) there
 
@@ -93,7 +93,7 @@ module _ (unit : Course) (s : StateView) (own : IsStateOf unit s) (sound : IsSou
 -- ---- which sites there are
 
 -- A site of a rule is one of the run.
-pub site_of_rule_there : (unit : Course) (persons number : ℕ) (rule : Rule) (site : Site) → slice_get (rules_of unit) number ≡ Some rule
+pub site_of_rule_there : (unit : Unit) (persons number : ℕ) (rule : Rule) (site : Site) → slice_get (rules_of unit) number ≡ Some rule
     → IsIn (sites_of_rule persons number rule) site → Contains (sites_of unit persons) site
 site_of_rule_there unit persons number rule site at inside =
     contains_from_in (sites_of unit persons) site
@@ -102,7 +102,7 @@ site_of_rule_there unit persons number rule site at inside =
 -- ---- how many persons there are
 
 -- A run has at most 200 persons, since it has as many seats.
-pub persons_few : (unit : Course) (s : StateView) → IsSoundRun unit (run_of s) → length s.rows ≤ 200
+pub persons_few : (unit : Unit) (s : StateView) → IsSoundRun unit (run_of s) → length s.rows ≤ 200
 persons_few unit s sound = omega (arith, sound.seated, persons_counted s)
 
 -- ---- the sites of a rule
@@ -113,14 +113,14 @@ sites_for_persons persons number rule is = ap (sites_by_kind persons number) (sy
 pub sites_for_run : (persons number : ℕ) (rule : Rule) → OfRun ≡ kind_of rule → sites_of_rule persons number rule ≡ record { rule = number; owner = Run } ∷ []
 sites_for_run persons number rule is = ap (sites_by_kind persons number) (sym is)
 
-pub person_site_there : (unit : Course) (persons number : ℕ) (rule : Rule) (p : ℕ) → slice_get (rules_of unit) number ≡ Some rule → OfPerson ≡ kind_of rule → p < persons
+pub person_site_there : (unit : Unit) (persons number : ℕ) (rule : Rule) (p : ℕ) → slice_get (rules_of unit) number ≡ Some rule → OfPerson ≡ kind_of rule → p < persons
     → Contains (sites_of unit persons) (person_site number p)
 person_site_there unit persons number rule p at is below =
     site_of_rule_there unit persons number rule (person_site number p) at
     (subst (λ sites. IsIn sites (person_site number p)) (sym (sites_for_persons persons number rule is))
     (in_map (person_site number) (numbers_below persons) p (in_below persons p below)))
 
-pub run_site_there : (unit : Course) (persons number : ℕ) (rule : Rule) → slice_get (rules_of unit) number ≡ Some rule → OfRun ≡ kind_of rule
+pub run_site_there : (unit : Unit) (persons number : ℕ) (rule : Rule) → slice_get (rules_of unit) number ≡ Some rule → OfRun ≡ kind_of rule
     → Contains (sites_of unit persons) (record { rule = number; owner = Run })
 run_site_there unit persons number rule at is =
     site_of_rule_there unit persons number rule (record { rule = number; owner = Run }) at

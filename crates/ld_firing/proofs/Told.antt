@@ -6,7 +6,7 @@ use Rattle.ld_value.specs.Datum.{Datum, same_datum}
 use Rattle.ld_model.specs.Cells.{same_cell}
 use Rattle.ld_model.specs.declared.cell.CellName.{CellName}
 use Rattle.ld_model.specs.declared.cell.Owner.{Owner}
-use Rattle.ld_model.specs.declared.unit.Unit.{Unit as Course}
+use Rattle.ld_model.specs.declared.unit.Unit.{Unit}
 use Rattle.ld_expr.specs.Seen.{mark_cell}
 use Rattle.ld_roles.specs.Roster.{Persons}
 use Rattle.ld_state.specs.Layout.{slot_in}
@@ -26,7 +26,7 @@ use Rattle.ld_firing.proofs.SeenInStates.{persons_counted}
 
 -- ---- one after another
 
-pub tells_nothing : (unit : Course) (s : RunState) (told : List ℕ) → Tells unit s s told told
+pub tells_nothing : (unit : Unit) (s : RunState) (told : List ℕ) → Tells unit s s told told
 tells_nothing unit s told = record {
   persons = refl;
   seats = refl;
@@ -36,7 +36,7 @@ tells_nothing unit s told = record {
   marks = λ rule owner. refl;
 }
 
-pub tells_then : {unit : Course} {s t u : RunState} {before told more : List ℕ} → Tells unit s t before told
+pub tells_then : {unit : Unit} {s t u : RunState} {before told more : List ℕ} → Tells unit s t before told
     → Tells unit t u told more → Tells unit s u before more
 tells_then {unit} {s} {t} {u} {before} {told} {more} first second = record {
   persons = second.persons ∙ first.persons;
@@ -59,7 +59,7 @@ tells_then {unit} {s} {t} {u} {before} {told} {more} first second = record {
 abbrev pub IsNoMark : CellName → Type 0
 IsNoMark cell = (rule : ℕ) (owner : Owner) → same_cell (mark_cell rule owner) cell ≡ false
 
-module _ (unit : Course) (s : RunState) (cell : CellName) (value : Option Datum) (before : List ℕ) where
+module _ (unit : Unit) (s : RunState) (cell : CellName) (value : Option Datum) (before : List ℕ) where
   abbrev written : RunState
   written = with_cell s cell value
 
@@ -103,7 +103,7 @@ module _ (unit : Course) (s : RunState) (cell : CellName) (value : Option Datum)
   }
 
 -- What the clauses `run`, `same` and `changed` of a state's `set` come to.
-pub told_by_set : (unit : Course) (old new : StateView) (before told : List ℕ) (cell : CellName) (value : Option Datum)
+pub told_by_set : (unit : Unit) (old new : StateView) (before told : List ℕ) (cell : CellName) (value : Option Datum)
     → IsNoMark cell → IsStateOf unit old → run_of new ≡ with_cell (run_of old) cell value
     → ((run_of old).cells cell ≡ value → told ≡ before)
     → (((run_of old).cells cell ≡ value → ⊥) → Some told ≡ option_map (λ slot. before ++ slot ∷ []) (slot_in old.layout (length old.rows) cell))
@@ -120,7 +120,7 @@ told_by_set unit old new before told cell value other own run same changed =
         (told_where unit old new before told cell value (option_eq same_datum ((run_of old).cells cell) value) refl own same changed)
 
 -- The same where a refusal is possible.
-pub told_if_set : {A E : Type 0} → (result : Result A E) (unit : Course) (old new : StateView) (before told : List ℕ) (cell : CellName) (value : Option Datum)
+pub told_if_set : {A E : Type 0} → (result : Result A E) (unit : Unit) (old new : StateView) (before told : List ℕ) (cell : CellName) (value : Option Datum)
     → IsNoMark cell → IsStateOf unit old → OnOk result (run_of new ≡ with_cell (run_of old) cell value)
     → OnOk result ((run_of old).cells cell ≡ value → told ≡ before)
     → OnOk result (((run_of old).cells cell ≡ value → ⊥) → Some told ≡ option_map (λ slot. before ++ slot ∷ []) (slot_in old.layout (length old.rows) cell))

@@ -2,7 +2,7 @@
 use Rattle.std.proofs.Common.{◌≡◌, ℕ, ◌≤◌, List, length, Option, Some, None, Bool, true, ◌&&◌, nat_le}
 use Rattle.std.proofs.lemmas.Bool.{leb-true}
 use Rattle.ld_base.specs.Identifier.{has_identifier_form}
-use Rattle.ld_model.specs.declared.unit.Unit.{Unit as Course}
+use Rattle.ld_model.specs.declared.unit.Unit.{Unit}
 use Rattle.ld_formats.specs.Units.{is_well_formed, unit as unit_shape, parts, method_documents, head, content_members, format, declared_parts, head_and_conditions}
 use Rattle.ld_value.proofs.Choices.{and_left, and_right}
 
@@ -17,7 +17,7 @@ third : (first second rest : Bool) → (first && (second && rest)) ≡ true → 
 third first second rest all = and_right second rest (and_right first (second && rest) all)
 
 -- A well-formed unit allows at most 256 turns.
-pub turns_are_few : (unit : Course) → is_well_formed unit ≡ true → unit.turns ≤ 256
+pub turns_are_few : (unit : Unit) → is_well_formed unit ≡ true → unit.turns ≤ 256
 unfolding is_well_formed unit_shape method_documents head content_members
 turns_are_few unit formed =
     let own = in_the_middle (parts.has_form (declared_parts unit)) (head.has_form (head_and_conditions unit).0) _ formed in

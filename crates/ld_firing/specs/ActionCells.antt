@@ -6,7 +6,7 @@ use Rattle.ld_model.specs.declared.cell.Owner.TheVariants.{Run, Person}
 use Rattle.ld_model.specs.declared.completion.Change.{Change as ChangeOf}
 use Rattle.ld_model.specs.declared.condition.Action.{Action}
 use Rattle.ld_model.specs.declared.condition.Action.TheVariants.{Show, Hide, Change, Notify}
-use Rattle.ld_model.specs.declared.unit.Unit.{Unit as Course}
+use Rattle.ld_model.specs.declared.unit.Unit.{Unit}
 use Rattle.ld_names.specs.declared.rule.Rule.{Rule}
 use Rattle.ld_names.specs.Names.{thing_number}
 use Rattle.ld_expr.specs.Looks.{property_looks, term_looks}
@@ -16,40 +16,40 @@ use Rattle.ld_firing.specs.Actions.{actions_of, is_of_persons, opened_by, owners
 use Rattle.ld_state.specs.RunCells.{slot_of}
 
 -- A run with so many persons has the cell.
-abbrev pub has_slot : Course → ℕ → CellName → Bool
+abbrev pub has_slot : Unit → ℕ → CellName → Bool
 has_slot unit persons cell = is_some (slot_of unit persons cell)
 
 -- What the owner sees of the thing: a person.
-abbrev pub visible_cells : Course → Owner → List ℕ → List CellName
+abbrev pub visible_cells : Unit → Owner → List ℕ → List CellName
 visible_cells unit Run id = []
 visible_cells unit (Person p) id = list_from (λ thing. visibility_cell thing p.0 ∷ []) (thing_number unit id)
 
 -- The owner's value of the property, and what its new value is worked out from.
-abbrev pub change_cells : Course → ChangeOf → Owner → List CellName
+abbrev pub change_cells : Unit → ChangeOf → Owner → List CellName
 change_cells unit change owner = property_looks unit owner change.property ++ term_looks unit owner change.value
 
 -- The same for all for whom the change is made.
-abbrev pub all_change_cells : Course → ℕ → Owner → ChangeOf → List CellName
+abbrev pub all_change_cells : Unit → ℕ → Owner → ChangeOf → List CellName
 all_change_cells unit persons owner change =
     flat_map (change_cells unit change) (owners_of_change persons owner (is_of_persons unit change.property))
 
 -- The cells of one action at a site of the owner; of a notice none is listed.
-abbrev pub action_cells : Course → ℕ → Owner → Action → List CellName
+abbrev pub action_cells : Unit → ℕ → Owner → Action → List CellName
 action_cells unit persons owner (Show things) = flat_map (visible_cells unit owner) things
 action_cells unit persons owner (Hide things) = flat_map (visible_cells unit owner) things
 action_cells unit persons owner (Change change) = all_change_cells unit persons owner change
 action_cells unit persons owner (Notify notice) = []
 
 -- Those of several actions, one after another.
-abbrev pub actions_cells : Course → ℕ → Owner → List Action → List CellName
+abbrev pub actions_cells : Unit → ℕ → Owner → List Action → List CellName
 actions_cells unit persons owner actions = flat_map (action_cells unit persons owner) actions
 
 -- The opening of an act that the rule opens.
-abbrev pub opened_act_cells : Course → Rule → List CellName
+abbrev pub opened_act_cells : Unit → Rule → List CellName
 opened_act_cells unit rule = list_from (λ thing. act_opened_cell thing ∷ []) (opened_by unit rule)
 
 -- The cells of the firing of the rule of this number: its mark, what it opens, and those of its actions.
-abbrev pub firing_cells : Course → ℕ → Owner → ℕ → Rule → Bool → List CellName
+abbrev pub firing_cells : Unit → ℕ → Owner → ℕ → Rule → Bool → List CellName
 firing_cells unit persons owner number rule verdict =
     mark_cell number owner
     ∷ (opened_act_cells unit rule ++ actions_cells unit persons owner (actions_of unit rule verdict))

@@ -16,7 +16,7 @@ use Rattle.ld_model.specs.declared.completion.OnCompletion.{OnCompletion}
 use Rattle.ld_model.specs.declared.condition.Action.{Action}
 use Rattle.ld_model.specs.declared.condition.Action.TheVariants.{Show, Hide, Change, Notify}
 use Rattle.ld_model.specs.declared.condition.Condition.{Condition}
-use Rattle.ld_model.specs.declared.unit.Unit.{Unit as Course}
+use Rattle.ld_model.specs.declared.unit.Unit.{Unit}
 use Rattle.ld_names.specs.declared.rule.Rule.{Rule}
 use Rattle.ld_names.specs.declared.rule.Rule.TheVariants.{CompletesActivity, CompletesStructure, OpensAct, CompletesPart, CompletesAct, CompletesPlay, CompletesUnit, JudgesCondition}
 use Rattle.ld_names.specs.Names.{thing_number}
@@ -62,12 +62,12 @@ with_change doing (Some cell) (Some value) = with_write doing cell (Some value)
 with_change doing _ _ = record doing { rejected = doing.rejected + 1 }
 
 -- The value, where it fits the property of this identifier.
-abbrev pub if_fitting : Course → List ℕ → Datum → Option Datum
+abbrev pub if_fitting : Unit → List ℕ → Datum → Option Datum
 if_fitting unit id value =
     property_of unit id >>= λ property. provided (fits_property property value) value
 
 -- The owner's value of the property becomes what the term says for this owner.
-abbrev pub change_for : Course → ChangeOf → Doing → Owner → Doing
+abbrev pub change_for : Unit → ChangeOf → Doing → Owner → Doing
 change_for unit change doing owner =
     let value = term_value unit (seen_in unit doing.state) owner change.value in
     with_change doing (cell_of_property unit owner change.property)
@@ -79,27 +79,27 @@ owners_of_change persons Run true = map of_person (numbers_below persons)
 owners_of_change persons owner _ = owner ∷ []
 
 -- The property of this identifier is one of which each person has a value of the person's own.
-abbrev pub is_of_persons : Course → List ℕ → Bool
+abbrev pub is_of_persons : Unit → List ℕ → Bool
 is_of_persons unit id = is_some_and (λ property. is_personal property.kind) (property_of unit id)
 
 -- For whom the change is made at a site of the owner, in this state.
-abbrev pub targets_of : Course → RunState → Owner → ChangeOf → List Owner
+abbrev pub targets_of : Unit → RunState → Owner → ChangeOf → List Owner
 targets_of unit s owner change = owners_of_change (length s.persons) owner (is_of_persons unit change.property)
 
 -- The change is made for each of them, one after another, each time in what was left before.
-abbrev pub do_change : Course → Owner → Doing → ChangeOf → Doing
+abbrev pub do_change : Unit → Owner → Doing → ChangeOf → Doing
 do_change unit owner doing change =
     fold (change_for unit change) doing (targets_of unit doing.state owner change)
 
 -- ---- notices
 
 -- The members of the roles, each once, in the order of enrolment.
-abbrev pub recipients : Course → Seen → List (List ℕ) → List ℕ
+abbrev pub recipients : Unit → Seen → List (List ℕ) → List ℕ
 recipients unit seen roles =
     filter (λ p. list_any (λ role. is_member_of unit seen role p) roles) (everyone seen)
 
 -- The notice as it is sent now; one without a subject has an empty one.
-abbrev pub notice_now : Course → RunState → Notice → NoticeState
+abbrev pub notice_now : Unit → RunState → Notice → NoticeState
 notice_now unit s notice = record {
   moment = unwrap_or (moment_of_value (s.cells Now)) (pos 0);
   subject = unwrap_or notice.subject [];
@@ -108,7 +108,7 @@ notice_now unit s notice = record {
 }
 
 -- The notice is sent: it is put at the end of the outbox.
-abbrev pub do_notify : Course → Doing → Notice → Doing
+abbrev pub do_notify : Unit → Doing → Notice → Doing
 do_notify unit doing notice = record doing {
   state = record doing.state { outbox = doing.state.outbox ++ notice_now unit doing.state notice ∷ [] };
   sent = doing.sent + 1;
@@ -123,12 +123,12 @@ with_visible p visible doing (Some thing) =
     with_write doing (visibility_cell thing p) (Some (truth_datum visible))
 
 -- The same for the site's person, of a thing by its identifier.
-abbrev pub set_visible : Course → Owner → Bool → Doing → List ℕ → Doing
+abbrev pub set_visible : Unit → Owner → Bool → Doing → List ℕ → Doing
 set_visible unit Run visible doing id = doing
 set_visible unit (Person p) visible doing id = with_visible p.0 visible doing (thing_number unit id)
 
 -- The action is done at a site of the owner.
-abbrev pub do_action : Course → Owner → Doing → Action → Doing
+abbrev pub do_action : Unit → Owner → Doing → Action → Doing
 do_action unit owner doing (Show things) = fold (set_visible unit owner true) doing things
 do_action unit owner doing (Hide things) = fold (set_visible unit owner false) doing things
 do_action unit owner doing (Change change) = do_change unit owner doing change
@@ -150,7 +150,7 @@ branch_of true condition = condition.yes
 branch_of false condition = condition.no
 
 -- The actions of a rule whose mark was set to the verdict.
-abbrev pub actions_of : Course → Rule → Bool → List Action
+abbrev pub actions_of : Unit → Rule → Bool → List Action
 actions_of unit (CompletesActivity a) verdict =
     list_from (λ activity. actions_if activity.on_completion) (slice_get unit.activities a)
 actions_of unit (CompletesStructure _) verdict = []
@@ -162,7 +162,7 @@ actions_of unit CompletesUnit verdict = actions_if unit.method.on_completion
 actions_of unit (JudgesCondition c) verdict = list_from (branch_of verdict) (slice_get unit.conditions c)
 
 -- The thing that a firing opens: an act.
-abbrev pub opened_by : Course → Rule → Option ℕ
+abbrev pub opened_by : Unit → Rule → Option ℕ
 opened_by unit (OpensAct p a) = act_at unit p a >>= λ act. thing_number unit act.identifier
 opened_by unit _ = None
 
@@ -172,19 +172,19 @@ with_opening doing None = doing
 with_opening doing (Some thing) = with_write doing (act_opened_cell thing) (doing.state.cells Now)
 
 -- What follows once a rule's mark is set to the verdict.
-abbrev pub rule_effect : Course → Owner → Rule → Bool → Doing → Doing
+abbrev pub rule_effect : Unit → Owner → Rule → Bool → Doing → Doing
 rule_effect unit owner rule verdict doing =
     fold (do_action unit owner) (with_opening doing (opened_by unit rule)) (actions_of unit rule verdict)
 
 -- The firing of a site by its rule: first its mark is set to its test, and then the effect follows.
-abbrev pub firing_by : Course → RunState → Site → Rule → Doing
+abbrev pub firing_by : Unit → RunState → Site → Rule → Doing
 firing_by unit s site rule =
     let verdict = site_test unit (seen_in unit s) site in
     rule_effect unit site.owner rule verdict
     (with_write (nothing_done s) (site_mark site) (Some (truth_datum verdict)))
 
 -- What the firing of a site does: nothing where there is no rule of its number.
-unfoldable pub site_firing : Course → RunState → Site → Doing
+unfoldable pub site_firing : Unit → RunState → Site → Doing
 site_firing unit s site = elim (rule_of unit site) as (λ _. Doing) [
   | None ↦ nothing_done s
   | Some rule ↦ firing_by unit s site rule

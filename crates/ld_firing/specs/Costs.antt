@@ -4,7 +4,7 @@ use Rattle.ld_model.specs.Expressions.{TermOf, TermsOf, property_term, literal_t
 use Rattle.ld_model.specs.declared.cell.Owner.{Owner}
 use Rattle.ld_model.specs.declared.condition.Action.{Action}
 use Rattle.ld_model.specs.declared.condition.Action.TheVariants.{Show, Hide, Change, Notify}
-use Rattle.ld_model.specs.declared.unit.Unit.{Unit as Course}
+use Rattle.ld_model.specs.declared.unit.Unit.{Unit}
 use Rattle.ld_names.specs.Rules.{Site}
 use Rattle.ld_expr.specs.Lookup.{list_from}
 use Rattle.ld_firing.specs.Actions.{actions_of, targets_of}
@@ -28,7 +28,7 @@ abbrev mutual
 
 -- A change has, for each one for whom it is made, its leaves and two more; a notice each person in each of
 -- its roles, and one more.
-abbrev pub action_cost : Course → RunState → Owner → Action → ℕ
+abbrev pub action_cost : Unit → RunState → Owner → Action → ℕ
 action_cost unit s owner (Show things) = 0
 action_cost unit s owner (Hide things) = 0
 action_cost unit s owner (Change change) =
@@ -36,7 +36,7 @@ action_cost unit s owner (Change change) =
 action_cost unit s owner (Notify notice) = length s.persons * length notice.roles + 1
 
 -- Four, and what the actions of the fired list have.
-unfoldable pub site_cost : Course → RunState → Site → ℕ
+unfoldable pub site_cost : Unit → RunState → Site → ℕ
 site_cost unit s site =
     let verdict = site_test unit (seen_in unit s) site in
     let actions = list_from (λ rule. actions_of unit rule verdict) (rule_of unit site) in

@@ -7,7 +7,7 @@ use Rattle.ld_value.specs.Datum.{Datum, truth_datum}
 use Rattle.ld_model.specs.declared.cell.CellName.{CellName}
 use Rattle.ld_model.specs.declared.cell.Owner.{Owner}
 use Rattle.ld_model.specs.declared.cell.Owner.TheVariants.{Run, Person}
-use Rattle.ld_model.specs.declared.unit.Unit.{Unit as Course}
+use Rattle.ld_model.specs.declared.unit.Unit.{Unit}
 use Rattle.ld_names.specs.Identifiers.{all_differ}
 use Rattle.ld_names.specs.Rules.{Site, sites_of, rules_of}
 use Rattle.ld_refs.specs.Checks.{IsValid}
@@ -33,22 +33,22 @@ abbrev pub site_number : ℕ → Site → ℕ
 site_number seats site = site.rule * seats + owner_number site.owner
 
 -- The site of this number.
-abbrev pub site_at : Course → RunState → ℕ → Option Site
+abbrev pub site_at : Unit → RunState → ℕ → Option Site
 site_at unit s number =
     find (λ site. nat_eq (site_number s.seats site) number) (sites_of unit (length s.persons))
 
 -- What is said of the site of this number, or of a number that is none.
-abbrev pub of_site : {A : Type 0} → Course → RunState → ℕ → (Site → A) → A → A
+abbrev pub of_site : {A : Type 0} → Unit → RunState → ℕ → (Site → A) → A → A
 of_site unit s number said other = option_map_or said (site_at unit s number) other
 
 -- ---- slots
 
 -- The slots of those of these cells that the run has, in order and with repeats.
-abbrev pub slots_named : Course → RunState → List CellName → List ℕ
+abbrev pub slots_named : Unit → RunState → List CellName → List ℕ
 slots_named unit s cells = filter_map (slot_of unit (length s.persons)) cells
 
 -- The value of the cell that has this slot, if there is one.
-abbrev pub content_of : Course → RunState → ℕ → Option Datum
+abbrev pub content_of : Unit → RunState → ℕ → Option Datum
 content_of unit s slot = slice_get (all_cells unit (length s.persons)) slot >>= cell_of unit s
 
 -- ---- the system
@@ -69,7 +69,7 @@ HaveNamesOfTheirOwn persons = all_differ (map (λ person. person.name) persons) 
 
 -- What is true of each state of a run: its unit is valid, no two persons have one name, there is a seat, and
 -- one for each person, and each cell has a value that it may have.
-pub record IsSoundRun (unit : Course) (s : RunState) : Type 0 where
+pub record IsSoundRun (unit : Unit) (s : RunState) : Type 0 where
   pub valid : IsValid unit
   pub names : HaveNamesOfTheirOwn s.persons
   pub seat : 0 < s.seats
@@ -82,17 +82,17 @@ verdict_in (Some (truth_datum b)) = Some b
 verdict_in _ = None
 
 -- What the firing of the site of this number does.
-abbrev pub firing_at : Course → RunState → ℕ → Doing
+abbrev pub firing_at : Unit → RunState → ℕ → Doing
 firing_at unit s i = of_site unit s i (site_firing unit s) (nothing_done s)
 
 -- The system of the runs of a unit: a situation is the state of a run, and a site is its number.
-abbrev pub run_system : Course → System
+abbrev pub run_system : Unit → System
 run_system unit = record {
   Situation = RunState;
   Content = Option Datum;
-  Course = Enrolment;
+  Setting = Enrolment;
   IsSound = IsSoundRun unit;
-  course = λ s. record { seats = s.seats; persons = s.persons };
+  setting = λ s. record { seats = s.seats; persons = s.persons };
   GrowsTo = IsGrown;
   is_site = λ s i. is_some (site_at unit s i);
   count = λ s. length (rules_of unit) * s.seats;

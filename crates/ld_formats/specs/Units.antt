@@ -10,7 +10,7 @@ use Rattle.ld_model.specs.declared.method.Method.{Method}
 use Rattle.ld_model.specs.declared.unit.Level.{Level}
 use Rattle.ld_model.specs.declared.unit.Level.TheVariants.{A, B, C}
 use Rattle.ld_model.specs.declared.unit.Parts.{Parts}
-use Rattle.ld_model.specs.declared.unit.Unit.{Unit as Course}
+use Rattle.ld_model.specs.declared.unit.Unit.{Unit}
 use Rattle.ld_shape.specs.Documents.{UnitShape, required_in, document_or}
 use Rattle.ld_shape.specs.Forms.{identifier, title, text, number}
 use Rattle.ld_shape.specs.Keeping.{tested, tested_keeps}
@@ -127,7 +127,7 @@ unfolding conditions_document
 method_documents = pair (required_in file.Unit head) (document_or [] file.Conditions conditions_document refl)
 
 -- The unit of these parts, and of what its own document and that of the conditions tell.
-abbrev pub unit_from : Parts → Head × List Condition → Course
+abbrev pub unit_from : Parts → Head × List Condition → Unit
 unit_from parts (head, conditions) = record {
   format = head.format;
   identifier = head.identifier;
@@ -147,7 +147,7 @@ unit_from parts (head, conditions) = record {
 }
 
 -- The roles, properties, environments, activities and structures of a unit.
-abbrev pub declared_parts : Course → Parts
+abbrev pub declared_parts : Unit → Parts
 declared_parts unit = record {
   roles = unit.roles;
   properties = unit.properties;
@@ -157,7 +157,7 @@ declared_parts unit = record {
 }
 
 -- What a unit's own document and that of its conditions tell of it.
-abbrev pub head_and_conditions : Course → Head × List Condition
+abbrev pub head_and_conditions : Unit → Head × List Condition
 head_and_conditions unit = (
   record {
     format = unit.format;
@@ -175,13 +175,13 @@ head_and_conditions unit = (
 )
 
 -- The unit of these parts for which its own document and that of the conditions stand.
-abbrev pub method_with : Parts → UnitShape Course
+abbrev pub method_with : Parts → UnitShape Unit
 method_with parts = made (unit_from parts) head_and_conditions (λ _. refl) method_documents
 
 -- The unit for which the documents stand, or the faults of their shapes, document by document.
-unfoldable pub unit : UnitShape Course
+unfoldable pub unit : UnitShape Unit
 unit = made (λ x. unit_from x.0 x.1) (λ x. (declared_parts x, head_and_conditions x)) (λ _. refl) (pair parts method_documents)
 
 -- Each member of the unit has its form and its range.
-unfoldable pub is_well_formed : Course → Bool
+unfoldable pub is_well_formed : Unit → Bool
 is_well_formed x = unit.has_form x

@@ -9,7 +9,7 @@ use Rattle.ld_model.specs.declared.cell.CellName.TheVariants.{Prop, Vis, Member,
 use Rattle.ld_model.specs.declared.cell.Owner.{Owner}
 use Rattle.ld_model.specs.declared.cell.Owner.TheVariants.{Run, Person}
 use Rattle.ld_model.specs.declared.property.Property.{Property}
-use Rattle.ld_model.specs.declared.unit.Unit.{Unit as Course}
+use Rattle.ld_model.specs.declared.unit.Unit.{Unit}
 use Rattle.ld_expr.specs.Lookup.{list_from}
 use Rattle.ld_expr.specs.Owners.{is_global}
 use Rattle.ld_lines.specs.declared.command.RunCommand.{RunCommand}
@@ -86,7 +86,7 @@ module _ (persons : Persons) (more : List (List ℕ)) (store other : GlobalValue
 -- ---- all properties of the unit
 
 -- The run meets the same values.
-module _ (unit : Course) (s : RunState) (asked : RunCommand) (store other : GlobalValues)
+module _ (unit : Unit) (s : RunState) (asked : RunCommand) (store other : GlobalValues)
     (same : unit_values unit store (its_persons s asked) ≡ unit_values unit other (its_persons s asked)) where
   abbrev joining : List (List ℕ)
   joining = list_from (λ name. name ∷ []) (newcomer_of asked)

@@ -4,7 +4,7 @@ use Rattle.std.proofs.lemmas.List.Folds.{find-append}
 use Rattle.std.proofs.lemmas.Slice.Eq.{bytes_eq-Decides}
 use Rattle.std.specs.Option.{option_map_or, option_or}
 use Rattle.std.specs.Str.{bytes_eq}
-use Rattle.ld_model.specs.declared.unit.Unit.{Unit as Course}
+use Rattle.ld_model.specs.declared.unit.Unit.{Unit}
 use Rattle.ld_lines.specs.declared.command.RunCommand.{RunCommand}
 use Rattle.ld_lines.specs.declared.line.Line.{Line}
 use Rattle.ld_lines.specs.declared.line.Line.TheVariants.{Create, OfRun, GlobalSet, GlobalGet}
@@ -31,7 +31,7 @@ AreDoneAlike name w v r q = (reply_block r ≡ reply_block q) × HaveItAlike nam
 -- A run of the name is made.
 module _ (moment : Moment) (name : List ℕ) (id : List ℕ) where
   -- What is done with the unit found, and whether there is such a run.
-  abbrev made_with : WorldState → Option Course → Bool → Result DoneLine Refusal
+  abbrev made_with : WorldState → Option Unit → Bool → Result DoneLine Refusal
   made_with w found there = ok_or found UnknownUnit >>= λ unit. refuse_if there RunExists >>
       Ok (record { deed = made; world = record w { runs = w.runs ++ record { name = name; unit = unit; state = made_at w.seats unit w.store moment.0 } ∷ [] } })
 
@@ -43,7 +43,7 @@ module _ (moment : Moment) (name : List ℕ) (id : List ℕ) where
       ∙ ap (λ b. cond b (Some run) None) ((bytes_eq-Decides run.name name).1 is)
 
   -- It is made in both worlds, or in neither.
-  made_alike : (w v : WorldState) (found : Option Course) → HaveItAlike name w v
+  made_alike : (w v : WorldState) (found : Option Unit) → HaveItAlike name w v
       → AreDoneAlike name w v (made_with w found (is_some (run_named w.runs name))) (made_with v found (is_some (run_named v.runs name)))
   unfolding reply_block
   made_alike w v None alike = (refl, alike)
@@ -73,7 +73,7 @@ module _ (name : List ℕ) (w v : WorldState) (moment : Moment) (command : RunCo
   line = Some (OfRun moment name command)
 
   -- The reply does not tell which store is left.
-  block_alike : (unit : Course) (r q : Result DoneCommand Refusal) → but_for_store r ≡ but_for_store q → block_of unit r ≡ block_of unit q
+  block_alike : (unit : Unit) (r q : Result DoneCommand Refusal) → but_for_store r ≡ but_for_store q → block_of unit r ≡ block_of unit q
   block_alike unit r q same = told r ∙ ap (block_of unit) same ∙ sym (told q)
     where
       told : (x : Result DoneCommand Refusal) → block_of unit x ≡ block_of unit (but_for_store x)

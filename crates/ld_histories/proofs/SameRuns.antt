@@ -9,7 +9,7 @@ use Rattle.ld_model.specs.declared.cell.CellName.{CellName}
 use Rattle.ld_model.specs.declared.cell.CellName.TheVariants.{Prop, Vis, Member, Chosen, Opened, ActOpened, Started, Mark, Now, Roster}
 use Rattle.ld_model.specs.declared.cell.Owner.TheVariants.{Run, Person}
 use Rattle.ld_model.specs.declared.property.Property.{Property}
-use Rattle.ld_model.specs.declared.unit.Unit.{Unit as Course}
+use Rattle.ld_model.specs.declared.unit.Unit.{Unit}
 use Rattle.ld_expr.specs.Lookup.{is_some_and}
 use Rattle.ld_expr.specs.Owners.{is_global}
 use Rattle.ld_lines.specs.declared.command.RunCommand.{RunCommand}
@@ -30,14 +30,14 @@ use Rattle.ld_world.specs.Isolation.{HoldTheSame, but_for_store}
 use Rattle.ld_world.proofs.OwnValues.{own_values_tell}
 
 -- The two states agree on all but the cells of global properties: those of which a store says something.
-pub record IsSameButGlobals (unit : Course) (s t : RunState) : Type 0 where
+pub record IsSameButGlobals (unit : Unit) (s t : RunState) : Type 0 where
   pub seats : s.seats ≡ t.seats
   pub persons : s.persons ≡ t.persons
   pub outbox : s.outbox ≡ t.outbox
   pub cells : (store : GlobalValues) (cell : CellName) → store_says unit store s.persons cell ≡ None → s.cells cell ≡ t.cells cell
 
 -- States that are one agree so.
-itself : (unit : Course) (s t : RunState) → s ≡ t → IsSameButGlobals unit s t
+itself : (unit : Unit) (s t : RunState) → s ≡ t → IsSameButGlobals unit s t
 itself unit s t same = record {
   seats = ap (λ (x : RunState). x.seats) same;
   persons = ap (λ (x : RunState). x.persons) same;
@@ -57,7 +57,7 @@ abbrev checked : RunState → RunState
 checked s = record { seats = s.seats; persons = s.persons; outbox = []; cells = checked_cells s.cells }
 
 -- They look at nothing else of the state.
-by_checked : (unit : Course) (s : RunState) (moment : ℤ) (asked : RunCommand) → admitted unit s moment asked ≡ admitted unit (checked s) moment asked
+by_checked : (unit : Unit) (s : RunState) (moment : ℤ) (asked : RunCommand) → admitted unit s moment asked ≡ admitted unit (checked s) moment asked
 unfolding admitted cell_of
 by_checked unit s moment (Enrol person) = refl
 by_checked unit s moment (Assign person role) = refl
@@ -76,7 +76,7 @@ by_checked unit s moment Tick = refl
 -- ---- what is done
 
 -- What an admitted command does, from the state that has taken in the store's values.
-abbrev done_from : Course → GlobalValues → ℤ → Admitted → Bool → RunState → Result DoneCommand Refusal
+abbrev done_from : Unit → GlobalValues → ℤ → Admitted → Bool → RunState → Result DoneCommand Refusal
 done_from unit store moment command started taken = do
   first ← settled started unit taken
   open_for_it unit first.state command
@@ -90,7 +90,7 @@ done_from unit store moment command started taken = do
     store = giving_back unit second.state store;
   })
 
-module _ (unit : Course) (s t : RunState) (same : IsSameButGlobals unit s t) where
+module _ (unit : Unit) (s t : RunState) (same : IsSameButGlobals unit s t) where
   -- The checks find the same.
   checked_cells_same : (cell : CellName) → checked_cells s.cells cell ≡ checked_cells t.cells cell
   checked_cells_same (Prop n owner) = refl
@@ -147,13 +147,13 @@ module _ (unit : Course) (s t : RunState) (same : IsSameButGlobals unit s t) whe
 -- ---- over two stores
 
 -- Over stores that hold the same of the unit's global properties, a command does the same in both.
-pub step_alike : (unit : Course) (s t : RunState) (store other : GlobalValues) (moment : Moment) (asked : RunCommand) → IsSameButGlobals unit s t → HoldTheSame unit s asked store other
+pub step_alike : (unit : Unit) (s t : RunState) (store other : GlobalValues) (moment : Moment) (asked : RunCommand) → IsSameButGlobals unit s t → HoldTheSame unit s asked store other
     → but_for_store (run_step unit s store moment.0 asked) ≡ but_for_store (run_step unit t other moment.0 asked)
 step_alike unit s t store other moment asked same hold =
     own_values_tell unit s store other moment asked hold ∙ ap but_for_store (step_same unit s t same other moment.0 asked)
 
 -- Where a command does the same but for the store, the states after it agree so again.
-pub left_alike : (unit : Course) (s t : RunState) (r q : Result DoneCommand Refusal) → IsSameButGlobals unit s t → but_for_store r ≡ but_for_store q
+pub left_alike : (unit : Unit) (s t : RunState) (r q : Result DoneCommand Refusal) → IsSameButGlobals unit s t → but_for_store r ≡ but_for_store q
     → IsSameButGlobals unit (state_after s r) (state_after t q)
 left_alike unit s t (Ok d) (Ok e) same alike = itself unit d.state e.state (ap (state_after s) alike)
 left_alike unit s t (Err refusal) (Err other) same alike = same
@@ -162,7 +162,7 @@ left_alike unit s t (Err refusal) (Ok d) same alike = cc
 
 -- ---- how a run begins
 
-module _ (seats : ℕ) (unit : Course) (store other : GlobalValues) (moment : ℤ) where
+module _ (seats : ℕ) (unit : Unit) (store other : GlobalValues) (moment : ℤ) where
   -- What a global property of the run begins as; a store says something of its cell, unless it has no uri.
   shared_same : (said : GlobalValues) (uri : Option (List ℕ)) → (uri and_then λ u. Some (said u None)) ≡ None → (uri and_then λ u. store u None) ≡ (uri and_then λ u. other u None)
   shared_same said None says = refl

@@ -5,7 +5,7 @@ use Rattle.std.specs.Str.{bytes_eq}
 use Rattle.ld_value.specs.Datum.{Datum}
 use Rattle.ld_model.specs.Properties.{is_personal}
 use Rattle.ld_model.specs.declared.property.Property.{Property}
-use Rattle.ld_model.specs.declared.unit.Unit.{Unit as Course}
+use Rattle.ld_model.specs.declared.unit.Unit.{Unit}
 use Rattle.ld_expr.specs.Lookup.{list_from}
 use Rattle.ld_expr.specs.Owners.{is_global}
 use Rattle.ld_lines.specs.declared.command.RunCommand.{RunCommand}
@@ -42,7 +42,7 @@ values_held store names property =
     if is_global property.kind then global_values store names property (is_personal property.kind) else []
 
 -- The values of all properties of the unit, in order.
-abbrev pub unit_values : Course → GlobalValues → List (List ℕ) → List (List (Option Datum))
+abbrev pub unit_values : Unit → GlobalValues → List (List ℕ) → List (List (Option Datum))
 unit_values unit store names = map (values_held store names) unit.properties
 
 -- ---- what is met
@@ -51,7 +51,7 @@ unit_values unit store names = map (values_held store names) unit.properties
 -- store holds for it just before; or nothing, where there is no such run. It takes in values anew by each of its
 -- lines, so those of the time at which it was made are none of what it meets.
 pub data Meeting : Type 0 where
-  the_unit : Option Course → Meeting
+  the_unit : Option Unit → Meeting
   the_values : List (List (Option Datum)) → Meeting
   nothing : Meeting
 
@@ -97,6 +97,6 @@ own_replies w name lines = told_to name lines (replies w lines)
 -- in neither.
 abbrev pub MeetingsTellReplies : Type 0
 MeetingsTellReplies =
-    (units other_units : List Course) (name : List ℕ) (lines other_lines : List (Option Line))
+    (units other_units : List Unit) (name : List ℕ) (lines other_lines : List (Option Line))
     → met (first_world units) name lines ≡ met (first_world other_units) name other_lines
     → own_replies (first_world units) name lines ≡ own_replies (first_world other_units) name other_lines

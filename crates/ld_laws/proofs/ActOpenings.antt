@@ -4,7 +4,7 @@ use Rattle.std.proofs.lemmas.Bool.{eqb-true}
 use Rattle.ld_value.specs.Datum.{truth_datum}
 use Rattle.ld_model.specs.declared.cell.CellName.TheVariants.{Now}
 use Rattle.ld_model.specs.declared.cell.Owner.TheVariants.{Run}
-use Rattle.ld_model.specs.declared.unit.Unit.{Unit as Course}
+use Rattle.ld_model.specs.declared.unit.Unit.{Unit}
 use Rattle.ld_names.specs.Rules.{Site}
 use Rattle.ld_expr.specs.Seen.{act_opened_cell, mark_cell}
 use Rattle.ld_state.specs.GlobalValues.{GlobalValues}
@@ -21,7 +21,7 @@ use Rattle.ld_laws.proofs.LawsLatching.{IsLeft, left_untouched, mark_left}
 -- ---- which firing opens an act
 
 -- The firing of a site leaves when an act was opened, or opens it now, by the rule that does.
-pub firing_opens : (unit : Course) (s : RunState) (site : Site) (thing : ℕ) (fired : IsFired unit s site)
+pub firing_opens : (unit : Unit) (s : RunState) (site : Site) (thing : ℕ) (fired : IsFired unit s site)
     → ((site_firing unit s site).state.cells (act_opened_cell thing) ≡ s.cells (act_opened_cell thing))
     ⊎ (((site_firing unit s site).state.cells (act_opened_cell thing) ≡ s.cells Now) × (opened_by unit fired.rule ≡ Some thing))
 firing_opens unit s site thing fired = by (opened_by unit fired.rule) refl
@@ -57,17 +57,17 @@ opening_left s thing = record { property = refl; joining = refl; started = refl;
 now_left : (s : RunState) → IsLeft s Now
 now_left s = record { property = refl; joining = refl; started = refl; opened = λ other p. refl; chosen = λ other p. refl }
 
-pub change_leaves_act : (unit : Course) (store : GlobalValues) (s t : RunState) (moment : ℤ) (command : Admitted) (thing : ℕ) → Fits s command
+pub change_leaves_act : (unit : Unit) (store : GlobalValues) (s t : RunState) (moment : ℤ) (command : Admitted) (thing : ℕ) → Fits s command
     → (directly_changed unit store t moment command).cells (act_opened_cell thing) ≡ t.cells (act_opened_cell thing)
 change_leaves_act unit store s t moment command thing fit =
     change_leaves unit store t moment command (act_opened_cell thing) (left_untouched s t command (act_opened_cell thing) fit (opening_left t thing))
 
-pub change_leaves_now : (unit : Course) (store : GlobalValues) (s t : RunState) (moment : ℤ) (command : Admitted) → Fits s command
+pub change_leaves_now : (unit : Unit) (store : GlobalValues) (s t : RunState) (moment : ℤ) (command : Admitted) → Fits s command
     → (directly_changed unit store t moment command).cells Now ≡ t.cells Now
 change_leaves_now unit store s t moment command fit =
     change_leaves unit store t moment command Now (left_untouched s t command Now fit (now_left t))
 
-pub change_leaves_run_mark : (unit : Course) (store : GlobalValues) (s t : RunState) (moment : ℤ) (command : Admitted) (rule : ℕ) → Fits s command
+pub change_leaves_run_mark : (unit : Unit) (store : GlobalValues) (s t : RunState) (moment : ℤ) (command : Admitted) (rule : ℕ) → Fits s command
     → (directly_changed unit store t moment command).cells (mark_cell rule Run) ≡ t.cells (mark_cell rule Run)
 change_leaves_run_mark unit store s t moment command rule fit =
     change_leaves unit store t moment command (mark_cell rule Run) (left_untouched s t command (mark_cell rule Run) fit (mark_left t rule Run tt))

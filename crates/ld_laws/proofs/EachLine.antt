@@ -12,7 +12,7 @@ use Rattle.ld_model.specs.declared.item.Item.{Item}
 use Rattle.ld_model.specs.declared.method.Act.{Act}
 use Rattle.ld_model.specs.declared.method.Play.{Play}
 use Rattle.ld_model.specs.declared.method.RolePart.{RolePart}
-use Rattle.ld_model.specs.declared.unit.Unit.{Unit as Course}
+use Rattle.ld_model.specs.declared.unit.Unit.{Unit}
 use Rattle.ld_expr.specs.Done.{is_done}
 use Rattle.ld_expr.specs.Lookup.{list_from, activity_named, structure_named, environment_named}
 use Rattle.ld_expr.specs.Membership.{is_member_of}
@@ -35,7 +35,7 @@ each_in P (y ∷ ys) x each (inl is) = subst P is each.0
 each_in P (y ∷ ys) x each (inr there) = each_in P ys x each.1 there
 
 -- What is shown of activities: the line of each that is the person's.
-abbrev pub TellsActivities : Course → Seen → ℕ → (TreeLine → Type 0) → Type 0
+abbrev pub TellsActivities : Unit → Seen → ℕ → (TreeLine → Type 0) → Type 0
 TellsActivities unit seen p P =
     (depth : ℕ) (flag : Bool) (name : List ℕ) (activity : Activity) → activity_named unit name ≡ Some activity → IsTheirs unit seen p name
     → P (status_line depth (activity_word activity.kind) activity.identifier (status_by (is_done unit seen (of_person p) activity.identifier) flag) activity.title)
@@ -74,7 +74,7 @@ module _ (P : TreeLine → Type 0) where
   behind opened lines each = tt
   behind closed lines each = tt
 
-module _ (unit : Course) (seen : Seen) (p : ℕ) (P : TreeLine → Type 0) (tells : TellsActivities unit seen p P) (others : TellsOthers P) where
+module _ (unit : Unit) (seen : Seen) (p : ℕ) (P : TreeLine → Type 0) (tells : TellsActivities unit seen p P) (others : TellsOthers P) where
   items : (depth : ℕ) (list : List Item) → Each P (all_item_lines unit seen p depth list)
   items depth list = each_of P (item_lines unit seen p depth) list λ item there.
       each_when P (is_visible unit seen p item.identifier) _ λ visible. (others _ (codes "item") _ refl refl, tt)

@@ -5,7 +5,7 @@ use Rattle.ld_value.specs.Datum.{Datum, moment_datum}
 use Rattle.ld_model.specs.declared.cell.CellName.TheVariants.{Now}
 use Rattle.ld_model.specs.declared.cell.Owner.{Owner}
 use Rattle.ld_model.specs.declared.cell.Owner.TheVariants.{Run}
-use Rattle.ld_model.specs.declared.unit.Unit.{Unit as Course}
+use Rattle.ld_model.specs.declared.unit.Unit.{Unit}
 use Rattle.ld_names.specs.declared.rule.Rule.{Rule}
 use Rattle.ld_names.specs.declared.rule.Rule.TheVariants.{CompletesActivity, CompletesStructure, OpensAct, CompletesPart, CompletesAct, CompletesPlay, CompletesUnit, JudgesCondition}
 use Rattle.ld_names.specs.Rules.{Site, kind_of}
@@ -42,7 +42,7 @@ either_on : {a b was now : Option Datum} → a ≡ b → (b ≡ was) ⊎ (b ≡ 
 either_on same (inl before) = inl (same ∙ before)
 either_on same (inr opened) = inr (same ∙ opened)
 
-firing_opens_now : (unit : Course) (thing : ℕ) (was now : Option Datum) → FiringsKeep unit (OpensNow thing was now)
+firing_opens_now : (unit : Unit) (thing : ℕ) (was now : Option Datum) → FiringsKeep unit (OpensNow thing was now)
 firing_opens_now unit thing was now s site fired holds = record {
   clock = firing_leaves unit s site Now refl refl ∙ holds.clock;
   opening = elim (firing_opens unit s site thing fired) [
@@ -52,7 +52,7 @@ firing_opens_now unit thing was now s site fired holds = record {
 }
 
 -- A command leaves when an act was opened, or opens it at its own moment.
-pub step_opens_now : (unit : Course) (s : RunState) (store : GlobalValues) (moment : ℤ) (asked : RunCommand) (d : DoneCommand) (thing : ℕ)
+pub step_opens_now : (unit : Unit) (s : RunState) (store : GlobalValues) (moment : ℤ) (asked : RunCommand) (d : DoneCommand) (thing : ℕ)
     → run_step unit s store moment asked ≡ Ok d
     → (d.state.cells (act_opened_cell thing) ≡ s.cells (act_opened_cell thing)) ⊎ (d.state.cells (act_opened_cell thing) ≡ Some (moment_datum moment))
 step_opens_now unit s store moment asked d thing is =
@@ -67,11 +67,11 @@ step_opens_now unit s store moment asked d thing is =
 -- ---- it stays so
 
 -- The act was opened then, and each rule that opens it has said yes.
-record StaysOpened (unit : Course) (thing : ℕ) (value : Datum) (t : RunState) : Type 0 where
+record StaysOpened (unit : Unit) (thing : ℕ) (value : Datum) (t : RunState) : Type 0 where
   opened : t.cells (act_opened_cell thing) ≡ Some value
   told : (rule : ℕ) → IsOpener unit rule thing → is_marked t rule Run ≡ true
 
-opener_kind : (unit : Course) (one : Rule) (thing : ℕ) → opened_by unit one ≡ Some thing → (says_for_good one ≡ true) × (is_for_persons (kind_of one) ≡ false)
+opener_kind : (unit : Unit) (one : Rule) (thing : ℕ) → opened_by unit one ≡ Some thing → (says_for_good one ≡ true) × (is_for_persons (kind_of one) ≡ false)
 opener_kind unit (OpensAct p a) thing opens = (refl, refl)
 opener_kind unit (CompletesActivity _) thing opens = none_is_some opens
 opener_kind unit (CompletesStructure _) thing opens = none_is_some opens
@@ -81,7 +81,7 @@ opener_kind unit (CompletesPlay _) thing opens = none_is_some opens
 opener_kind unit CompletesUnit thing opens = none_is_some opens
 opener_kind unit (JudgesCondition _) thing opens = none_is_some opens
 
-good_opener : (unit : Course) (rule thing : ℕ) → IsOpener unit rule thing → is_for_good unit rule ≡ true
+good_opener : (unit : Unit) (rule thing : ℕ) → IsOpener unit rule thing → is_for_good unit rule ≡ true
 good_opener unit rule thing opener = ap (is_some_and says_for_good) opener.ruled ∙ (opener_kind unit opener.one thing opener.opens).0
 
 run_owner : (persons : ℕ) (own : Bool) (owner : Owner) → IsOwner persons own owner → own ≡ false → owner ≡ Run
@@ -89,7 +89,7 @@ run_owner persons own owner (a_person p below) run = different run
 run_owner persons own owner the_run run = refl
 
 -- A rule that has opened an act is not due again.
-opens_once : (unit : Course) (t : RunState) (site : Site) (thing : ℕ) (fired : IsFired unit t site) → opened_by unit fired.rule ≡ Some thing
+opens_once : (unit : Unit) (t : RunState) (site : Site) (thing : ℕ) (fired : IsFired unit t site) → opened_by unit fired.rule ≡ Some thing
     → ((rule : ℕ) → IsOpener unit rule thing → is_marked t rule Run ≡ true) → ⊥
 opens_once unit t site thing fired opens told =
     different (sym fired.due_now ∙ ap₂ due
@@ -103,7 +103,7 @@ opens_once unit t site thing fired opens told =
     marked = ap (λ owner. is_marked t site.rule owner) (run_owner (length t.persons) (is_for_persons (kind_of fired.rule)) site.owner fired.owned (opener_kind unit fired.rule thing opens).1)
         ∙ told site.rule opener
 
-firing_stays_opened : (unit : Course) (thing : ℕ) (value : Datum) → FiringsKeep unit (StaysOpened unit thing value)
+firing_stays_opened : (unit : Unit) (thing : ℕ) (value : Datum) → FiringsKeep unit (StaysOpened unit thing value)
 firing_stays_opened unit thing value s site fired holds = record {
   opened = elim (firing_opens unit s site thing fired) [
     | inl stays ↦ stays ∙ holds.opened
@@ -112,7 +112,7 @@ firing_stays_opened unit thing value s site fired holds = record {
   told = λ rule opener. firing_latches unit s site rule Run (good_opener unit rule thing opener) (holds.told rule opener);
 }
 
-stays_opened : (unit : Course) (thing : ℕ) (value : Datum) → IsLasting unit (StaysOpened unit thing value)
+stays_opened : (unit : Unit) (thing : ℕ) (value : Datum) → IsLasting unit (StaysOpened unit thing value)
 stays_opened unit thing value = record {
   settles = λ s x runs is holds. settling_keeps unit (StaysOpened unit thing value) (firing_stays_opened unit thing value) s x is holds;
   begins = λ s store moment holds. record { opened = holds.opened; told = holds.told };
@@ -124,7 +124,7 @@ stays_opened unit thing value = record {
 
 -- Once an act is opened it stays opened, and at the same moment, through each command that is done, in a run of a
 -- valid unit with a seat for each person.
-pub step_leaves_act : (unit : Course) (s : RunState) (store : GlobalValues) (moment : ℤ) (asked : RunCommand) (d : DoneCommand) (thing : ℕ) (value : Datum)
+pub step_leaves_act : (unit : Unit) (s : RunState) (store : GlobalValues) (moment : ℤ) (asked : RunCommand) (d : DoneCommand) (thing : ℕ) (value : Datum)
     → IsValid unit → IsReached unit s → HasSeats s → run_step unit s store moment asked ≡ Ok d
     → s.cells (act_opened_cell thing) ≡ Some value → d.state.cells (act_opened_cell thing) ≡ Some value
 step_leaves_act unit s store moment asked d thing value valid reached seats is opened =

@@ -14,7 +14,7 @@ use Rattle.ld_model.specs.declared.cell.Owner.TheVariants.{Run}
 use Rattle.ld_model.specs.declared.method.Act.{Act}
 use Rattle.ld_model.specs.declared.method.Play.{Play}
 use Rattle.ld_model.specs.declared.method.RolePart.{RolePart}
-use Rattle.ld_model.specs.declared.unit.Unit.{Unit as Course}
+use Rattle.ld_model.specs.declared.unit.Unit.{Unit}
 use Rattle.ld_names.specs.Names.{role_number, thing_number}
 use Rattle.ld_lines.specs.declared.command.RunCommand.TheVariants.{Enrol}
 use Rattle.ld_expr.specs.Done.{is_done, mark_for}
@@ -45,7 +45,7 @@ use Rattle.ld_laws.proofs.LawsUnmoved.{stages_of, no_turns_step, unstarted_step}
 use Rattle.ld_run.proofs.SeatsOfChecks.{Each, each_then}
 use Rattle.ld_laws.proofs.SameTrees.{ShowsSame, tree_same, open_same}
 
-module _ (unit : Course) (store : GlobalValues) (s : RunState) (moment : ℤ) (name : List ℕ) where
+module _ (unit : Unit) (store : GlobalValues) (s : RunState) (moment : ℤ) (name : List ℕ) where
   abbrev before : Seen
   before = seen_in unit s
 
@@ -180,20 +180,20 @@ module _ (unit : Course) (store : GlobalValues) (s : RunState) (moment : ℤ) (n
 
 -- ---- an enrolment
 
-admits_enrolment : (unit : Course) (s : RunState) (moment : ℤ) (name : List ℕ) → Each (λ (command : Admitted). command ≡ enrols name) (admitted unit s moment (Enrol name))
+admits_enrolment : (unit : Unit) (s : RunState) (moment : ℤ) (name : List ℕ) → Each (λ (command : Admitted). command ≡ enrols name) (admitted unit s moment (Enrol name))
 unfolding admitted
 admits_enrolment unit s moment name =
     let P = λ (command : Admitted). command ≡ enrols name in
     each_then P (in_time s moment) _ (each_then P (not_enrolled s name) _ (each_then P (has_seat s) _ refl))
 
-is_enrolment : (unit : Course) (s : RunState) (store : GlobalValues) (moment : ℤ) (name : List ℕ) (d : DoneCommand)
+is_enrolment : (unit : Unit) (s : RunState) (store : GlobalValues) (moment : ℤ) (name : List ℕ) (d : DoneCommand)
     → run_step unit s store moment (Enrol name) ≡ Ok d → d.command ≡ enrols name
 is_enrolment unit s store moment name d is =
     subst (Each (λ (command : Admitted). command ≡ enrols name)) (stages_of unit s store moment (Enrol name) d is).checked (admits_enrolment unit s moment name)
 
 -- An enrolment that is done in a run which is not started keeps the moment, takes in the store's values and lets
 -- the person join, and does nothing else.
-pub enrolment_joins : (unit : Course) (s : RunState) (store : GlobalValues) (moment : ℤ) (name : List ℕ) (d : DoneCommand)
+pub enrolment_joins : (unit : Unit) (s : RunState) (store : GlobalValues) (moment : ℤ) (name : List ℕ) (d : DoneCommand)
     → run_step unit s store moment (Enrol name) ≡ Ok d → is_started d.state ≡ false
     → d.state ≡ joined unit store (begun unit store s moment) moment name
 enrolment_joins unit s store moment name d is still =
@@ -201,7 +201,7 @@ enrolment_joins unit s store moment name d is still =
     ∙ ap (directly_changed unit store (begun unit store s moment) moment) (is_enrolment unit s store moment name d is)
 
 -- So does one that tells of no turns, in a run that is started too.
-pub quiet_enrolment_joins : (unit : Course) (s : RunState) (store : GlobalValues) (moment : ℤ) (name : List ℕ) (d : DoneCommand)
+pub quiet_enrolment_joins : (unit : Unit) (s : RunState) (store : GlobalValues) (moment : ℤ) (name : List ℕ) (d : DoneCommand)
     → run_step unit s store moment (Enrol name) ≡ Ok d → d.turns ≡ 0
     → d.state ≡ joined unit store (begun unit store s moment) moment name
 quiet_enrolment_joins unit s store moment name d is none =

@@ -6,7 +6,7 @@ use Rattle.ld_model.specs.declared.cell.CellName.{CellName}
 use Rattle.ld_model.specs.declared.cell.CellName.TheVariants.{Started}
 use Rattle.ld_model.specs.declared.cell.Owner.{Owner}
 use Rattle.ld_model.specs.declared.cell.Owner.TheVariants.{Run, Person}
-use Rattle.ld_model.specs.declared.unit.Unit.{Unit as Course}
+use Rattle.ld_model.specs.declared.unit.Unit.{Unit}
 use Rattle.ld_lines.specs.declared.command.RunCommand.{RunCommand}
 use Rattle.ld_expr.specs.Owners.{of_person}
 use Rattle.ld_expr.specs.Seen.{says_yes, mark_cell, chosen_cell, opened_cell}
@@ -37,7 +37,7 @@ first_persons s cell value = by (is_some (s.cells cell))
     by false = refl
 
 -- No command takes an owner away.
-pub owner_after : (unit : Course) (store : GlobalValues) (s : RunState) (moment : ℤ) (command : Admitted) (owner : Owner) → HasOwner s owner → HasOwner (directly_changed unit store s moment command) owner
+pub owner_after : (unit : Unit) (store : GlobalValues) (s : RunState) (moment : ℤ) (command : Admitted) (owner : Owner) → HasOwner s owner → HasOwner (directly_changed unit store s moment command) owner
 owner_after unit store s moment command Run has = tt
 owner_after unit store s moment (enrols name) (Person p) has = omega (arith, has, length-append s.persons (newcomer name ∷ []))
 owner_after unit store s moment (assigns q role) (Person p) has = omega (arith, has, length-changed (with_role role true) q s.persons)
@@ -93,7 +93,7 @@ record IsYes (rule : ℕ) (owner : Owner) (s : RunState) : Type 0 where
   has : HasOwner s owner
   told : is_marked s rule owner ≡ true
 
-yes_lasts : (unit : Course) (rule : ℕ) (owner : Owner) → is_for_good unit rule ≡ true → IsLasting unit (IsYes rule owner)
+yes_lasts : (unit : Unit) (rule : ℕ) (owner : Owner) → is_for_good unit rule ≡ true → IsLasting unit (IsYes rule owner)
 yes_lasts unit rule owner good = record {
   settles = λ s x runs is yes. settling_keeps unit (IsYes rule owner)
       (λ t site fired told. record {
@@ -109,7 +109,7 @@ yes_lasts unit rule owner good = record {
 
 -- A mark of a rule that is no condition, once it says yes, says yes after each command that is done, for the run
 -- and for each person that it has.
-pub step_latches : (unit : Course) (s : RunState) (store : GlobalValues) (moment : ℤ) (asked : RunCommand) (d : DoneCommand) (rule : ℕ) (owner : Owner)
+pub step_latches : (unit : Unit) (s : RunState) (store : GlobalValues) (moment : ℤ) (asked : RunCommand) (d : DoneCommand) (rule : ℕ) (owner : Owner)
     → run_step unit s store moment asked ≡ Ok d → is_for_good unit rule ≡ true → HasOwner s owner
     → is_marked s rule owner ≡ true → is_marked d.state rule owner ≡ true
 step_latches unit s store moment asked d rule owner is good has told =

@@ -9,7 +9,7 @@ use Rattle.ld_model.specs.declared.cell.CellName.TheVariants.{Mark, Now}
 use Rattle.ld_model.specs.declared.cell.Owner.TheVariants.{Run}
 use Rattle.ld_model.specs.declared.method.Act.{Act}
 use Rattle.ld_model.specs.declared.method.Play.{Play}
-use Rattle.ld_model.specs.declared.unit.Unit.{Unit as Course}
+use Rattle.ld_model.specs.declared.unit.Unit.{Unit}
 use Rattle.ld_names.specs.declared.rule.Rule.{Rule}
 use Rattle.ld_names.specs.declared.rule.Rule.TheVariants.{CompletesActivity, CompletesStructure, OpensAct, CompletesPart, CompletesAct, CompletesPlay, CompletesUnit, JudgesCondition}
 use Rattle.ld_names.specs.declared.rule.RuleKind.TheVariants.{Run as OfRun}
@@ -44,7 +44,7 @@ use Rattle.ld_laws.proofs.ActOpenings.{firing_opens, change_leaves_act, change_l
 -- ---- what the rule that opens an act has said
 
 -- The rule of this number opens the act of this number.
-pub record IsOpener (unit : Course) (rule thing : ℕ) : Type 0 where
+pub record IsOpener (unit : Unit) (rule thing : ℕ) : Type 0 where
   pub one : Rule
   pub ruled : slice_get (rules_of unit) rule ≡ Some one
   pub opens : opened_by unit one ≡ Some thing
@@ -59,7 +59,7 @@ record OpensIfYes (rule thing : ℕ) (t : RunState) : Type 0 where
   opened : is_marked t rule Run ≡ true → is_some (t.cells (act_opened_cell thing)) ≡ true
 
 -- The firing of the rule opens the act.
-own_firing_opens : (unit : Course) (s : RunState) (site : Site) (rule thing : ℕ) (fired : IsFired unit s site) → IsOpener unit rule thing → site.rule ≡ rule
+own_firing_opens : (unit : Unit) (s : RunState) (site : Site) (rule thing : ℕ) (fired : IsFired unit s site) → IsOpener unit rule thing → site.rule ≡ rule
     → (site_firing unit s site).state.cells (act_opened_cell thing) ≡ s.cells Now
 own_firing_opens unit s site rule thing fired opener same =
     let one : fired.rule ≡ opener.one = some_same (sym fired.ruled ∙ ap (slice_get (rules_of unit)) same ∙ opener.ruled) in
@@ -68,7 +68,7 @@ own_firing_opens unit s site rule thing fired opener same =
     ∙ ap (λ (o : Option ℕ). (with_opening set o).state.cells (act_opened_cell thing)) (ap (opened_by unit) one ∙ opener.opens)
     ∙ ap (λ b. cond b (s.cells Now) (s.cells (act_opened_cell thing))) (eq-eqb thing thing refl)
 
-firing_opens_if_yes : (unit : Course) (rule thing : ℕ) → IsOpener unit rule thing → FiringsKeep unit (OpensIfYes rule thing)
+firing_opens_if_yes : (unit : Unit) (rule thing : ℕ) → IsOpener unit rule thing → FiringsKeep unit (OpensIfYes rule thing)
 firing_opens_if_yes unit rule thing opener s site fired holds = record {
   clock = ap is_some (firing_leaves unit s site Now refl refl) ∙ holds.clock;
   opened = λ told. by (same_cell (mark_cell rule Run) (site_mark site)) refl
@@ -87,7 +87,7 @@ firing_opens_if_yes unit rule thing opener s site fired holds = record {
       | inr opened ↦ ap is_some opened.0 ∙ holds.clock
     ]
 
-opening_lasts : (unit : Course) (rule thing : ℕ) → IsOpener unit rule thing → IsLasting unit (OpensIfYes rule thing)
+opening_lasts : (unit : Unit) (rule thing : ℕ) → IsOpener unit rule thing → IsLasting unit (OpensIfYes rule thing)
 opening_lasts unit rule thing opener = record {
   settles = λ s x runs is holds. settling_keeps unit (OpensIfYes rule thing) (firing_opens_if_yes unit rule thing opener) s x is holds;
   begins = λ s store moment holds. record { clock = refl; opened = holds.opened };
@@ -99,7 +99,7 @@ opening_lasts unit rule thing opener = record {
 }
 
 -- In each state that a run comes to, an act whose rule has said yes is opened.
-pub yes_is_opened : (unit : Course) (s : RunState) (rule thing : ℕ) → IsReached unit s → IsOpener unit rule thing
+pub yes_is_opened : (unit : Unit) (s : RunState) (rule thing : ℕ) → IsReached unit s → IsOpener unit rule thing
     → is_marked s rule Run ≡ true → is_some (s.cells (act_opened_cell thing)) ≡ true
 unfolding begins_as
 yes_is_opened unit s rule thing reached opener told =
@@ -132,7 +132,7 @@ earlier [] n x at = none_is_some at
 earlier (y ∷ ys) zero x at = (y, refl)
 earlier (y ∷ ys) (suc n) x at = earlier ys n x at
 
-act_before : (unit : Course) (p n : ℕ) (act : Act) → act_at unit p (suc n) ≡ Some act → (before : Act) × (act_at unit p n ≡ Some before)
+act_before : (unit : Unit) (p n : ℕ) (act : Act) → act_at unit p (suc n) ≡ Some act → (before : Act) × (act_at unit p n ≡ Some before)
 act_before unit p n act at = by (slice_get unit.method.plays p) at
   where
     by : (play : Option Play) → (play >>= λ one. slice_get one.acts (suc n)) ≡ Some act → (before : Act) × ((play >>= λ one. slice_get one.acts n) ≡ Some before)
@@ -140,7 +140,7 @@ act_before unit p n act at = by (slice_get unit.method.plays p) at
     by (Some play) some = earlier play.acts n act some
 
 -- The act before one that is opened is done.
-opening_holds : (unit : Course) (s : RunState) → ActsOpenInOrder unit s → (p a : ℕ) (act : Act) → act_at unit p a ≡ Some act
+opening_holds : (unit : Unit) (s : RunState) → ActsOpenInOrder unit s → (p a : ℕ) (act : Act) → act_at unit p a ≡ Some act
     → is_opened unit (seen_in unit s) act ≡ true → opening_test unit (seen_in unit s) p a ≡ true
 opening_holds unit s order p zero act at opened = refl
 opening_holds unit s order p (suc n) act at opened =
@@ -152,7 +152,7 @@ later_holds true b is = refl
 later_holds false b is = is
 
 -- The test of the rule that opened an act says yes.
-opener_says_yes : (unit : Course) (s : RunState) → ActsOpenInOrder unit s → (rule thing : ℕ) (one : Rule) → slice_get (rules_of unit) rule ≡ Some one → opened_by unit one ≡ Some thing
+opener_says_yes : (unit : Unit) (s : RunState) → ActsOpenInOrder unit s → (rule thing : ℕ) (one : Rule) → slice_get (rules_of unit) rule ≡ Some one → opened_by unit one ≡ Some thing
     → is_some (s.cells (act_opened_cell thing)) ≡ true → (site_test unit (seen_in unit s) (record { rule = rule; owner = Run }) ≡ true) × (OfRun ≡ kind_of one)
 unfolding site_test cell_of
 opener_says_yes unit s order rule thing (OpensAct p a) ruled opens there = (
@@ -178,7 +178,7 @@ opener_says_yes unit s order rule thing (JudgesCondition _) ruled opens there = 
 
 -- In each state that a run of a valid unit comes to, with a seat for each person, the rule of an act that is opened
 -- has said yes.
-pub opened_is_yes : (unit : Course) (s : RunState) (rule thing : ℕ) → IsValid unit → IsReached unit s → HasSeats s → IsOpener unit rule thing
+pub opened_is_yes : (unit : Unit) (s : RunState) (rule thing : ℕ) → IsValid unit → IsReached unit s → HasSeats s → IsOpener unit rule thing
     → is_some (s.cells (act_opened_cell thing)) ≡ true → is_marked s rule Run ≡ true
 opened_is_yes unit s rule thing valid reached seats opener there = by (is_started s) refl
   where

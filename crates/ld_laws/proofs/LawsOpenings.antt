@@ -6,7 +6,7 @@ use Rattle.ld_model.specs.Cells.{same_cell}
 use Rattle.ld_model.specs.declared.cell.CellName.{CellName}
 use Rattle.ld_model.specs.declared.cell.CellName.TheVariants.{Started}
 use Rattle.ld_model.specs.declared.cell.Owner.{Owner}
-use Rattle.ld_model.specs.declared.unit.Unit.{Unit as Course}
+use Rattle.ld_model.specs.declared.unit.Unit.{Unit}
 use Rattle.ld_lines.specs.declared.command.RunCommand.{RunCommand}
 use Rattle.ld_expr.specs.Owners.{of_person}
 use Rattle.ld_expr.specs.Seen.{opened_cell}
@@ -48,7 +48,7 @@ start_untouched s t (shows_outbox p) value fit was = refl
 start_untouched s t reports value fit was = refl
 start_untouched s t ticks value fit was = refl
 
-start_lasts : (unit : Course) (value : Datum) → IsLasting unit (λ s. s.cells Started ≡ Some value)
+start_lasts : (unit : Unit) (value : Datum) → IsLasting unit (λ s. s.cells Started ≡ Some value)
 start_lasts unit value = record {
   settles = λ s x runs is was. settling_leaves_start unit s x is ∙ was;
   begins = λ s store moment was. was;
@@ -57,7 +57,7 @@ start_lasts unit value = record {
 }
 
 -- A run that was started stays started, and at the same moment.
-pub step_leaves_start : (unit : Course) (s : RunState) (store : GlobalValues) (moment : ℤ) (asked : RunCommand) (d : DoneCommand) (value : Datum)
+pub step_leaves_start : (unit : Unit) (s : RunState) (store : GlobalValues) (moment : ℤ) (asked : RunCommand) (d : DoneCommand) (value : Datum)
     → run_step unit s store moment asked ≡ Ok d → s.cells Started ≡ Some value → d.state.cells Started ≡ Some value
 step_leaves_start unit s store moment asked d value is was =
     step_keeps unit (λ t. t.cells Started ≡ Some value) (start_lasts unit value) s store moment asked d is was
@@ -81,7 +81,7 @@ first_leaves s cell name value new was = by (is_some (s.cells name)) refl
     by true there = was
     by false none = rw (apart none (same_cell cell name) refl) was
 
-opening_stays : (unit : Course) (store : GlobalValues) (s t : RunState) (moment : ℤ) (command : Admitted) (thing : ℕ) (owner : Owner) (value : Datum) → Fits s command → WasOpened thing owner value t
+opening_stays : (unit : Unit) (store : GlobalValues) (s t : RunState) (moment : ℤ) (command : Admitted) (thing : ℕ) (owner : Owner) (value : Datum) → Fits s command → WasOpened thing owner value t
     → (directly_changed unit store t moment command).cells (opened_cell thing owner) ≡ Some value
 opening_stays unit store s t moment (enrols name) thing owner value fit was =
     change_leaves unit store t moment (enrols name) (opened_cell thing owner) (not_joining t owner was.has) ∙ was.opened
@@ -101,7 +101,7 @@ opening_stays unit store s t moment (shows_outbox p) thing owner value fit was =
 opening_stays unit store s t moment reports thing owner value fit was = was.opened
 opening_stays unit store s t moment ticks thing owner value fit was = was.opened
 
-opening_lasts : (unit : Course) (thing : ℕ) (owner : Owner) (value : Datum) → IsLasting unit (WasOpened thing owner value)
+opening_lasts : (unit : Unit) (thing : ℕ) (owner : Owner) (value : Datum) → IsLasting unit (WasOpened thing owner value)
 opening_lasts unit thing owner value = record {
   settles = λ s x runs is was. settling_keeps unit (WasOpened thing owner value)
       (λ t site fired told. record {
@@ -116,7 +116,7 @@ opening_lasts unit thing owner value = record {
 }
 
 -- When a person of the run first opened an activity stays as it is.
-pub step_leaves_opening : (unit : Course) (s : RunState) (store : GlobalValues) (moment : ℤ) (asked : RunCommand) (d : DoneCommand) (thing : ℕ) (owner : Owner) (value : Datum)
+pub step_leaves_opening : (unit : Unit) (s : RunState) (store : GlobalValues) (moment : ℤ) (asked : RunCommand) (d : DoneCommand) (thing : ℕ) (owner : Owner) (value : Datum)
     → run_step unit s store moment asked ≡ Ok d → HasOwner s owner
     → s.cells (opened_cell thing owner) ≡ Some value → d.state.cells (opened_cell thing owner) ≡ Some value
 step_leaves_opening unit s store moment asked d thing owner value is has was =

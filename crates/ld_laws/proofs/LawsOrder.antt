@@ -5,7 +5,7 @@ use Rattle.ld_base.specs.Maybe.{◌>>=◌}
 use Rattle.ld_value.specs.Datum.{Datum}
 use Rattle.ld_model.specs.declared.cell.Owner.TheVariants.{Run}
 use Rattle.ld_model.specs.declared.method.Act.{Act}
-use Rattle.ld_model.specs.declared.unit.Unit.{Unit as Course}
+use Rattle.ld_model.specs.declared.unit.Unit.{Unit}
 use Rattle.ld_names.specs.declared.rule.Rule.{Rule}
 use Rattle.ld_names.specs.Names.{thing_number}
 use Rattle.ld_names.specs.Rules.{rules_of, kind_of}
@@ -26,7 +26,7 @@ use Rattle.ld_run.proofs.LawsKept.{change_leaves, begun, IsLasting, step_keeps}
 use Rattle.ld_laws.proofs.LawsLatching.{IsLeft, left_untouched, mark_left}
 
 -- What holds of a run that was made, and what lasts, holds of each state that a run comes to.
-pub holds_if_reached : (unit : Course) (P : RunState → Type 0) → IsLasting unit P → ((seats : ℕ) (store : GlobalValues) (moment : ℤ) → P (made_at seats unit store moment)) → (s : RunState) → IsReached unit s → P s
+pub holds_if_reached : (unit : Unit) (P : RunState → Type 0) → IsLasting unit P → ((seats : ℕ) (store : GlobalValues) (moment : ℤ) → P (made_at seats unit store moment)) → (s : RunState) → IsReached unit s → P s
 holds_if_reached unit P lasting first s (made seats store moment) = first seats store moment
 holds_if_reached unit P lasting first s (left_by t store moment asked d reached is) = step_keeps unit P lasting t store moment asked d is (holds_if_reached unit P lasting first t reached)
 
@@ -36,7 +36,7 @@ run_either : (own : Bool) → owner_of own Run ≡ Run
 run_either true = refl
 run_either false = refl
 
-same_opened : (unit : Course) (s t : RunState) (act : Act) → ((thing : ℕ) → t.cells (act_opened_cell thing) ≡ s.cells (act_opened_cell thing)) → is_opened unit (seen_in unit t) act ≡ is_opened unit (seen_in unit s) act
+same_opened : (unit : Unit) (s t : RunState) (act : Act) → ((thing : ℕ) → t.cells (act_opened_cell thing) ≡ s.cells (act_opened_cell thing)) → is_opened unit (seen_in unit t) act ≡ is_opened unit (seen_in unit s) act
 unfolding cell_of
 same_opened unit s t act same = by (thing_number unit act.identifier)
   where
@@ -44,7 +44,7 @@ same_opened unit s t act same = by (thing_number unit act.identifier)
     by None = refl
     by (Some thing) = ap is_some (same thing)
 
-in_order_too : (unit : Course) (s t : RunState) → ((thing : ℕ) → t.cells (act_opened_cell thing) ≡ s.cells (act_opened_cell thing)) → ((rule : ℕ) → t.cells (mark_cell rule Run) ≡ s.cells (mark_cell rule Run))
+in_order_too : (unit : Unit) (s t : RunState) → ((thing : ℕ) → t.cells (act_opened_cell thing) ≡ s.cells (act_opened_cell thing)) → ((rule : ℕ) → t.cells (mark_cell rule Run) ≡ s.cells (mark_cell rule Run))
     → IsInOrder unit s → IsInOrder unit t
 in_order_too unit s t openings marks order = record {
   judged = λ rule p a ruled. let said = order.judged rule p a ruled in (said.0, marks rule ∙ said.1);
@@ -58,7 +58,7 @@ in_order_too unit s t openings marks order = record {
 opening_left : (s : RunState) (thing : ℕ) → IsLeft s (act_opened_cell thing)
 opening_left s thing = record { property = refl; joining = refl; started = refl; opened = λ other p. refl; chosen = λ other p. refl }
 
-order_lasts : (unit : Course) → IsValid unit → IsLasting unit (IsInOrder unit)
+order_lasts : (unit : Unit) → IsValid unit → IsLasting unit (IsInOrder unit)
 order_lasts unit valid = record {
   settles = λ s x runs is order. settling_in_order unit valid s x is order;
   begins = λ s store moment order. in_order_too unit s (begun unit store s moment) (λ thing. refl) (λ rule. refl) order;
@@ -71,7 +71,7 @@ order_lasts unit valid = record {
 
 -- ---- a run that was made
 
-none_opened : (unit : Course) (seats : ℕ) (store : GlobalValues) (moment : ℤ) (act : Act) → is_opened unit (seen_in unit (made_at seats unit store moment)) act ≡ false
+none_opened : (unit : Unit) (seats : ℕ) (store : GlobalValues) (moment : ℤ) (act : Act) → is_opened unit (seen_in unit (made_at seats unit store moment)) act ≡ false
 unfolding cell_of begins_as
 none_opened unit seats store moment act = by (thing_number unit act.identifier)
   where
@@ -83,7 +83,7 @@ none_opened unit seats store moment act = by (thing_number unit act.identifier)
     by None = refl
     by (Some thing) = ap is_some (either (is_kept_by_run unit (act_opened_cell thing)))
 
-order_at_first : (unit : Course) (seats : ℕ) (store : GlobalValues) (moment : ℤ) → IsInOrder unit (made_at seats unit store moment)
+order_at_first : (unit : Unit) (seats : ℕ) (store : GlobalValues) (moment : ℤ) → IsInOrder unit (made_at seats unit store moment)
 unfolding begins_as
 order_at_first unit seats store moment = record {
   judged = λ rule p a ruled. (
@@ -96,6 +96,6 @@ order_at_first unit seats store moment = record {
 }
 
 -- Acts open in order in each state that a run of a valid unit comes to.
-pub acts_open_in_order : (unit : Course) → IsValid unit → (s : RunState) → IsReached unit s → ActsOpenInOrder unit s
+pub acts_open_in_order : (unit : Unit) → IsValid unit → (s : RunState) → IsReached unit s → ActsOpenInOrder unit s
 acts_open_in_order unit valid s reached =
     (holds_if_reached unit (IsInOrder unit) (order_lasts unit valid) (order_at_first unit) s reached).ordered

@@ -5,7 +5,7 @@ use Rattle.std.specs.List.{range_with_len}
 use Rattle.ld_base.specs.Numbers.{numbers_below}
 use Rattle.ld_cascade.specs.System.{due}
 use Rattle.ld_cascade.specs.Settling.{sweep_firings, after_sweeps}
-use Rattle.ld_model.specs.declared.unit.Unit.{Unit as Course}
+use Rattle.ld_model.specs.declared.unit.Unit.{Unit}
 use Rattle.ld_names.specs.Rules.{Site}
 use Rattle.ld_lines.specs.declared.command.RunCommand.{RunCommand}
 use Rattle.ld_state.specs.GlobalValues.{GlobalValues}
@@ -39,7 +39,7 @@ number_at a (suc n) (suc k) x at = omega (arith, number_at (a + 1) n k x at)
 is_empty : {A : Type 0} (xs : List A) → (length xs == 0) ≡ true → xs ≡ []
 is_empty xs none = no_length xs (eqb-true (length xs) 0 none)
 
-settling_rests : (unit : Course) (s : RunState) (x : Settlement) → run_settling unit s ≡ Some x → sweep_firings (run_system unit) x.state ≡ []
+settling_rests : (unit : Unit) (s : RunState) (x : Settlement) → run_settling unit s ≡ Some x → sweep_firings (run_system unit) x.state ≡ []
 unfolding run_settling
 settling_rests unit s x is = by (turns_within (run_system unit) s unit.turns) refl is
   where
@@ -56,7 +56,7 @@ settling_rests unit s x is = by (turns_within (run_system unit) s unit.turns) re
 -- ---- a command does
 
 -- In a run that is started, no rule would fire after a command.
-started_rests : (unit : Course) (s : RunState) (store : GlobalValues) (moment : ℤ) (asked : RunCommand) (d : DoneCommand)
+started_rests : (unit : Unit) (s : RunState) (store : GlobalValues) (moment : ℤ) (asked : RunCommand) (d : DoneCommand)
     → run_step unit s store moment asked ≡ Ok d → is_started d.state ≡ true → sweep_firings (run_system unit) d.state ≡ []
 started_rests unit s store moment asked d is started =
     rests_at (sym stages.settlings.state)
@@ -89,7 +89,7 @@ started_rests unit s store moment asked d is started =
       | inr stayed ↦ different (sym now ∙ ap is_started stayed.1 ∙ stayed.0)
     ]
 
-pub reached_rests : (unit : Course) (s : RunState) → IsReached unit s → is_started s ≡ true → sweep_firings (run_system unit) s ≡ []
+pub reached_rests : (unit : Unit) (s : RunState) → IsReached unit s → is_started s ≡ true → sweep_firings (run_system unit) s ≡ []
 unfolding begins_as
 reached_rests unit s (made seats store moment) started = different (sym started)
 reached_rests unit s (left_by before store moment asked d reached is) started = started_rests unit before store moment asked d is started
@@ -100,7 +100,7 @@ none_mapped : {A B : Type 0} (f : A → B) (xs : List A) → map f xs ≡ [] →
 none_mapped f [] none = refl
 none_mapped f (x ∷ xs) none = absurd (cc)
 
-walk_rests : (unit : Course) (s : RunState) (sites : List Site) (site : Site) → walk_firings unit s sites ≡ [] → IsIn sites site → is_due unit s site ≡ false
+walk_rests : (unit : Unit) (s : RunState) (sites : List Site) (site : Site) → walk_firings unit s sites ≡ [] → IsIn sites site → is_due unit s site ≡ false
 walk_rests unit s [] site none there = absurd there
 walk_rests unit s (first ∷ sites) site none there = by (λ later. walk_rests unit s sites site later) (is_due unit s first) refl none there
   where
@@ -121,7 +121,7 @@ not_due false None some = different some
 
 -- In each state of a started run that has a seat for each person, the mark of each rule, for the run or for a
 -- person, is what its test says.
-pub marks_tell_tests : (unit : Course) (s : RunState) (site : Site) → IsReached unit s → is_started s ≡ true → HasSeats s
+pub marks_tell_tests : (unit : Unit) (s : RunState) (site : Site) → IsReached unit s → is_started s ≡ true → HasSeats s
     → Contains (all_sites unit s) site → verdict_in (s.cells (site_mark site)) ≡ Some (site_test unit (seen_in unit s) site)
 marks_tell_tests unit s site reached started seats there =
     not_due (site_test unit (seen_in unit s) site) (verdict_in (s.cells (site_mark site)))

@@ -6,7 +6,7 @@ use Rattle.ld_model.specs.declared.cell.CellName.TheVariants.{Started}
 use Rattle.ld_model.specs.declared.cell.Owner.TheVariants.{Run}
 use Rattle.ld_model.specs.declared.method.Act.{Act as ActOf}
 use Rattle.ld_model.specs.declared.method.Play.{Play}
-use Rattle.ld_model.specs.declared.unit.Unit.{Unit as Course}
+use Rattle.ld_model.specs.declared.unit.Unit.{Unit}
 use Rattle.ld_walk.specs.CommonParts.{unshown_part}
 use Rattle.ld_walk.specs.Parts.{Part}
 use Rattle.ld_walk.specs.Places.{nth}
@@ -49,7 +49,7 @@ use Rattle.ld_run.proofs.SeatsOfSteps.{KeepsSeats, step_keeps}
 
 -- ---- the start
 
-admits_start : (unit : Course) (s : RunState) (moment : ℤ) → Each (λ (command : Admitted). command ≡ starts) (admitted unit s moment Start)
+admits_start : (unit : Unit) (s : RunState) (moment : ℤ) → Each (λ (command : Admitted). command ≡ starts) (admitted unit s moment Start)
 unfolding admitted
 admits_start unit s moment =
     let P = λ (command : Admitted). command ≡ starts in
@@ -60,14 +60,14 @@ record IsStart (s : RunState) (d : DoneCommand) : Type 0 where
   is : d.command ≡ starts
   before : is_started s ≡ false
 
-is_start : (unit : Course) (s : RunState) (store : GlobalValues) (moment : ℤ) (d : DoneCommand) → run_step unit s store moment Start ≡ Ok d → IsStart s d
+is_start : (unit : Unit) (s : RunState) (store : GlobalValues) (moment : ℤ) (d : DoneCommand) → run_step unit s store moment Start ≡ Ok d → IsStart s d
 is_start unit s store moment d is =
     let stages = stages_of unit s store moment Start d is in
     let start = subst (Each (λ (command : Admitted). command ≡ starts)) stages.checked (admits_start unit s moment) in
     record { is = start; before = subst (Fits s) start (subst (Each (Fits s)) stages.checked (fits unit s moment Start)) }
 
 -- A start that is done keeps its moment.
-pub start_starts : (unit : Course) (s : RunState) (store : GlobalValues) (moment : ℤ) (d : DoneCommand)
+pub start_starts : (unit : Unit) (s : RunState) (store : GlobalValues) (moment : ℤ) (d : DoneCommand)
     → run_step unit s store moment Start ≡ Ok d → d.state.cells Started ≡ Some (moment_datum moment)
 start_starts unit s store moment d is =
     ap (λ (t : RunState). t.cells Started) stages.settlings.state
@@ -88,7 +88,7 @@ start_starts unit s store moment d is =
 
 -- ---- the rule that opens an act
 
-opener_listed : (unit : Course) (p a : ℕ) (act : ActOf) → act_at unit p a ≡ Some act → IsIn (rules_of unit) (OpensAct p a)
+opener_listed : (unit : Unit) (p a : ℕ) (act : ActOf) → act_at unit p a ≡ Some act → IsIn (rules_of unit) (OpensAct p a)
 unfolding act_parts_at
 opener_listed unit p a act at = by (slice_get unit.method.plays p) refl at
   where
@@ -104,7 +104,7 @@ later_holds true b is = refl
 later_holds false b is = is
 
 -- The rule that opens the first act of a play always says yes.
-first_says_yes : (unit : Course) (s : RunState) (rule p : ℕ) → slice_get (rules_of unit) rule ≡ Some (OpensAct p 0)
+first_says_yes : (unit : Unit) (s : RunState) (rule p : ℕ) → slice_get (rules_of unit) rule ≡ Some (OpensAct p 0)
     → site_test unit (seen_in unit s) (record { rule = rule; owner = Run }) ≡ true
 unfolding site_test
 first_says_yes unit s rule p ruled =
@@ -119,7 +119,7 @@ this_moment was now moment there none (inr opened) = opened
 
 -- A start that is done opens the first act of each play at its moment, in a run of a valid unit with a seat for
 -- each person.
-pub start_opens : (unit : Course) (s : RunState) (store : GlobalValues) (moment : ℤ) (d : DoneCommand) (p : ℕ) (act : ActOf)
+pub start_opens : (unit : Unit) (s : RunState) (store : GlobalValues) (moment : ℤ) (d : DoneCommand) (p : ℕ) (act : ActOf)
     → IsValid unit → IsReached unit s → HasSeats s → run_step unit s store moment Start ≡ Ok d
     → act_at unit p 0 ≡ Some act → opening_of unit (seen_in unit d.state) act ≡ Some (moment_datum moment)
 unfolding cell_of

@@ -8,7 +8,7 @@ use Rattle.std.proofs.lemmas.Slice.Eq.{bytes_eq-Decides}
 use Rattle.ld_model.specs.declared.method.Act.{Act}
 use Rattle.ld_model.specs.declared.method.Play.{Play}
 use Rattle.ld_model.specs.declared.method.RolePart.{RolePart}
-use Rattle.ld_model.specs.declared.unit.Unit.{Unit as Course}
+use Rattle.ld_model.specs.declared.unit.Unit.{Unit}
 use Rattle.ld_expr.specs.Done.{is_done}
 use Rattle.ld_expr.specs.Membership.{is_member_of}
 use Rattle.ld_expr.specs.Owners.{of_person}
@@ -46,10 +46,10 @@ word_tells true flag = refl
 word_tells false true = refl
 word_tells false false = refl
 
-abbrev TellsDone : Course → Seen → ℕ → List ℕ → List ℕ → Type 0
+abbrev TellsDone : Unit → Seen → ℕ → List ℕ → List ℕ → Type 0
 TellsDone unit seen p id state = bytes_eq state (codes "done") ≡ is_done unit seen (of_person p) id
 
-tells_done : (unit : Course) (seen : Seen) (p : ℕ) → TellsActivities unit seen p (OfActivities (TellsDone unit seen p))
+tells_done : (unit : Unit) (seen : Seen) (p : ℕ) → TellsActivities unit seen p (OfActivities (TellsDone unit seen p))
 tells_done unit seen p depth flag name activity named theirs id state speaks =
     let word = status_word (status_by (is_done unit seen (of_person p) activity.identifier) flag) in
     let same_id : activity.identifier ≡ id = by speaks.words in
@@ -64,7 +64,7 @@ tells_done unit seen p depth flag name activity named theirs id state speaks =
 
 -- Each line of a person's tree that speaks of an activity, `activity ID STATE` or `support ID STATE`, says `done`
 -- exactly where the person's own mark says that the activity is.
-pub tree_tells_done : (unit : Course) (seen : Seen) (p : ℕ) (line : TreeLine) (word id state : List ℕ) → Contains (tree_lines unit seen p) line
+pub tree_tells_done : (unit : Unit) (seen : Seen) (p : ℕ) (line : TreeLine) (word id state : List ℕ) → Contains (tree_lines unit seen p) line
     → is_activity_word word ≡ true → line.words ≡ word ∷ id ∷ state ∷ []
     → bytes_eq state (codes "done") ≡ is_done unit seen (of_person p) id
 tree_tells_done unit seen p line word id state there begins words =
@@ -74,10 +74,10 @@ tree_tells_done unit seen p line word id state there begins words =
 
 -- ---- what is open
 
-abbrev TellsTheirs : Course → Seen → ℕ → List ℕ → List ℕ → Type 0
+abbrev TellsTheirs : Unit → Seen → ℕ → List ℕ → List ℕ → Type 0
 TellsTheirs unit seen p id state = IsTheirActivity unit seen p id
 
-tells_theirs : (unit : Course) (seen : Seen) (p : ℕ) → TellsActivities unit seen p (OfActivities (TellsTheirs unit seen p))
+tells_theirs : (unit : Unit) (seen : Seen) (p : ℕ) → TellsActivities unit seen p (OfActivities (TellsTheirs unit seen p))
 tells_theirs unit seen p depth flag name activity named theirs id state speaks = record {
   name = name;
   activity = activity;
@@ -108,19 +108,19 @@ opens_line id line tells = elim (or_cases (same_words line.words (codes "activit
 ]
 
 -- The line that says that it is open.
-open_line : (unit : Course) (seen : Seen) (p : ℕ) (id : List ℕ) → is_open unit seen p id ≡ true → (line : TreeLine) × Contains (tree_lines unit seen p) line × (tells_open id line ≡ true)
+open_line : (unit : Unit) (seen : Seen) (p : ℕ) (id : List ℕ) → is_open unit seen p id ≡ true → (line : TreeLine) × Contains (tree_lines unit seen p) line × (tells_open id line ≡ true)
 unfolding is_open
 open_line unit seen p id is = any_of (tells_open id) (tree_lines unit seen p) is
 
 -- What is open for a person is not done for the person.
-pub open_is_not_done : (unit : Course) (seen : Seen) (p : ℕ) (id : List ℕ) → is_open unit seen p id ≡ true → is_done unit seen (of_person p) id ≡ false
+pub open_is_not_done : (unit : Unit) (seen : Seen) (p : ℕ) (id : List ℕ) → is_open unit seen p id ≡ true → is_done unit seen (of_person p) id ≡ false
 open_is_not_done unit seen p id is =
     let found = open_line unit seen p id is in
     let speaks = opens_line id found.0 found.2 in
     sym (tree_tells_done unit seen p found.0 speaks.word id (codes "open") found.1 speaks.begins speaks.words)
 
 -- It is the person's, by a role-part of an opened act, of whose role the person is a member.
-pub open_is_theirs : (unit : Course) (seen : Seen) (p : ℕ) (id : List ℕ) → is_open unit seen p id ≡ true → IsTheirActivity unit seen p id
+pub open_is_theirs : (unit : Unit) (seen : Seen) (p : ℕ) (id : List ℕ) → is_open unit seen p id ≡ true → IsTheirActivity unit seen p id
 open_is_theirs unit seen p id is =
     let found = open_line unit seen p id is in
     each_in (OfActivities (TellsTheirs unit seen p)) (tree_lines unit seen p) found.0
@@ -137,7 +137,7 @@ any_in test (y ∷ ys) x (inr there) passes = ap (λ b. test y || b) (any_in tes
     last false = refl
 
 -- What is theirs is the person's in the words of rules.
-pub theirs_is_mine : (unit : Course) (seen : Seen) (p : ℕ) (name : List ℕ) → IsTheirs unit seen p name → is_mine unit seen name p ≡ true
+pub theirs_is_mine : (unit : Unit) (seen : Seen) (p : ℕ) (name : List ℕ) → IsTheirs unit seen p name → is_mine unit seen name p ≡ true
 theirs_is_mine unit seen p name theirs =
     any_in (λ (part : RolePart). reaches unit part name && is_member_of unit seen part.role p) (role_parts_of unit) theirs.part
     (in_flat_map (λ (play : Play). flat_map (λ (act : Act). act.role_parts) play.acts) unit.method.plays theirs.play theirs.part

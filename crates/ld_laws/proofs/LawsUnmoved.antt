@@ -6,7 +6,7 @@ use Rattle.ld_model.specs.Cells.{same_cell}
 use Rattle.ld_model.specs.declared.cell.CellName.{CellName}
 use Rattle.ld_model.specs.declared.cell.CellName.TheVariants.{Prop, Vis, Member, Chosen, Opened, ActOpened, Started, Mark, Now, Roster}
 use Rattle.ld_model.specs.declared.cell.Owner.{Owner}
-use Rattle.ld_model.specs.declared.unit.Unit.{Unit as Course}
+use Rattle.ld_model.specs.declared.unit.Unit.{Unit}
 use Rattle.ld_lines.specs.declared.command.RunCommand.{RunCommand}
 use Rattle.ld_expr.specs.Seen.{mark_cell, opened_cell, act_opened_cell}
 use Rattle.ld_state.specs.GlobalValues.{GlobalValues}
@@ -32,7 +32,7 @@ use Rattle.ld_run.proofs.SeatsOfSteps.{bound_where}
 -- ---- the stages of a step
 
 -- A command that was done: the checks admit it, and then it settles and changes the run.
-pub record HasStages (unit : Course) (s : RunState) (store : GlobalValues) (moment : ℤ) (asked : RunCommand) (d : DoneCommand) : Type 0 where
+pub record HasStages (unit : Unit) (s : RunState) (store : GlobalValues) (moment : ℤ) (asked : RunCommand) (d : DoneCommand) : Type 0 where
   pub checked : admitted unit s moment asked ≡ Ok d.command
   pub settlings : HasSettlings unit s store moment d.command d
 
@@ -40,7 +40,7 @@ each_so : {A : Type 0} {P Q : A → Type 0} (r : Result A Refusal) → ((x : A) 
 each_so (Ok x) so each = so x each
 each_so (Err refusal) so each = tt
 
-each_staged : (unit : Course) (s : RunState) (store : GlobalValues) (moment : ℤ) (asked : RunCommand)
+each_staged : (unit : Unit) (s : RunState) (store : GlobalValues) (moment : ℤ) (asked : RunCommand)
     → Each (HasStages unit s store moment asked) (run_step unit s store moment asked)
 unfolding run_step
 each_staged unit s store moment asked =
@@ -51,11 +51,11 @@ each_staged unit s store moment asked =
       settlings = subst (λ (one : Admitted). HasSettlings unit s store moment one d) (sym both.told) both;
     }) (each_settling unit s store moment command)
 
-pub stages_of : (unit : Course) (s : RunState) (store : GlobalValues) (moment : ℤ) (asked : RunCommand) (d : DoneCommand)
+pub stages_of : (unit : Unit) (s : RunState) (store : GlobalValues) (moment : ℤ) (asked : RunCommand) (d : DoneCommand)
     → run_step unit s store moment asked ≡ Ok d → HasStages unit s store moment asked d
 stages_of unit s store moment asked d is = subst (Each (HasStages unit s store moment asked)) is (each_staged unit s store moment asked)
 
-settled_keeps : (unit : Course) (P : RunState → Type 0) → FiringsKeep unit P → (settles : Bool) (t : RunState) (x : Settlement) → settled settles unit t ≡ Ok x → P t → P x.state
+settled_keeps : (unit : Unit) (P : RunState → Type 0) → FiringsKeep unit P → (settles : Bool) (t : RunState) (x : Settlement) → settled settles unit t ≡ Ok x → P t → P x.state
 settled_keeps unit P kept settles t x is holds = elim (either_settled unit settles t x is) [
   | inl moved ↦ settling_keeps unit P kept t x moved.1 holds
   | inr stayed ↦ subst P (sym stayed.1) holds
@@ -63,7 +63,7 @@ settled_keeps unit P kept settles t x is holds = elim (either_settled unit settl
 
 -- What holds once the moment and the store's values are taken in, and what firings and the command's own change
 -- keep, holds after the command.
-pub kept_from_begin : (unit : Course) (s : RunState) (store : GlobalValues) (moment : ℤ) (asked : RunCommand) (d : DoneCommand) (P : RunState → Type 0)
+pub kept_from_begin : (unit : Unit) (s : RunState) (store : GlobalValues) (moment : ℤ) (asked : RunCommand) (d : DoneCommand) (P : RunState → Type 0)
     → run_step unit s store moment asked ≡ Ok d → FiringsKeep unit P
     → ((t : RunState) → Fits s d.command → P t → P (directly_changed unit store t moment d.command))
     → P (begun unit store s moment) → P d.state
@@ -78,7 +78,7 @@ kept_from_begin unit s store moment asked d P is kept changes holds =
 -- ---- a command that tells of no turns
 
 -- A command that tells of no turns did its own change alone: no rule fired.
-pub no_turns_step : (unit : Course) (s : RunState) (store : GlobalValues) (moment : ℤ) (asked : RunCommand) (d : DoneCommand)
+pub no_turns_step : (unit : Unit) (s : RunState) (store : GlobalValues) (moment : ℤ) (asked : RunCommand) (d : DoneCommand)
     → run_step unit s store moment asked ≡ Ok d → d.turns ≡ 0
     → d.state ≡ directly_changed unit store (begun unit store s moment) moment d.command
 no_turns_step unit s store moment asked d is none =
@@ -91,14 +91,14 @@ unstarted_by None told = refl
 unstarted_by (Some value) told = told value refl
 
 -- It found the run unstarted.
-pub unstarted_before : (unit : Course) (s : RunState) (store : GlobalValues) (moment : ℤ) (asked : RunCommand) (d : DoneCommand)
+pub unstarted_before : (unit : Unit) (s : RunState) (store : GlobalValues) (moment : ℤ) (asked : RunCommand) (d : DoneCommand)
     → run_step unit s store moment asked ≡ Ok d → is_started d.state ≡ false → is_started s ≡ false
 unstarted_before unit s store moment asked d is still =
     unstarted_by (s.cells Started) λ value was.
     different (sym (ap is_some (step_leaves_start unit s store moment asked d value is was)) ∙ still)
 
 -- What it does is its own change alone: no rule fires.
-pub unstarted_step : (unit : Course) (s : RunState) (store : GlobalValues) (moment : ℤ) (asked : RunCommand) (d : DoneCommand)
+pub unstarted_step : (unit : Unit) (s : RunState) (store : GlobalValues) (moment : ℤ) (asked : RunCommand) (d : DoneCommand)
     → run_step unit s store moment asked ≡ Ok d → is_started d.state ≡ false
     → d.state ≡ directly_changed unit store (begun unit store s moment) moment d.command
 unstarted_step unit s store moment asked d is still =
@@ -130,7 +130,7 @@ unstarted_step unit s store moment asked d is still =
 -- ---- what such a command leaves
 
 -- What was begun has the same but for the moment and the values of properties.
-begin_leaves : (unit : Course) (store : GlobalValues) (s : RunState) (moment : ℤ) (cell : CellName) → is_property cell ≡ false → same_cell cell Now ≡ false
+begin_leaves : (unit : Unit) (store : GlobalValues) (s : RunState) (moment : ℤ) (cell : CellName) → is_property cell ≡ false → same_cell cell Now ≡ false
     → (begun unit store s moment).cells cell ≡ s.cells cell
 begin_leaves unit store s moment (Prop n owner) no_property other = different no_property
 begin_leaves unit store s moment (Vis t p) no_property other = refl
@@ -144,7 +144,7 @@ begin_leaves unit store s moment Now no_property other = different other
 begin_leaves unit store s moment Roster no_property other = refl
 
 -- The command's own change writes values of properties and the cells of a person who joins alone.
-unstarted_untouched : (unit : Course) (store : GlobalValues) (s t : RunState) (moment : ℤ) (command : Admitted) (cell : CellName) → Fits s command → is_started s ≡ false
+unstarted_untouched : (unit : Unit) (store : GlobalValues) (s t : RunState) (moment : ℤ) (command : Admitted) (cell : CellName) → Fits s command → is_started s ≡ false
     → is_started (directly_changed unit store t moment command) ≡ false → is_property cell ≡ false → is_cell_of (length t.persons) cell ≡ false → touches t command cell ≡ false
 unstarted_untouched unit store s t moment (enrols name) cell fit before still no_property joining = joining
 unstarted_untouched unit store s t moment (assigns p role) cell fit before still no_property joining = refl
@@ -162,7 +162,7 @@ unstarted_untouched unit store s t moment ticks cell fit before still no_propert
 
 -- A command that leaves the run unstarted leaves each cell as it was but the moment, the values of properties, and
 -- the cells of a person who joins.
-pub unstarted_leaves : (unit : Course) (s : RunState) (store : GlobalValues) (moment : ℤ) (asked : RunCommand) (d : DoneCommand) (cell : CellName)
+pub unstarted_leaves : (unit : Unit) (s : RunState) (store : GlobalValues) (moment : ℤ) (asked : RunCommand) (d : DoneCommand) (cell : CellName)
     → run_step unit s store moment asked ≡ Ok d → is_started d.state ≡ false
     → is_property cell ≡ false → same_cell cell Now ≡ false → is_cell_of (length s.persons) cell ≡ false
     → d.state.cells cell ≡ s.cells cell
@@ -176,27 +176,27 @@ unstarted_leaves unit s store moment asked d cell is still no_property other joi
     ∙ begin_leaves unit store s moment cell no_property other
 
 -- It leaves the mark of each rule, for the run and for each person that it has.
-pub unstarted_leaves_mark : (unit : Course) (s : RunState) (store : GlobalValues) (moment : ℤ) (asked : RunCommand) (d : DoneCommand) (rule : ℕ) (owner : Owner)
+pub unstarted_leaves_mark : (unit : Unit) (s : RunState) (store : GlobalValues) (moment : ℤ) (asked : RunCommand) (d : DoneCommand) (rule : ℕ) (owner : Owner)
     → run_step unit s store moment asked ≡ Ok d → is_started d.state ≡ false → HasOwner s owner
     → d.state.cells (mark_cell rule owner) ≡ s.cells (mark_cell rule owner)
 unstarted_leaves_mark unit s store moment asked d rule owner is still has =
     unstarted_leaves unit s store moment asked d (mark_cell rule owner) is still refl refl (not_joining s owner has)
 
 -- It leaves when each act was opened,
-pub unstarted_leaves_act : (unit : Course) (s : RunState) (store : GlobalValues) (moment : ℤ) (asked : RunCommand) (d : DoneCommand) (thing : ℕ)
+pub unstarted_leaves_act : (unit : Unit) (s : RunState) (store : GlobalValues) (moment : ℤ) (asked : RunCommand) (d : DoneCommand) (thing : ℕ)
     → run_step unit s store moment asked ≡ Ok d → is_started d.state ≡ false
     → d.state.cells (act_opened_cell thing) ≡ s.cells (act_opened_cell thing)
 unstarted_leaves_act unit s store moment asked d thing is still = unstarted_leaves unit s store moment asked d (act_opened_cell thing) is still refl refl refl
 
 -- and when each activity was, by the persons that the run has.
-pub unstarted_leaves_opening : (unit : Course) (s : RunState) (store : GlobalValues) (moment : ℤ) (asked : RunCommand) (d : DoneCommand) (thing : ℕ) (owner : Owner)
+pub unstarted_leaves_opening : (unit : Unit) (s : RunState) (store : GlobalValues) (moment : ℤ) (asked : RunCommand) (d : DoneCommand) (thing : ℕ) (owner : Owner)
     → run_step unit s store moment asked ≡ Ok d → is_started d.state ≡ false → HasOwner s owner
     → d.state.cells (opened_cell thing owner) ≡ s.cells (opened_cell thing owner)
 unstarted_leaves_opening unit s store moment asked d thing owner is still has =
     unstarted_leaves unit s store moment asked d (opened_cell thing owner) is still refl refl (not_joining s owner has)
 
 -- It sends no notice.
-pub unstarted_sends_nothing : (unit : Course) (s : RunState) (store : GlobalValues) (moment : ℤ) (asked : RunCommand) (d : DoneCommand)
+pub unstarted_sends_nothing : (unit : Unit) (s : RunState) (store : GlobalValues) (moment : ℤ) (asked : RunCommand) (d : DoneCommand)
     → run_step unit s store moment asked ≡ Ok d → is_started d.state ≡ false → d.state.outbox ≡ s.outbox
 unstarted_sends_nothing unit s store moment asked d is still =
     ap (λ (t : RunState). t.outbox) (unstarted_step unit s store moment asked d is still)

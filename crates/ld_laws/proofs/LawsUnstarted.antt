@@ -4,7 +4,7 @@ use Rattle.ld_base.specs.Maybe.{◌>>=◌}
 use Rattle.ld_model.specs.declared.cell.CellName.{CellName}
 use Rattle.ld_model.specs.declared.cell.CellName.TheVariants.{Started}
 use Rattle.ld_model.specs.declared.cell.Owner.{Owner}
-use Rattle.ld_model.specs.declared.unit.Unit.{Unit as Course}
+use Rattle.ld_model.specs.declared.unit.Unit.{Unit}
 use Rattle.ld_names.specs.declared.rule.Rule.{Rule}
 use Rattle.ld_names.specs.declared.rule.Rule.TheVariants.{CompletesActivity, CompletesStructure, OpensAct, CompletesPart, CompletesAct, CompletesPlay, CompletesUnit, JudgesCondition}
 use Rattle.ld_names.specs.Rules.{rules_of}
@@ -43,7 +43,7 @@ either : {A : Type 0} (b : Bool) (x y v : A) → x ≡ v → y ≡ v → cond b 
 either true x y v this that = this
 either false x y v this that = that
 
-untouched_at_first : (unit : Course) (seats : ℕ) (store : GlobalValues) (moment : ℤ) → IsUntouched (made_at seats unit store moment)
+untouched_at_first : (unit : Unit) (seats : ℕ) (store : GlobalValues) (moment : ℤ) → IsUntouched (made_at seats unit store moment)
 unfolding begins_as
 untouched_at_first unit seats store moment = record {
   unmarked = λ rule owner. by (slice_get (rules_of unit) rule) (is_kept_by_run unit (mark_cell rule owner));
@@ -56,7 +56,7 @@ untouched_at_first unit seats store moment = record {
     by found true = unmarked_at_first found
     by found false = refl
 
-joined_untouched : (unit : Course) (store : GlobalValues) (s : RunState) (moment : ℤ) (name : List ℕ) → IsUntouched s → IsUntouched (joined unit store s moment name)
+joined_untouched : (unit : Unit) (store : GlobalValues) (s : RunState) (moment : ℤ) (name : List ℕ) → IsUntouched s → IsUntouched (joined unit store s moment name)
 unfolding begins_as
 joined_untouched unit store s moment name untouched = record {
   unmarked = λ rule owner. by rule owner (is_kept_for unit (length s.persons) (mark_cell rule owner));
@@ -72,7 +72,7 @@ joined_untouched unit store s moment name untouched = record {
 -- ---- commands
 
 -- A command that writes the value of a property writes none of these.
-written_untouched : (unit : Course) (store : GlobalValues) (t : RunState) (moment : ℤ) (command : Admitted) → ((cell : CellName) → is_property cell ≡ false → touches t command cell ≡ false)
+written_untouched : (unit : Unit) (store : GlobalValues) (t : RunState) (moment : ℤ) (command : Admitted) → ((cell : CellName) → is_property cell ≡ false → touches t command cell ≡ false)
     → (directly_changed unit store t moment command).outbox ≡ t.outbox → UntouchedUntilStarted t → UntouchedUntilStarted (directly_changed unit store t moment command)
 written_untouched unit store t moment command other outbox held still =
     let same = λ (cell : CellName) (no_property : is_property cell ≡ false). change_leaves unit store t moment command cell (other cell no_property) in
@@ -84,7 +84,7 @@ written_untouched unit store t moment command other outbox held still =
       no_notice = outbox ∙ untouched.no_notice;
     }
 
-changed_untouched : (unit : Course) (store : GlobalValues) (s t : RunState) (moment : ℤ) (command : Admitted) → Fits s command → (is_started s ≡ true → is_started t ≡ true) → UntouchedUntilStarted t
+changed_untouched : (unit : Unit) (store : GlobalValues) (s t : RunState) (moment : ℤ) (command : Admitted) → Fits s command → (is_started s ≡ true → is_started t ≡ true) → UntouchedUntilStarted t
     → UntouchedUntilStarted (directly_changed unit store t moment command)
 changed_untouched unit store s t moment (enrols name) fit starting held still = joined_untouched unit store t moment name (held still)
 changed_untouched unit store s t moment (assigns p role) fit starting held still =
@@ -108,7 +108,7 @@ changed_untouched unit store s t moment (shows_outbox p) fit starting held still
 changed_untouched unit store s t moment reports fit starting held still = held still
 changed_untouched unit store s t moment ticks fit starting held still = held still
 
-untouched_lasts : (unit : Course) → IsLasting unit UntouchedUntilStarted
+untouched_lasts : (unit : Unit) → IsLasting unit UntouchedUntilStarted
 untouched_lasts unit = record {
   settles = λ s x runs is held still. different (sym runs ∙ sym (ap is_some (settling_leaves_start unit s x is)) ∙ still);
   begins = λ s store moment held still. let untouched = held still in record {
@@ -121,6 +121,6 @@ untouched_lasts unit = record {
 }
 
 -- A state that a run comes to and that is not started is untouched.
-pub untouched_until_started : (unit : Course) (s : RunState) → IsReached unit s → is_started s ≡ false → IsUntouched s
+pub untouched_until_started : (unit : Unit) (s : RunState) → IsReached unit s → is_started s ≡ false → IsUntouched s
 untouched_until_started unit s reached =
     holds_if_reached unit UntouchedUntilStarted (untouched_lasts unit) (λ seats store moment still. untouched_at_first unit seats store moment) s reached

@@ -13,7 +13,7 @@ use Rattle.ld_model.specs.declared.item.Item.{Item}
 use Rattle.ld_model.specs.declared.method.Act.{Act}
 use Rattle.ld_model.specs.declared.method.Play.{Play}
 use Rattle.ld_model.specs.declared.method.RolePart.{RolePart}
-use Rattle.ld_model.specs.declared.unit.Unit.{Unit as Course}
+use Rattle.ld_model.specs.declared.unit.Unit.{Unit}
 use Rattle.ld_expr.specs.Done.{is_done}
 use Rattle.ld_expr.specs.Lookup.{list_from, activity_named, structure_named, environment_named}
 use Rattle.ld_expr.specs.Membership.{is_member_of}
@@ -23,13 +23,13 @@ use Rattle.ld_tree.specs.Lines.{TreeLine}
 use Rattle.ld_tree.specs.Tree.{done, opened, status_by, unless_closed, once_done, thing_line, status_line, is_visible, if_visible, all_item_lines, object_lines, service_lines, environment_lines, all_environment_lines, activity_word, activity_lines, is_passed, in_turn, flagged, FlaggedLines, structure_lines, target_lines, part_lines, done_act_lines, is_act_opened, open_act_lines, current_act_lines, play_lines, tree_lines, tells_open, is_open, feedback_of}
 
 -- What a person's tree looks at is the same in both.
-pub record ShowsSame (unit : Course) (a b : Seen) (p : ℕ) : Type 0 where
+pub record ShowsSame (unit : Unit) (a b : Seen) (p : ℕ) : Type 0 where
   pub visible : (id : List ℕ) → is_visible unit a p id ≡ is_visible unit b p id
   pub completed : (id : List ℕ) → is_done unit a (of_person p) id ≡ is_done unit b (of_person p) id
   pub entered : (id : List ℕ) → is_act_opened unit a id ≡ is_act_opened unit b id
   pub member : (role : List ℕ) → is_member_of unit a role p ≡ is_member_of unit b role p
 
-module _ (unit : Course) (a b : Seen) (p : ℕ) (same : ShowsSame unit a b p) where
+module _ (unit : Unit) (a b : Seen) (p : ℕ) (same : ShowsSame unit a b p) where
   -- ---- items and environments
 
   shown : (id : List ℕ) {xs ys : List TreeLine} → xs ≡ ys → if_visible unit a p id xs ≡ if_visible unit b p id ys

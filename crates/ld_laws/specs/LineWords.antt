@@ -5,7 +5,7 @@ use Rattle.ld_model.specs.declared.activity.Activity.{Activity}
 use Rattle.ld_model.specs.declared.method.Act.{Act}
 use Rattle.ld_model.specs.declared.method.Play.{Play}
 use Rattle.ld_model.specs.declared.method.RolePart.{RolePart}
-use Rattle.ld_model.specs.declared.unit.Unit.{Unit as Course}
+use Rattle.ld_model.specs.declared.unit.Unit.{Unit}
 use Rattle.ld_expr.specs.Lookup.{activity_named}
 use Rattle.ld_expr.specs.Membership.{is_member_of}
 use Rattle.ld_expr.specs.Seen.{Seen}
@@ -18,7 +18,7 @@ is_activity_word word = bytes_eq word (codes "activity") || bytes_eq word (codes
 
 -- An act that is opened has a role-part, of whose role the person is a member, and what stands below what it
 -- refers to has this name.
-pub record IsTheirs (unit : Course) (seen : Seen) (p : ℕ) (name : List ℕ) : Type 0 where
+pub record IsTheirs (unit : Unit) (seen : Seen) (p : ℕ) (name : List ℕ) : Type 0 where
   pub play : Play
   pub act : Act
   pub part : RolePart
@@ -30,7 +30,7 @@ pub record IsTheirs (unit : Course) (seen : Seen) (p : ℕ) (name : List ℕ) : 
   pub below : StandsBelow unit part.target name
 
 -- An activity has the identifier, and the name by which it is referred to is the person's.
-pub record IsTheirActivity (unit : Course) (seen : Seen) (p : ℕ) (id : List ℕ) : Type 0 where
+pub record IsTheirActivity (unit : Unit) (seen : Seen) (p : ℕ) (id : List ℕ) : Type 0 where
   pub name : List ℕ
   pub activity : Activity
   pub named : activity_named unit name ≡ Some activity

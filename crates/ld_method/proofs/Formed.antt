@@ -6,7 +6,7 @@ use Rattle.ld_json.specs.declared.fault.ReadFault.{ReadFault}
 use Rattle.ld_json.specs.declared.docs.Docs.{Docs}
 use Rattle.ld_model.specs.declared.condition.Condition.{Condition}
 use Rattle.ld_model.specs.declared.unit.Parts.{Parts}
-use Rattle.ld_model.specs.declared.unit.Unit.{Unit as Course}
+use Rattle.ld_model.specs.declared.unit.Unit.{Unit}
 use Rattle.ld_shape.specs.Keeping.{Keeps}
 use Rattle.ld_shape.specs.Reading.{ValueOrFaults, option_mapped, GivesOrSays}
 use Rattle.ld_shape.specs.Shapes.{Described}
@@ -16,13 +16,13 @@ kept : {A : Type 0} (form : A → Bool) (o : Option A) (x : A) → Keeps form o 
 kept form None x keeps is = cc
 kept form (Some y) x keeps is = let same : y ≡ x = cc in ap form (sym same) ∙ keeps
 
-same_parts : (own : Parts) (told : Option (Head × List Condition)) (x : Course)
+same_parts : (own : Parts) (told : Option (Head × List Condition)) (x : Unit)
     → option_mapped (unit_from own) told ≡ Some x → declared_parts x ≡ own
 same_parts own None x is = cc
 same_parts own (Some told) x is = let same : unit_from own told ≡ x = cc in ap declared_parts (sym same)
 
 -- The unit of parts that were read and of what was read of the method.
-pub well_formed : (docs : Docs) (own : Parts) (x : Course) → (parts.reading docs).value ≡ Some own
+pub well_formed : (docs : Docs) (own : Parts) (x : Unit) → (parts.reading docs).value ≡ Some own
     → ((method_with own).reading docs).value ≡ Some x → is_well_formed x ≡ true
 unfolding is_well_formed unit
 well_formed docs own x is made =
@@ -33,7 +33,7 @@ well_formed docs own x is made =
     ((method_with own).formed docs) made)
 
 -- What is answered so is a well-formed unit.
-pub answers_formed : (docs : Docs) (own : Parts) (result : Result Course ReadFault)
+pub answers_formed : (docs : Docs) (own : Parts) (result : Result Unit ReadFault)
     → (parts.reading docs).value ≡ Some own → GivesOrSays ((method_with own).reading docs) result
     → IfOk result (λ x. is_well_formed x ≡ true)
 answers_formed docs own (Ok x) is gives = well_formed docs own x is gives.value
@@ -47,7 +47,7 @@ there_is form None [] agree keeps none = absurd agree
 there_is form None (_ ∷ _) agree keeps none = cc
 
 pub stands_for_one : (docs : Docs) → (unit.reading docs).faults ≡ []
-    → (x : Course) × ((unit.reading docs).value ≡ Some x) × (is_well_formed x ≡ true)
+    → (x : Unit) × ((unit.reading docs).value ≡ Some x) × (is_well_formed x ≡ true)
 unfolding is_well_formed
 stands_for_one docs none = there_is unit.has_form (unit.reading docs).value (unit.reading docs).faults
     (unit.reading docs).agree (unit.formed docs) none

@@ -3,7 +3,7 @@
 
 ghost use Rattle.std.specs.Prelude.{◌≡◌, true, [], Some, IfOk};
 ghost use Rattle.ld_formats.specs.Units.{parts as parts_shape, method_with, unit as unit_shape, is_well_formed, unit_from};
-ghost use Rattle.ld_model.specs.declared.unit.Unit.{Unit as Course};
+ghost use Rattle.ld_model.specs.declared.unit.Unit.{Unit};
 ghost use Rattle.ld_shape.specs.Reading.{GivesOrSays};
 
 use crate::unit::{Head, HeadShape};
@@ -80,6 +80,6 @@ fn unit_with(alloc: Global, parts: Parts, head: Head, conditions: ConditionList)
 /// Documents without a fault of shape stand for a unit, which is well-formed. The body is empty:
 /// the law is about what the readers are held to, and holds for all documents.
 pub fn documents_without_a_fault_stand_for_a_unit(docs: &Docs<'_>)
-    ensures { (unit_shape.reading docs.now).faults ≡ [] → (unit : Course)
+    ensures { (unit_shape.reading docs.now).faults ≡ [] → (unit : Unit)
         × ((unit_shape.reading docs.now).value ≡ Some unit) × (is_well_formed unit ≡ true) }
 {}

@@ -10,7 +10,7 @@ use Rattle.ld_model.specs.RoleRows.{RoleRow}
 use Rattle.ld_model.specs.Roles.{roles_of}
 use Rattle.ld_model.specs.declared.property.Property.{Property as PropertyOf}
 use Rattle.ld_model.specs.declared.unit.Level.TheVariants.{B}
-use Rattle.ld_model.specs.declared.unit.Unit.{Unit as Course}
+use Rattle.ld_model.specs.declared.unit.Unit.{Unit}
 use Rattle.ld_walk.specs.ExpressionParts.{plain_part}
 use Rattle.ld_walk.specs.declared.kind.Kind.TheVariants as kind
 use Rattle.ld_walk.specs.declared.kind.Wanted.TheVariants as wanted
@@ -145,23 +145,23 @@ things_append : (xs ys : List Part) → things_in (xs ++ ys) ≡ things_in xs ++
 things_append xs ys = flat_map-append (λ part. thing_in part.what) xs ys
 
 -- What stands in the documents of environments and activities.
-abbrev inner_parts : Course → List Part
+abbrev inner_parts : Unit → List Part
 inner_parts unit =
     each_numbered (environment_parts (root file.Environments)) unit.environments
     ++ (each_numbered (activity_parts (root file.Activities)) unit.activities
     ++ each_numbered (structure_parts (root file.Activities)) unit.structures)
 
 -- What stands behind the unit itself in its own document.
-abbrev own_parts : Course → List Part
+abbrev own_parts : Unit → List Part
 own_parts unit =
     items_parts (root file.Unit) (codes "learning-objectives") unit.learning_objectives
     ++ (items_parts (root file.Unit) (codes "prerequisites") unit.prerequisites
     ++ method_parts unit.method)
 
-abbrev last_parts : Course → List Part
+abbrev last_parts : Unit → List Part
 last_parts unit = each_numbered (condition_parts (root file.Conditions)) unit.conditions
 
-inner_only : (unit : Course) → OnlyThings (inner_parts unit)
+inner_only : (unit : Unit) → OnlyThings (inner_parts unit)
 inner_only unit =
     let environments = each_numbered (environment_parts (root file.Environments)) unit.environments in
     let activities = each_numbered (activity_parts (root file.Activities)) unit.activities in
@@ -169,32 +169,32 @@ inner_only unit =
     let second = both activities structures (activities_only (root file.Activities) unit.activities) (structures_only (root file.Activities) unit.structures) in
     both environments (activities ++ structures) (environments_only (root file.Environments) unit.environments) second
 
-own_only : (unit : Course) → OnlyThings (own_parts unit)
+own_only : (unit : Unit) → OnlyThings (own_parts unit)
 own_only unit = unit_only (root file.Unit) unit.learning_objectives unit.prerequisites unit.method
 
-last_only : (unit : Course) → OnlyThings (last_parts unit)
+last_only : (unit : Unit) → OnlyThings (last_parts unit)
 last_only unit = conditions_only (root file.Conditions) unit.conditions
 
-abbrev role_list : Course → List (List ℕ)
+abbrev role_list : Unit → List (List ℕ)
 role_list unit = map (λ role. role.identifier) (roles_of unit)
 
-abbrev property_list : Course → List (List ℕ)
+abbrev property_list : Unit → List (List ℕ)
 property_list unit = map (λ property. property.identifier) unit.properties
 
 -- The parts of a unit: roles, properties, things, the unit itself, and things.
-abbrev parts_so : Course → List Part
+abbrev parts_so : Unit → List Part
 parts_so unit =
     map (role_part (root file.Roles)) (roles_of unit)
     ++ ((each_numbered (property_parts (root file.Properties)) unit.properties ++ inner_parts unit)
     ++ ((plain_part (root file.Unit) (Declares kind.Unit unit.identifier None) ∷ own_parts unit)
     ++ last_parts unit))
 
-parts_are : (unit : Course) → parts_of unit ≡ parts_so unit
+parts_are : (unit : Unit) → parts_of unit ≡ parts_so unit
 unfolding parts_of middle_parts unit_parts
 parts_are unit = refl
 
 -- The roles among the parts of a unit are its roles.
-pub roles_listed : (unit : Course) → role_identifiers_in (parts_of unit) ≡ map (λ role. role.identifier) (roles_of unit)
+pub roles_listed : (unit : Unit) → role_identifiers_in (parts_of unit) ≡ map (λ role. role.identifier) (roles_of unit)
 roles_listed unit =
     let roles = map (role_part (root file.Roles)) (roles_of unit) in
     let properties = each_numbered (property_parts (root file.Properties)) unit.properties in
@@ -210,7 +210,7 @@ roles_listed unit =
     rw (parts_are unit, first, second, third, fourth, no_property, no_inner, no_own, no_last, roles_are_roles (root file.Roles) (roles_of unit)) (append-nil (role_list unit))
 
 -- The things of a unit are those of its inner documents, of its own and of its conditions.
-things_listed : (unit : Course) → things_of unit ≡ things_in (inner_parts unit) ++ (things_in (own_parts unit) ++ things_in (last_parts unit))
+things_listed : (unit : Unit) → things_of unit ≡ things_in (inner_parts unit) ++ (things_in (own_parts unit) ++ things_in (last_parts unit))
 things_listed unit =
     let roles = map (role_part (root file.Roles)) (roles_of unit) in
     let properties = each_numbered (property_parts (root file.Properties)) unit.properties in
@@ -224,7 +224,7 @@ things_listed unit =
     rw (parts_are unit, first, second, third, fourth, no_role, no_property) refl
 
 -- The identifiers in document order.
-identifiers_listed : (unit : Course) → identifiers_in (parts_of unit) ≡ (role_list unit ++ (property_list unit ++ ids (things_in (inner_parts unit)))) ++ unit.identifier ∷ (ids (things_in (own_parts unit)) ++ ids (things_in (last_parts unit)))
+identifiers_listed : (unit : Unit) → identifiers_in (parts_of unit) ≡ (role_list unit ++ (property_list unit ++ ids (things_in (inner_parts unit)))) ++ unit.identifier ∷ (ids (things_in (own_parts unit)) ++ ids (things_in (last_parts unit)))
 identifiers_listed unit =
     let roles = map (role_part (root file.Roles)) (roles_of unit) in
     let properties = each_numbered (property_parts (root file.Properties)) unit.properties in
@@ -253,7 +253,7 @@ differ_moved (y ∷ xs) x ys differ =
     grind (arith, common_steps, turned, around, without, rest)
 
 -- Where the identifiers of all that is declared differ in document order, those of the unit do.
-pub distinct_in_order : (unit : Course) → all_differ (identifiers_in (parts_of unit)) ≡ true → HasDistinctIdentifiers unit
+pub distinct_in_order : (unit : Unit) → all_differ (identifiers_in (parts_of unit)) ≡ true → HasDistinctIdentifiers unit
 distinct_in_order unit differ =
     let inner = ids (things_in (inner_parts unit)) in
     let behind = ids (things_in (own_parts unit)) ++ ids (things_in (last_parts unit)) in

@@ -23,7 +23,7 @@ use Rattle.ld_model.specs.declared.method.RolePart.{RolePart as RolePartOf}
 use Rattle.ld_model.specs.declared.property.Property.{Property as PropertyOf}
 use Rattle.ld_model.specs.declared.unit.Level.{Level}
 use Rattle.ld_model.specs.declared.unit.Level.TheVariants.{A, B, C}
-use Rattle.ld_model.specs.declared.unit.Unit.{Unit as Course}
+use Rattle.ld_model.specs.declared.unit.Unit.{Unit}
 use Rattle.ld_model.specs.Counting.{each_numbered}
 use Rattle.ld_model.specs.Expressions.{TestOf}
 use Rattle.ld_model.specs.Roles.{roles_of}
@@ -267,7 +267,7 @@ method_parts method =
     ++ ending_parts method_at kind.Unit method.complete method.on_completion
 
 -- What stands in unit.json: the unit, its objectives and prerequisites, and its method.
-unfoldable pub unit_parts : Course → List Part
+unfoldable pub unit_parts : Unit → List Part
 unit_parts unit =
     plain_part (root file.Unit) (Declares kind.Unit unit.identifier None)
     ∷ (items_parts (root file.Unit) (codes "learning-objectives") unit.learning_objectives
@@ -303,7 +303,7 @@ condition_parts at c condition = condition_parts_at (nth at (codes "conditions")
 -- ---- the whole
 
 -- The documents of properties, environments and activities.
-unfoldable pub middle_parts : Course → List Part
+unfoldable pub middle_parts : Unit → List Part
 middle_parts unit =
     each_numbered (property_parts (root file.Properties)) unit.properties
     ++ (each_numbered (environment_parts (root file.Environments)) unit.environments
@@ -311,5 +311,5 @@ middle_parts unit =
     ++ each_numbered (structure_parts (root file.Activities)) unit.structures))
 
 -- All that stands in the documents of the unit.
-unfoldable pub parts_of : Course → List Part
+unfoldable pub parts_of : Unit → List Part
 parts_of unit = map (role_part (root file.Roles)) (roles_of unit) ++ (middle_parts unit ++ (unit_parts unit ++ each_numbered (condition_parts (root file.Conditions)) unit.conditions))

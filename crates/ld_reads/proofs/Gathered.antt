@@ -6,14 +6,14 @@ use Rattle.std.specs.List.{range_with_len}
 use Rattle.std.specs.Set.{distinct_count}
 use Rattle.ld_graph.specs.Slots.{Slots}
 use Rattle.ld_model.specs.declared.cell.CellName.{CellName}
-use Rattle.ld_model.specs.declared.unit.Unit.{Unit as Course}
+use Rattle.ld_model.specs.declared.unit.Unit.{Unit}
 use Rattle.ld_state.specs.RunCells.{slot_of}
 use Rattle.ld_state.specs.RunState.{RunState}
 use Rattle.ld_firing.specs.RunSystem.{slots_named}
 use Rattle.ld_reads.specs.Gathering.{FallsShort, Gathers, cells_if, with_cells, with_slot}
 use Rattle.ld_reads.proofs.SlotSets.{grows, slots_all, slots_count, slots_only}
 
-module _ (unit : Course) (s : RunState) where
+module _ (unit : Unit) (s : RunState) where
   cells_both : (slots : List ℕ) (xs ys : List CellName)
       → with_cells unit s slots (xs ++ ys) ≡ with_cells unit s (with_cells unit s slots xs) ys
   cells_both slots xs ys =
@@ -51,11 +51,11 @@ module _ (unit : Course) (s : RunState) where
 -- ---- in a loop
 
 -- The slots of all cells are those of the list now, and of the rest of the cells.
-pub record Remaining (unit : Course) (s : RunState) (whole rest : List CellName) (start now : Slots) : Type 0 where
+pub record Remaining (unit : Unit) (s : RunState) (whole rest : List CellName) (start now : Slots) : Type 0 where
   pub items : with_cells unit s now.items rest ≡ with_cells unit s start.items whole
   pub room : start.room ≤ now.room
 
-pub gathers_on : {unit : Course} {s : RunState} {whole rest : List CellName} {start now next : Slots}
+pub gathers_on : {unit : Unit} {s : RunState} {whole rest : List CellName} {start now next : Slots}
     (first more : List CellName) → Remaining unit s whole rest start now → rest ≡ first ++ more
     → Gathers unit s first now next → Remaining unit s whole more start next
 gathers_on {unit} {s} {whole} {rest} {start} {now} {next} first more before is one = record {
@@ -67,7 +67,7 @@ gathers_on {unit} {s} {whole} {rest} {start} {now} {next} first more before is o
   room = omega (arith, before.room, one.room);
 }
 
-pub falls_short : {unit : Course} {s : RunState} {whole rest : List CellName} {start now : Slots}
+pub falls_short : {unit : Unit} {s : RunState} {whole rest : List CellName} {start now : Slots}
     (first more : List CellName) → Remaining unit s whole rest start now → rest ≡ first ++ more
     → FallsShort unit s first now → FallsShort unit s whole start
 falls_short {unit} {s} {whole} {rest} {start} {now} first more before is short =
@@ -131,7 +131,7 @@ no_cell cell i end past = ap (map cell) (range_none i end past)
 
 -- ---- from an empty list on
 
-module _ (unit : Course) (s : RunState) (cells : List CellName) where
+module _ (unit : Unit) (s : RunState) (cells : List CellName) where
   pub gathered_named : (k : ℕ) → Contains (with_cells unit s [] cells) k → Contains (slots_named unit s cells) k
   gathered_named k there = slots_only (slots_named unit s cells) k there
 

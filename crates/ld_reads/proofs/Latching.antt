@@ -2,7 +2,7 @@
 use Rattle.std.proofs.Common.{◌≡◌, ◌<◌, ◌≤◌, List, [], ◌∷◌, ◌++◌, length, slice_get, Some, None, Bool, true, false, refl, sym, ap, ◌∙◌, arith}
 use Rattle.std.proofs.lemmas.Option.{slice_get_past}
 use Rattle.ld_graph.specs.Slots.{Slots}
-use Rattle.ld_model.specs.declared.unit.Unit.{Unit as Course}
+use Rattle.ld_model.specs.declared.unit.Unit.{Unit}
 use Rattle.ld_names.specs.declared.rule.Rule.{Rule}
 use Rattle.ld_names.specs.Rules.{Site, rules_of}
 use Rattle.ld_expr.specs.Seen.{Seen, says_yes}
@@ -15,12 +15,12 @@ use Rattle.ld_reads.specs.Gathering.{FallsShort, Gathers, with_cells}
 use Rattle.ld_reads.proofs.Gathered.{short_first}
 
 -- A view of a state shows the mark of a site as it is seen of the run.
-pub mark_seen : (unit : Course) (state : StateView) (site : Site)
+pub mark_seen : (unit : Unit) (state : StateView) (site : Site)
     → cells_seen state (site_mark site) ≡ cell_of unit (run_of state) (site_mark site)
 unfolding cell_of
 mark_seen unit state site = refl
 
-module _ (unit : Course) (seen : Seen) (site : Site) (rule : Rule) where
+module _ (unit : Unit) (seen : Seen) (site : Site) (rule : Rule) where
   -- Its mark has said yes.
   pub looks_latched : says_for_good rule ≡ true → says_yes (seen.value (site_mark site)) ≡ true
       → looks_until_latched unit seen site rule ≡ site_mark site ∷ []
@@ -32,7 +32,7 @@ module _ (unit : Course) (seen : Seen) (site : Site) (rule : Rule) where
   looks_open good unmarked = rw (good, unmarked) refl
 
 -- Where the list has no room for the mark, it has none for what the site reads.
-pub short_of_mark : (unit : Course) (s : RunState) (site : Site) (rule : Rule) (list : Slots) → says_for_good rule ≡ true
+pub short_of_mark : (unit : Unit) (s : RunState) (site : Site) (rule : Rule) (list : Slots) → says_for_good rule ≡ true
     → FallsShort unit s (site_mark site ∷ []) list
     → FallsShort unit s (looks_until_latched unit (seen_in unit s) site rule) list
 short_of_mark unit s site rule list good short = by (says_yes ((seen_in unit s).value (site_mark site))) refl
@@ -47,26 +47,26 @@ short_of_mark unit s site rule list good short = by (says_yes ((seen_in unit s).
 -- ---- a site
 
 -- Past the end of the rules there is none.
-pub no_rule : (unit : Course) (rules : List Rule) (site : Site) → rules ≡ rules_of unit → length rules ≤ site.rule
+pub no_rule : (unit : Unit) (rules : List Rule) (site : Site) → rules ≡ rules_of unit → length rules ≤ site.rule
     → rule_of unit site ≡ None
 no_rule unit rules site are past =
     ap (λ some. slice_get some site.rule) (sym are) ∙ slice_get_past rules site.rule past
 
 -- A site without a rule reads nothing.
-pub looks_of_none : (unit : Course) (seen : Seen) (site : Site) → rule_of unit site ≡ None → site_looks unit seen site ≡ []
+pub looks_of_none : (unit : Unit) (seen : Seen) (site : Site) → rule_of unit site ≡ None → site_looks unit seen site ≡ []
 unfolding site_looks
 looks_of_none unit seen site missing = rw missing refl
 
-pub looks_of_rule : (unit : Course) (seen : Seen) (site : Site) (rule : Rule) → rule_of unit site ≡ Some rule
+pub looks_of_rule : (unit : Unit) (seen : Seen) (site : Site) (rule : Rule) → rule_of unit site ≡ Some rule
     → site_looks unit seen site ≡ looks_until_latched unit seen site rule
 unfolding site_looks
 looks_of_rule unit seen site rule at = rw at refl
 
-pub open_of_rule : (unit : Course) (seen : Seen) (site : Site) (rule : Rule) → rule_of unit site ≡ Some rule
+pub open_of_rule : (unit : Unit) (seen : Seen) (site : Site) (rule : Rule) → rule_of unit site ≡ Some rule
     → open_looks unit seen site ≡ looks_by unit seen site rule
 open_of_rule unit seen site rule at = rw at refl
 
-module _ (unit : Course) (s : RunState) (site : Site) (rule : Rule) (at : rule_of unit site ≡ Some rule) where
+module _ (unit : Unit) (s : RunState) (site : Site) (rule : Rule) (at : rule_of unit site ≡ Some rule) where
   -- What is gathered from an empty list on is what the site reads.
   pub reads_all : (old new : Slots) → old.items ≡ []
       → Gathers unit s (looks_until_latched unit (seen_in unit s) site rule) old new

@@ -9,7 +9,7 @@ use Rattle.ld_model.specs.Roles.{roles_of}
 use Rattle.ld_model.specs.declared.cell.CellName.{CellName}
 use Rattle.ld_model.specs.declared.cell.CellName.TheVariants.{Roster}
 use Rattle.ld_model.specs.declared.cell.Owner.{Owner}
-use Rattle.ld_model.specs.declared.unit.Unit.{Unit as Course}
+use Rattle.ld_model.specs.declared.unit.Unit.{Unit}
 use Rattle.ld_names.specs.Names.{role_number}
 use Rattle.ld_expr.proofs.Totals.{from_here}
 use Rattle.ld_expr.specs.Looks.{members_looks, test_looks, tests_looks}
@@ -26,7 +26,7 @@ use Rattle.ld_firing.proofs.SeenInStates.{cell_there, persons_counted, seen_same
 use Rattle.ld_reads.specs.Gathering.{FallsShort, Gathers, with_cells, with_slot}
 
 -- The number of a role is one of the unit's.
-pub role_within : (unit : Course) (id : List ℕ) (found : Option RoleNo)
+pub role_within : (unit : Unit) (id : List ℕ) (found : Option RoleNo)
     → option_map (λ role. role.0) found ≡ role_number unit id
     → IfSome found (λ role. role.0 < length (roles_of unit))
 role_within unit id None is = tt
@@ -46,7 +46,7 @@ so_err (Ok value) told = tt
 so_err (Err error) told = told
 
 -- The cells at which the tests from this one on look.
-pub tests_counted : (unit : Course) (seen : Seen) (owner : Owner) (tests : List TestOf) (i : ℕ) (test : TestOf)
+pub tests_counted : (unit : Unit) (seen : Seen) (owner : Owner) (tests : List TestOf) (i : ℕ) (test : TestOf)
     → i < length tests → test ≡ get_or tests i test
     → length (tests_looks unit seen owner (tests_from (drop i tests))) ≡ length (test_looks unit seen owner test) + length (tests_looks unit seen owner (tests_from (drop (i + 1) tests)))
 tests_counted unit seen owner tests i test within is =
@@ -54,7 +54,7 @@ tests_counted unit seen owner tests i test within is =
     ∙ length-append (test_looks unit seen owner test) (tests_looks unit seen owner (tests_from (drop (i + 1) tests)))
 
 -- Whoever asks each person once, and takes what the members' cells allow, stays within the cells of all.
-pub users_within : (unit : Course) (seen : Seen) (role : List ℕ) (looks : ℕ → List CellName) (r new start : ℕ)
+pub users_within : (unit : Unit) (seen : Seen) (role : List ℕ) (looks : ℕ → List CellName) (r new start : ℕ)
     → Some r ≡ role_number unit role
     → new ≤ start + (length (everyone seen) + length (flat_map looks (members seen r)))
     → new ≤ start + length (members_looks unit seen role ++ flat_map looks (members_of unit seen role))
@@ -66,7 +66,7 @@ users_within unit seen role looks r new start is within =
     is
     (omega (arith, within, length-append cells more, length-map (everyone seen) (member_cell r)))
 
-module _ (unit : Course) (state : StateView) (own : IsStateOf unit state) where
+module _ (unit : Unit) (state : StateView) (own : IsStateOf unit state) where
   module _ (cell : CellName) where
     slot_is : slot_of unit (length (run_of state).persons) cell ≡ slot_in state.layout (length state.rows) cell
     slot_is = ap (λ n. slot_of unit n cell) (persons_counted state) ∙ sym (slot_same unit state own cell)

@@ -3,7 +3,7 @@ use Rattle.std.specs.Prelude.{◌≡◌, ℕ, ◌<◌, ◌≤◌, List, [], ◌�
 use Rattle.std.specs.List.{list_any}
 use Rattle.ld_graph.specs.Slots.{Slots}
 use Rattle.ld_model.specs.declared.cell.CellName.{CellName}
-use Rattle.ld_model.specs.declared.unit.Unit.{Unit as Course}
+use Rattle.ld_model.specs.declared.unit.Unit.{Unit}
 use Rattle.ld_firing.specs.RunSystem.{slots_named}
 use Rattle.ld_state.specs.RunState.{RunState}
 
@@ -12,16 +12,16 @@ abbrev pub with_slot : List ℕ → ℕ → List ℕ
 with_slot slots slot = if list_any (nat_eq slot) slots then slots else slots ++ slot ∷ []
 
 -- The list with the slots of these cells, of those that the run has.
-abbrev pub with_cells : Course → RunState → List ℕ → List CellName → List ℕ
+abbrev pub with_cells : Unit → RunState → List ℕ → List CellName → List ℕ
 with_cells unit s slots cells = fold with_slot slots (slots_named unit s cells)
 
 -- The slots of the cells were added, and the room did not fall.
-pub record Gathers (unit : Course) (s : RunState) (cells : List CellName) (old new : Slots) : Type 0 where
+pub record Gathers (unit : Unit) (s : RunState) (cells : List CellName) (old new : Slots) : Type 0 where
   pub items : new.items ≡ with_cells unit s old.items cells
   pub room : old.room ≤ new.room
 
 -- The list has no room for the slots of the cells.
-abbrev pub FallsShort : Course → RunState → List CellName → Slots → Type 0
+abbrev pub FallsShort : Unit → RunState → List CellName → Slots → Type 0
 FallsShort unit s cells old = old.room < length (with_cells unit s old.items cells)
 
 -- The cells, if so.

@@ -6,7 +6,7 @@ use Rattle.ld_json.specs.Fault.{Told}
 use Rattle.ld_model.specs.declared.activity.Activity.{Activity}
 use Rattle.ld_model.specs.declared.activity.Structure.{Structure}
 use Rattle.ld_model.specs.declared.method.RolePart.{RolePart}
-use Rattle.ld_model.specs.declared.unit.Unit.{Unit as Course}
+use Rattle.ld_model.specs.declared.unit.Unit.{Unit}
 use Rattle.ld_walk.specs.declared.kind.Kind.{Kind}
 use Rattle.ld_walk.specs.declared.kind.Kind.TheVariants as kind
 use Rattle.ld_walk.specs.declared.place.Place.TheVariants as place
@@ -70,7 +70,7 @@ role_part_alike : (s : Sizes) (names : NameTable) (part : Option RolePart) → A
 role_part_alike s names None = refl
 role_part_alike s names (Some part) = omega (arith, named_alike s names part.target)
 
-counted_alike : (unit : Course) (s : Sizes) (names : NameTable) (kind : Kind) → Alike (size_counted unit (capped s) names kind) (size_counted unit s names kind)
+counted_alike : (unit : Unit) (s : Sizes) (names : NameTable) (kind : Kind) → Alike (size_counted unit (capped s) names kind) (size_counted unit s names kind)
 counted_alike unit s names (kind.Thing (place.RolePart p a r)) = role_part_alike s names (role_part_at unit p a r)
 counted_alike unit s names (kind.Thing (place.Act _ _)) = refl
 counted_alike unit s names (kind.Thing (place.Play _)) = refl
@@ -84,7 +84,7 @@ counted_alike unit s names kind.Unit = refl
 counted_alike unit s names kind.Role = refl
 counted_alike unit s names kind.Property = refl
 
-size_alike : (unit : Course) (s : Sizes) (names : NameTable) (what : What) → Alike (size_in unit (capped s) names what) (size_in unit s names what)
+size_alike : (unit : Unit) (s : Sizes) (names : NameTable) (what : What) → Alike (size_in unit (capped s) names what) (size_in unit s names what)
 size_alike unit s names (Declares kind _ _) = counted_alike unit s names kind
 size_alike unit s names (Refers _ _) = refl
 size_alike unit s names (Lists _ _) = refl
@@ -111,7 +111,7 @@ same_faults : (f h : Part → List Told) (parts : List Part) → ((part : Part) 
 same_faults f h [] each = refl
 same_faults f h (part ∷ parts) each = rw (each part, same_faults f h parts each) refl
 
-pub faults_alike : (unit : Course) (s : Sizes) (names : NameTable) (parts : List Part) → size_faults_with unit (capped s) names parts ≡ size_faults_with unit s names parts
+pub faults_alike : (unit : Unit) (s : Sizes) (names : NameTable) (parts : List Part) → size_faults_with unit (capped s) names parts ≡ size_faults_with unit s names parts
 faults_alike unit s names parts =
     let each = same_faults (part_size_faults unit (capped s) names) (part_size_faults unit s names) parts (λ part. rw (over_alike 20000 (size_in unit (capped s) names part.what) (size_in unit s names part.what) refl (size_alike unit s names part.what)) refl) in
     let sums = sums_alike (λ part. size_in unit (capped s) names part.what) (λ part. size_in unit s names part.what) 0 0 parts refl (λ part. size_alike unit s names part.what) in
@@ -119,6 +119,6 @@ faults_alike unit s names parts =
     rw (each, over_alike 200000 (unit_size unit (capped s) names parts) (unit_size unit s names parts) refl whole) refl
 
 -- The size of the parts from one on.
-pub unit_size_more : (unit : Course) (s : Sizes) (names : NameTable) (parts : List Part) (i : ℕ) (part : Part) → i < length parts → slice_get parts i ≡ Some part → unit_size unit s names (drop i parts) ≡ size_in unit s names part.what + unit_size unit s names (drop (i + 1) parts)
+pub unit_size_more : (unit : Unit) (s : Sizes) (names : NameTable) (parts : List Part) (i : ℕ) (part : Part) → i < length parts → slice_get parts i ≡ Some part → unit_size unit s names (drop i parts) ≡ size_in unit s names part.what + unit_size unit s names (drop (i + 1) parts)
 unit_size_more unit s names parts i part within here =
     rw (parts_from parts i part within here) (sum_by-cons (λ p. size_in unit s names p.what) part (drop (i + 1) parts))

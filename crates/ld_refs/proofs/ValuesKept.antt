@@ -12,7 +12,7 @@ use Rattle.ld_model.specs.Properties.{limits_by}
 use Rattle.ld_model.specs.Roles.{roles_of}
 use Rattle.ld_model.specs.declared.property.Property.{Property}
 use Rattle.ld_model.specs.declared.property.Restrictions.{Restrictions}
-use Rattle.ld_model.specs.declared.unit.Unit.{Unit as Course}
+use Rattle.ld_model.specs.declared.unit.Unit.{Unit}
 use Rattle.ld_names.specs.Names.{names_of}
 use Rattle.ld_parts.specs.Listing.{parts_of, property_parts, property_parts_at, shared_parts, role_part, middle_parts}
 use Rattle.ld_types.specs.Faults.{fault_if}
@@ -128,14 +128,14 @@ each_kept find n (property ∷ properties) none k other within =
     by (suc k) within first rest = rest k other (omega (arith, within))
 
 -- The parts of the properties are among those of the unit.
-stand_among : (f : Part → List Told) (unit : Course) → flat_map f (parts_of unit) ≡ [] → flat_map f (each_numbered (property_parts (root file.Properties)) unit.properties) ≡ []
+stand_among : (f : Part → List Told) (unit : Unit) → flat_map f (parts_of unit) ≡ [] → flat_map f (each_numbered (property_parts (root file.Properties)) unit.properties) ≡ []
 unfolding parts_of middle_parts
 stand_among f unit none =
     let behind_roles = back_gives_none f (map (role_part (root file.Roles)) (roles_of unit)) _ none in
     front_gives_none f (each_numbered (property_parts (root file.Properties)) unit.properties) _ (front_gives_none f (middle_parts unit) _ behind_roles)
 
 -- The check of types is one of those that find no fault in a valid unit.
-types_hold : (unit : Course) → check_faults unit ≡ [] → type_faults unit (names_of unit) (parts_of unit) ≡ []
+types_hold : (unit : Unit) → check_faults unit ≡ [] → type_faults unit (names_of unit) (parts_of unit) ≡ []
 unfolding check_faults meaning_faults
 types_hold unit none =
     let names = names_of unit in
@@ -147,7 +147,7 @@ types_hold unit none =
     none_behind (profile_faults parts) _ behind_levels
 
 -- In a valid unit each text that is to be a value is one.
-pub values_kept : (unit : Course) → IsValid unit → All KeepsValues unit.properties
+pub values_kept : (unit : Unit) → IsValid unit → All KeepsValues unit.properties
 values_kept unit valid =
     let find = property_named unit (names_of unit) in
     each_kept find 0 unit.properties (stand_among (type_faults_of find) unit (types_hold unit valid.faultless))

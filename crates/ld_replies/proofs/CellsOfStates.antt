@@ -3,7 +3,7 @@ use Rattle.std.proofs.Common.{◌≡◌, refl, ap, ◌∙◌, inl, inr, List, []
 use Rattle.std.proofs.lemmas.Bool.{and_from}
 use Rattle.std.specs.List.{list_all}
 use Rattle.ld_model.specs.declared.cell.CellName.{CellName}
-use Rattle.ld_model.specs.declared.unit.Unit.{Unit as Course}
+use Rattle.ld_model.specs.declared.unit.Unit.{Unit}
 use Rattle.ld_expr.specs.Viewing.{HasCells}
 use Rattle.ld_state.specs.Layout.{Layout, slot_in}
 use Rattle.ld_state.specs.RunCells.{all_cells}
@@ -13,7 +13,7 @@ use Rattle.ld_state.proofs.Elements.{IsIn, stands_in}
 use Rattle.ld_state.proofs.Laid.{slot_laid}
 use Rattle.ld_firing.proofs.CellsThere.{AreCells}
 
-module _ (unit : Course) (s : StateView) (is_of : IsStateOf unit s) where
+module _ (unit : Unit) (s : StateView) (is_of : IsStateOf unit s) where
   -- The state has each cell of the run.
   pub has_each : (c : CellName) → IsIn (all_cells unit (length s.rows)) c → has_cell s c ≡ true
   has_each c inside =

@@ -3,7 +3,7 @@ use Rattle.std.proofs.Common.{◌≡◌, ◌<◌, ◌+◌, ℕ, List, drop, fold
 use Rattle.std.proofs.lemmas.List.{get_or-map, length-map}
 use Rattle.std.proofs.lemmas.List.Sums.{fold-append}
 use Rattle.ld_model.specs.Counting.{each_numbered_from}
-use Rattle.ld_model.specs.declared.unit.Unit.{Unit as Course}
+use Rattle.ld_model.specs.declared.unit.Unit.{Unit}
 use Rattle.ld_expr.proofs.Totals.{from_here}
 use Rattle.ld_state.specs.Notices.{notice_of, notices_of}
 use Rattle.ld_state.specs.declared.notice.OutNotice.{OutNotice}
@@ -29,7 +29,7 @@ printed_next g f xs i x before now whole within is so_far added =
     ∙ sym (fold-append printed_after before (f i (g x)) rest)
     ∙ (rw cut at so_far)
 
-pub nth_notice : (unit : Course) (notices : List OutNotice) (k : ℕ) (notice : OutNotice)
+pub nth_notice : (unit : Unit) (notices : List OutNotice) (k : ℕ) (notice : OutNotice)
     → AreNoticesOf unit (notices_of notices) → k < length notices → notice ≡ get_or notices k notice
     → IsNoticeOf unit (notice_of notice)
 nth_notice unit notices k notice all within is =

@@ -28,7 +28,7 @@ use Rattle.ld_model.specs.declared.method.RolePart.{RolePart as RolePartOf}
 use Rattle.ld_model.specs.declared.property.Property.{Property as PropertyOf}
 use Rattle.ld_model.specs.declared.unit.Level.{Level}
 use Rattle.ld_model.specs.declared.unit.Level.TheVariants.{B, C}
-use Rattle.ld_model.specs.declared.unit.Unit.{Unit as Course}
+use Rattle.ld_model.specs.declared.unit.Unit.{Unit}
 use Rattle.ld_walk.specs.declared.kind.Kind.{Kind}
 use Rattle.ld_walk.specs.declared.kind.Kind.TheVariants as kind
 use Rattle.ld_walk.specs.declared.kind.Wanted.{Wanted}
@@ -303,7 +303,7 @@ method_says method =
     (each (play_parts method_at) (λ p play. play_says (nth method_at (codes "plays") p) p play) 0 method.plays)
     (ending_says method_at kind.Unit method.complete method.on_completion)
 
-unit_says : (unit : Course) → AllSay (unit_parts unit)
+unit_says : (unit : Unit) → AllSay (unit_parts unit)
 unfolding unit_parts
 unit_says unit =
     let objectives = items_parts (root file.Unit) (codes "learning-objectives") unit.learning_objectives in
@@ -336,7 +336,7 @@ unfolding role_part
 roles_say at [] = refl
 roles_say at (role ∷ roles) = roles_say at roles
 
-middle_says : (unit : Course) → AllSay (middle_parts unit)
+middle_says : (unit : Unit) → AllSay (middle_parts unit)
 unfolding middle_parts
 middle_says unit =
     let properties = each_numbered (property_parts (root file.Properties)) unit.properties in
@@ -354,7 +354,7 @@ middle_says unit =
     (each (structure_parts (root file.Activities))
     (λ s one. structure_says (nth (root file.Activities) (codes "structures") s) s one) 0 unit.structures)))
 
-pub parts_say : (unit : Course) → AllSay (parts_of unit)
+pub parts_say : (unit : Unit) → AllSay (parts_of unit)
 unfolding parts_of
 parts_say unit =
     let roles = map (role_part (root file.Roles)) (roles_of unit) in

@@ -7,7 +7,7 @@ use Rattle.ld_value.proofs.Laws.{IsMoment-from}
 use Rattle.ld_lines.specs.declared.command.RunCommand.{RunCommand}
 use Rattle.ld_lines.specs.declared.command.RunCommand.TheVariants.{Enrol, Assign, Drop, Start, Open, Complete, Set, Clear, Get, Tree, Outbox, Report, Tick}
 use Rattle.ld_model.specs.declared.cell.CellName.TheVariants.{Now}
-use Rattle.ld_model.specs.declared.unit.Unit.{Unit as Course}
+use Rattle.ld_model.specs.declared.unit.Unit.{Unit}
 use Rattle.ld_expr.specs.Seen.{moment_of_value}
 use Rattle.ld_roles.specs.Roster.{Shortage}
 use Rattle.ld_state.specs.RunCells.{all_cells, suits_cell}
@@ -52,12 +52,12 @@ finds : {A : Type 0} → (o : Option A) (refusal : Refusal) → IsPrintable refu
 finds (Some x) refusal printable = passes x
 finds None refusal printable = fails refusal printable
 
-shortage : (unit : Course) (short : Option Shortage) → is_well_formed unit ≡ true → Prints (none_short unit short)
+shortage : (unit : Unit) (short : Option Shortage) → is_well_formed unit ≡ true → Prints (none_short unit short)
 shortage unit None formed = passes tt
 shortage unit (Some short) formed = fails _ (role_identifiers_short unit short.role formed)
 
 -- The last moment of a sound run has a text.
-moment_told : (unit : Course) (value : Option Datum) → suits_cell unit Now value ≡ true
+moment_told : (unit : Unit) (value : Option Datum) → suits_cell unit Now value ≡ true
     → IsMoment (unwrap_or (moment_of_value value) (pos 0))
 moment_told unit None suits = IsMoment-from (pos 0) refl
 moment_told unit (Some (moment_datum z)) suits = suits_printable unit Now (moment_datum z) suits
@@ -66,14 +66,14 @@ moment_told unit (Some (truth_datum _)) suits = IsMoment-from (pos 0) refl
 moment_told unit (Some (number_datum _)) suits = IsMoment-from (pos 0) refl
 moment_told unit (Some (span_datum _)) suits = IsMoment-from (pos 0) refl
 
-pub last_is_moment : (unit : Course) (s : RunState) → IsSoundRun unit s → IsMoment (last_moment s)
+pub last_is_moment : (unit : Unit) (s : RunState) → IsSoundRun unit s → IsMoment (last_moment s)
 unfolding cell_of
 last_is_moment unit s sound =
     moment_told unit (s.cells Now)
     (sound.seen.values Now
     (contains_from_in (all_cells unit (length s.persons)) Now (now_there unit (length s.persons))))
 
-module _ (unit : Course) (s : RunState) (formed : is_well_formed unit ≡ true) (dated : IsMoment (last_moment s)) (moment : ℤ) where
+module _ (unit : Unit) (s : RunState) (formed : is_well_formed unit ≡ true) (dated : IsMoment (last_moment s)) (moment : ℤ) where
   timely : Prints (in_time s moment)
   timely = refuses _ (MomentBack (last_moment s)) dated
 
@@ -113,7 +113,7 @@ module _ (unit : Course) (s : RunState) (formed : is_well_formed unit ≡ true) 
   prints Tick = and_then _ _ timely (and_then _ _ (refuses _ NotStarted tt) (passes _))
 
 -- What a check refuses in a sound run has a text.
-pub refused_printable : (unit : Course) (s : RunState) (moment : ℤ) (command : RunCommand) (refusal : Refusal)
+pub refused_printable : (unit : Unit) (s : RunState) (moment : ℤ) (command : RunCommand) (refusal : Refusal)
     → IsSoundRun unit s → admitted unit s moment command ≡ Err refusal → IsPrintable refusal
 refused_printable unit s moment command refusal sound is =
     (prints unit s sound.valid.formed (last_is_moment unit s sound) moment command).each refusal is

@@ -8,7 +8,7 @@ use Rattle.ld_model.specs.declared.cell.Owner.TheVariants.{Run}
 use Rattle.ld_model.specs.declared.method.Act.{Act as ActOf}
 use Rattle.ld_model.specs.declared.method.Play.{Play as PlayOf}
 use Rattle.ld_model.specs.declared.method.RolePart.{RolePart as RolePartOf}
-use Rattle.ld_model.specs.declared.unit.Unit.{Unit as Course}
+use Rattle.ld_model.specs.declared.unit.Unit.{Unit}
 use Rattle.ld_walk.specs.CommonParts.{shown_part, unshown_part}
 use Rattle.ld_walk.specs.Places.{At, nth}
 use Rattle.ld_walk.specs.declared.place.Place.TheVariants.{Play, Act, RolePart}
@@ -55,7 +55,7 @@ run_owner : (b : Bool) → owner_of b Run ≡ Run
 run_owner true = refl
 run_owner false = refl
 
-unit_named : (unit : Course) → named_by (names_of unit) unit.identifier ≡ Some Whole
+unit_named : (unit : Unit) → named_by (names_of unit) unit.identifier ≡ Some Whole
 unfolding named_by
 unit_named unit =
     let names = names_of unit in
@@ -66,7 +66,7 @@ unit_named unit =
     (first_with id (λ n. Thing (record { 0 = n })) names.things))))
     (text_itself id)
 
-pub unit_done_there : (unit : Course) (persons : ℕ) → AreCells unit persons (done_looks unit Run unit.identifier)
+pub unit_done_there : (unit : Unit) (persons : ℕ) → AreCells unit persons (done_looks unit Run unit.identifier)
 unit_done_there unit persons =
     cells_of_number unit persons (λ n. mark_cell n (owner_of (is_person_rule unit n) Run) ∷ []) (completing_number unit unit.identifier)
     (λ n is.
@@ -78,7 +78,7 @@ unit_done_there unit persons =
 
 -- ---- the method
 
-each_there : {A : Type 0} → (unit : Course) (persons : ℕ) (looks : A → List CellName) (xs : List A)
+each_there : {A : Type 0} → (unit : Unit) (persons : ℕ) (looks : A → List CellName) (xs : List A)
     → ((k : ℕ) (x : A) → slice_get xs k ≡ Some x → AreCells unit persons (looks x))
     → AreCells unit persons (flat_map looks xs)
 each_there unit persons looks xs there c inside =
@@ -86,7 +86,7 @@ each_there unit persons looks xs there c inside =
     let stands = stands_in xs by.element by.inside in
     there stands.number by.element stands.at c by.gives
 
-module _ (unit : Course) (meets : MeetsChecks unit) (persons : ℕ) where
+module _ (unit : Unit) (meets : MeetsChecks unit) (persons : ℕ) where
   abbrev There : List CellName → Type 0
   There cells = AreCells unit persons cells
 
@@ -136,7 +136,7 @@ module _ (unit : Course) (meets : MeetsChecks unit) (persons : ℕ) where
         (play_listed unit q play declared at (inl refl))) refl)
         (each_there unit persons (report_act_looks unit) play.acts act_there)
 
-pub plays_there : (unit : Course) (persons : ℕ) → IsValid unit
+pub plays_there : (unit : Unit) (persons : ℕ) → IsValid unit
     → AreCells unit persons (flat_map (report_play_looks unit) unit.method.plays)
 plays_there unit persons valid =
     each_there unit persons (report_play_looks unit) unit.method.plays (play_there unit (checks_met unit valid) persons)

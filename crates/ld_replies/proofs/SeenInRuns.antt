@@ -10,7 +10,7 @@ use Rattle.ld_value.specs.declared.kind.Kind.TheVariants.{String, Text, Uri, Boo
 use Rattle.ld_value.proofs.Laws.{IsMoment-from}
 use Rattle.ld_model.specs.declared.cell.CellName.{CellName}
 use Rattle.ld_model.specs.declared.cell.CellName.TheVariants.{Prop, Vis, Member, Chosen, Opened, ActOpened, Started, Mark, Now, Roster}
-use Rattle.ld_model.specs.declared.unit.Unit.{Unit as Course}
+use Rattle.ld_model.specs.declared.unit.Unit.{Unit}
 use Rattle.ld_expr.specs.Lookup.{is_some_and}
 use Rattle.ld_expr.specs.Seen.{moment_of_value}
 use Rattle.ld_expr.specs.Viewing.{seen_by}
@@ -48,11 +48,11 @@ of_some value None is = different (sym is)
 of_some value (Some kind) is = of_kind value kind is
 
 -- A value that suits its cell can be printed.
-pub suits_printable : (unit : Course) (name : CellName) (value : Datum)
+pub suits_printable : (unit : Unit) (name : CellName) (value : Datum)
     → suits_cell unit name (Some value) ≡ true → HasText value
 suits_printable unit name value is = of_some value (cell_kind unit name) is
 
-suits_moment : (unit : Course) (name : CellName) (value : Option Datum) (z : ℤ)
+suits_moment : (unit : Unit) (name : CellName) (value : Option Datum) (z : ℤ)
     → suits_cell unit name value ≡ true → moment_of_value value ≡ Some z → IsMoment z
 suits_moment unit name None z suits is = none_is_some is
 suits_moment unit name (Some (moment_datum m)) z suits is =
@@ -64,7 +64,7 @@ suits_moment unit name (Some (span_datum _)) z suits is = none_is_some is
 
 -- ---- a state of the unit
 
-module _ (unit : Course) (s : StateView) (own : IsStateOf unit s) where
+module _ (unit : Unit) (s : StateView) (own : IsStateOf unit s) where
   pub persons_counted : length (run_of s).persons ≡ length s.rows
   persons_counted = length-map s.rows person_of
 

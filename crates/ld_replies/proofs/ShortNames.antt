@@ -10,7 +10,7 @@ use Rattle.ld_formats.specs.Units.{is_well_formed, unit as unit_shape, parts, de
 use Rattle.ld_model.specs.Counting.{each_numbered_from}
 use Rattle.ld_model.specs.RoleRows.{RoleRow, from_above, rows_of_one, rows_within}
 use Rattle.ld_model.specs.Roles.{roles_of}
-use Rattle.ld_model.specs.declared.unit.Unit.{Unit as Course}
+use Rattle.ld_model.specs.declared.unit.Unit.{Unit}
 use Rattle.ld_value.proofs.Choices.{and_left, and_right, both}
 
 -- The row's identifier is one.
@@ -35,7 +35,7 @@ named_within n (rows ∷ more) are =
     ∙ all_named (kind_of_rows rows) rows (and_left (role.has_form rows) (list_all role.has_form more) are))
     (named_within (n + 1) more (and_right (role.has_form rows) (list_all role.has_form more) are))
 
-roles_named : (unit : Course) → is_well_formed unit ≡ true → list_all is_named (roles_of unit) ≡ true
+roles_named : (unit : Unit) → is_well_formed unit ≡ true → list_all is_named (roles_of unit) ≡ true
 unfolding is_well_formed unit_shape parts roles_document
 roles_named unit formed =
     let own = and_left (parts.has_form (declared_parts unit)) _ formed in
@@ -54,6 +54,6 @@ short_at [] r are = omega arith
 short_at (row ∷ rows) zero are = short row.identifier (and_left (is_named row) (list_all is_named rows) are)
 short_at (row ∷ rows) (suc r) are = short_at rows r (and_right (is_named row) (list_all is_named rows) are)
 
-pub role_identifiers_short : (unit : Course) (r : ℕ) → is_well_formed unit ≡ true
+pub role_identifiers_short : (unit : Unit) (r : ℕ) → is_well_formed unit ≡ true
     → length (unwrap_or (option_map (λ row. row.identifier) (slice_get (roles_of unit) r)) []) ≤ 64
 role_identifiers_short unit r formed = short_at (roles_of unit) r (roles_named unit formed)

@@ -8,7 +8,7 @@ use Rattle.ld_model.specs.RoleRows.{RoleRow}
 use Rattle.ld_model.specs.Roles.{roles_of}
 use Rattle.ld_model.specs.declared.cell.CellName.TheVariants.{Started}
 use Rattle.ld_model.specs.declared.cell.Owner.TheVariants.{Run}
-use Rattle.ld_model.specs.declared.unit.Unit.{Unit as Course}
+use Rattle.ld_model.specs.declared.unit.Unit.{Unit}
 use Rattle.ld_expr.specs.Lookup.{is_some_and}
 use Rattle.ld_expr.specs.Membership.{is_member, members}
 use Rattle.ld_expr.specs.Done.{is_done}
@@ -69,7 +69,7 @@ members_from is_one test n (person ∷ persons) same =
     ap (λ b. length (cond b (n ∷ numbers) numbers)) first
     ∙ counted_alike (test person) n numbers person (filter test persons) rest
 
-members_counted : (unit : Course) (s : RunState) (role : ℕ)
+members_counted : (unit : Unit) (s : RunState) (role : ℕ)
     → member_count (role_bounds unit) s.persons role ≡ length (members (seen_in unit s) role)
 unfolding cell_of
 members_counted unit s role =
@@ -88,7 +88,7 @@ role_lines_from roles persons seen n (row ∷ rows) same =
     (same n) (role_lines_from roles persons seen (n + 1) rows same)
 
 -- The lines of roles by what is kept are those by what is seen.
-pub role_lines_same : (unit : Course) (s : RunState) (rows : List RoleRow)
+pub role_lines_same : (unit : Unit) (s : RunState) (rows : List RoleRow)
     → each_numbered (role_line (role_bounds unit) s.persons) (map (λ row. row.identifier) rows)
     ≡ each_numbered (report_of_role (seen_in unit s)) rows
 role_lines_same unit s rows =
@@ -104,11 +104,11 @@ all_told before start roles plays whole sent =
     ∙ fold-append printed_after (fold printed_after (printed_after before start) roles) plays (whole ∷ sent ∷ [])
 
 -- The line that tells whether the unit is done.
-abbrev pub unit_line : Course → Seen → WordLine
+abbrev pub unit_line : Unit → Seen → WordLine
 unit_line unit seen = codes "unit" ∷ unit.identifier ∷ done_or_open (is_done unit seen Run unit.identifier) ∷ []
 
 -- What is printed after each part of a report, from its first line to its last.
-pub record Stages (unit : Course) (s : StateView) (before last : Printed) : Type 0 where
+pub record Stages (unit : Unit) (s : StateView) (before last : Printed) : Type 0 where
   pub started : Printed
   pub with_roles : Printed
   pub with_plays : Printed
@@ -119,7 +119,7 @@ pub record Stages (unit : Course) (s : StateView) (before last : Printed) : Type
   pub whole : with_unit ≡ printed_after with_plays (unit_line unit (seen_by (length s.rows) (cells_seen s)))
   pub sent : last ≡ printed_after with_unit (codes "notices" ∷ decimal (length s.outbox) ∷ [])
 
-pub report_told : (unit : Course) (s : StateView) (before last : Printed) → IsStateOf unit s
+pub report_told : (unit : Unit) (s : StateView) (before last : Printed) → IsStateOf unit s
     → Stages unit s before last → last ≡ fold printed_after before (report_lines unit (run_of s))
 report_told unit s before last own stages =
     let start = codes "started" ∷ moment_word (cells_seen s Started) in

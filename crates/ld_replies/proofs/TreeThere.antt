@@ -19,7 +19,7 @@ use Rattle.ld_model.specs.declared.item.Item.{Item as ItemOf}
 use Rattle.ld_model.specs.declared.method.Act.{Act as ActOf}
 use Rattle.ld_model.specs.declared.method.Play.{Play as PlayOf}
 use Rattle.ld_model.specs.declared.method.RolePart.{RolePart as RolePartOf}
-use Rattle.ld_model.specs.declared.unit.Unit.{Unit as Course}
+use Rattle.ld_model.specs.declared.unit.Unit.{Unit}
 use Rattle.ld_walk.specs.declared.kind.Kind.{Kind}
 use Rattle.ld_walk.specs.declared.kind.Kind.TheVariants as kind
 use Rattle.ld_walk.specs.declared.kind.Wanted.{Wanted}
@@ -59,7 +59,7 @@ passes_each test (y ∷ ys) x all (inl is) = ap test (sym is) ∙ (and_parts (te
 passes_each test (y ∷ ys) x all (inr later) = passes_each test ys x (and_parts (test y) (list_all test ys) all).1 later
 
 -- The parts are among those of the unit.
-abbrev AreListed : Course → List Part → Type 0
+abbrev AreListed : Unit → List Part → Type 0
 AreListed unit parts = (part : Part) → IsIn parts part → IsIn (parts_of unit) part
 
 -- ---- things that are shown and hidden
@@ -77,7 +77,7 @@ said_of (Declares (kind.Thing place) id visible) entry (inr later) says shown = 
 said_of _ entry there says shown = absurd there
 
 -- A thing that is shown and hidden says whether it is visible at first.
-shown_entry : (unit : Course) (n : ℕ) (entry : Entry) → slice_get (things_of unit) n ≡ Some entry
+shown_entry : (unit : Unit) (n : ℕ) (entry : Entry) → slice_get (things_of unit) n ≡ Some entry
     → has_visibility (kind.Thing entry.place) ≡ true → is_some entry.visible ≡ true
 shown_entry unit n entry at shown =
     let by = from_flat_map (λ part. thing_in part.what) (parts_of unit) entry (in_stands (things_of unit) n entry at) in
@@ -105,7 +105,7 @@ record Among {A : Type 0} (xs : List A) (x : A) : Type 0 where
   number : ℕ
   at : slice_get xs number ≡ Some x
 
-activity_among : (unit : Course) (id : List ℕ) (activity : ActivityOf) → activity_named unit id ≡ Some activity
+activity_among : (unit : Unit) (id : List ℕ) (activity : ActivityOf) → activity_named unit id ≡ Some activity
     → Among unit.activities activity
 activity_among unit id activity is = by (place_named unit id) is
   where
@@ -114,7 +114,7 @@ activity_among unit id activity is = by (place_named unit id) is
     by (Some (Activity a)) is = record { number = a; at = is }
     by (Some _) is = none_is_some is
 
-structure_among : (unit : Course) (id : List ℕ) (structure : StructureOf)
+structure_among : (unit : Unit) (id : List ℕ) (structure : StructureOf)
     → structure_named unit id ≡ Some structure → Among unit.structures structure
 structure_among unit id structure is = by (place_named unit id) is
   where
@@ -124,7 +124,7 @@ structure_among unit id structure is = by (place_named unit id) is
     by (Some (Structure s)) is = record { number = s; at = is }
     by (Some _) is = none_is_some is
 
-environment_among : (unit : Course) (id : List ℕ) (environment : EnvironmentOf)
+environment_among : (unit : Unit) (id : List ℕ) (environment : EnvironmentOf)
     → environment_named unit id ≡ Some environment → Among unit.environments environment
 environment_among unit id environment is = by (place_named unit id) is
   where
@@ -136,7 +136,7 @@ environment_among unit id environment is = by (place_named unit id) is
 
 -- ---- where the parts of an object stand in the list
 
-environment_listed : (unit : Course) (n : ℕ) (environment : EnvironmentOf)
+environment_listed : (unit : Unit) (n : ℕ) (environment : EnvironmentOf)
     → slice_get unit.environments n ≡ Some environment
     → AreListed unit (environment_parts (root file.Environments) n environment)
 unfolding parts_of middle_parts
@@ -147,7 +147,7 @@ environment_listed unit n environment at part inside =
     (in_left (each_numbered (environment_parts (root file.Environments)) unit.environments) _ part
     (in_each (environment_parts (root file.Environments)) unit.environments n environment part at inside))))
 
-structure_listed : (unit : Course) (n : ℕ) (structure : StructureOf)
+structure_listed : (unit : Unit) (n : ℕ) (structure : StructureOf)
     → slice_get unit.structures n ≡ Some structure
     → AreListed unit (structure_parts (root file.Activities) n structure)
 unfolding parts_of middle_parts
@@ -159,7 +159,7 @@ structure_listed unit n structure at part inside =
     (in_right (each_numbered (activity_parts (root file.Activities)) unit.activities) _ part
     (in_each (structure_parts (root file.Activities)) unit.structures n structure part at inside)))))
 
-module _ (unit : Course) (meets : MeetsChecks unit) (persons p : ℕ) (below : p < persons) where
+module _ (unit : Unit) (meets : MeetsChecks unit) (persons p : ℕ) (below : p < persons) where
   abbrev There : List CellName → Type 0
   There cells = AreCells unit persons cells
 
@@ -496,6 +496,6 @@ module _ (unit : Course) (meets : MeetsChecks unit) (persons p : ℕ) (below : p
       (each (play_looks unit p) unit.method.plays (λ q play at. play_there q play at)))
 
 -- A run of so many persons has each cell at which the tree of one of them looks.
-pub tree_looks_there : (unit : Course) (persons p : ℕ) → IsValid unit → p < persons
+pub tree_looks_there : (unit : Unit) (persons p : ℕ) → IsValid unit → p < persons
     → AreCells unit persons (tree_looks unit p)
 tree_looks_there unit persons p valid below = tree_there unit (checks_met unit valid) persons p below

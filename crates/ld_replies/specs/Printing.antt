@@ -1,11 +1,11 @@
 -- What has to be so for what is told to have a text.
-use Rattle.std.specs.Prelude.{◌≡◌, ◌≤◌, ◌<◌, List, length, Bool, true, IfSome}
+use Rattle.std.specs.Prelude.{◌≡◌, ◌≤◌, ◌<◌, List, length, Bool, true, IfSome, ⊤}
 use Rattle.std.specs.List.{All}
 use Rattle.std.specs.Option.{ForSome}
 use Rattle.ld_value.specs.Calendar.{IsMoment}
 use Rattle.ld_model.specs.Cells.{CellMap}
 use Rattle.ld_model.specs.declared.cell.CellName.{CellName}
-use Rattle.ld_model.specs.declared.unit.Unit.{Unit as Course}
+use Rattle.ld_model.specs.declared.unit.Unit.{Unit}
 use Rattle.ld_names.specs.Things.{things_of}
 use Rattle.ld_expr.specs.Seen.{moment_of_value}
 use Rattle.ld_state.specs.RunState.{NoticeState, RunState}
@@ -17,24 +17,24 @@ use Rattle.ld_checks.specs.AdmittedView.{HasPropertyCell}
 abbrev pub IsPrintable : Refusal → Type 0
 IsPrintable (MomentBack last) = IsMoment last
 IsPrintable (RoleShort role _ _) = length role ≤ 64
-IsPrintable _ = Unit {0}
+IsPrintable _ = ⊤
 
 -- A moment in a cell that there is lies in the years 1 to 9999.
 abbrev pub HasMoments : (CellName → Bool) → CellMap → Type 0
 HasMoments has cells = (name : CellName) → has name ≡ true → ForSome (moment_of_value (cells name)) IsMoment
 
 -- The moment of the notice lies in those years, and its activity, if it has one, is a thing of the unit.
-pub record IsNoticeOf (unit : Course) (notice : NoticeState) : Type 0 where
+pub record IsNoticeOf (unit : Unit) (notice : NoticeState) : Type 0 where
   pub moment : IsMoment notice.moment
   pub activity : IfSome notice.activity (λ thing. thing < length (things_of unit))
 
 -- Each of the notices has such a moment and such an activity.
-abbrev pub AreNoticesOf : Course → List NoticeState → Type 0
+abbrev pub AreNoticesOf : Unit → List NoticeState → Type 0
 AreNoticesOf unit notices = All (IsNoticeOf unit) notices
 
 -- What the command asks to be told is there.
-abbrev pub IsTellable : Course → RunState → Admitted → Type 0
+abbrev pub IsTellable : Unit → RunState → Admitted → Type 0
 IsTellable unit s (gets cell) = HasPropertyCell unit s cell
 IsTellable unit s (shows_tree p) = p < length s.persons
 IsTellable unit s (shows_outbox p) = p < length s.persons
-IsTellable unit s _ = Unit {0}
+IsTellable unit s _ = ⊤

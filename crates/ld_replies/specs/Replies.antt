@@ -3,7 +3,7 @@ use Rattle.std.specs.Prelude.{ℕ, List, [], ◌++◌, map, length, Option, code
 use Rattle.std.specs.Option.{option_map_or}
 use Rattle.ld_json.specs.Print.{json_text}
 use Rattle.ld_cascade.specs.Settling.{Sums}
-use Rattle.ld_model.specs.declared.unit.Unit.{Unit as Course}
+use Rattle.ld_model.specs.declared.unit.Unit.{Unit}
 use Rattle.ld_state.specs.RunState.{RunState, seen_in}
 use Rattle.ld_tree.specs.Lines.{spaced, line_text, lines_text}
 use Rattle.ld_tree.specs.Tree.{tree_lines}
@@ -44,7 +44,7 @@ abbrev pub counted_lines : List (List ℕ) → List ℕ
 counted_lines lines = codes " lines=" ++ decimal (length lines) ++ lines_text lines
 
 -- What is told of the state after the command.
-abbrev pub answer_told : Course → RunState → Admitted → List ℕ
+abbrev pub answer_told : Unit → RunState → Admitted → List ℕ
 answer_told unit s (gets cell) = codes " value=" ++ printed_value (s.cells cell)
 answer_told unit s (shows_tree p) = counted_lines (map line_text (tree_lines unit (seen_in unit s) p))
 answer_told unit s (shows_outbox p) = counted_lines (map spaced (outbox_lines unit s p))
@@ -52,7 +52,7 @@ answer_told unit s reports = counted_lines (map spaced (report_lines unit s))
 answer_told unit s _ = []
 
 -- `ok VERB`, the turns and sums, and what is told; the end of the line is not in it.
-abbrev pub told_line : Course → RunState → Admitted → ℕ → Sums → List ℕ
+abbrev pub told_line : Unit → RunState → Admitted → ℕ → Sums → List ℕ
 told_line unit s command turns sums =
     codes "ok " ++ verb_of command ++ sums_text turns sums ++ answer_told unit s command
 

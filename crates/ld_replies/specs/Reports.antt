@@ -12,7 +12,7 @@ use Rattle.ld_model.specs.declared.cell.Owner.TheVariants.{Run}
 use Rattle.ld_model.specs.declared.method.Act.{Act}
 use Rattle.ld_model.specs.declared.method.Play.{Play}
 use Rattle.ld_model.specs.declared.method.RolePart.{RolePart}
-use Rattle.ld_model.specs.declared.unit.Unit.{Unit as Course}
+use Rattle.ld_model.specs.declared.unit.Unit.{Unit}
 use Rattle.ld_names.specs.Things.{things_of}
 use Rattle.ld_expr.specs.Done.{is_done}
 use Rattle.ld_expr.specs.Lookup.{list_from}
@@ -30,19 +30,19 @@ WordLine = List (List ℕ)
 -- ---- the outbox
 
 -- The identifier of the notice's activity, or `-`.
-abbrev pub activity_of_notice : Course → NoticeState → List ℕ
+abbrev pub activity_of_notice : Unit → NoticeState → List ℕ
 activity_of_notice unit notice =
     option_map_or (λ thing. thing.identifier) (notice.activity >>= slice_get (things_of unit)) (codes "-")
 
 -- `notice K MOMENT ACTIVITY SUBJECT`, where the notice reaches the person.
-abbrev pub notice_lines : Course → ℕ → ℕ → NoticeState → List WordLine
+abbrev pub notice_lines : Unit → ℕ → ℕ → NoticeState → List WordLine
 notice_lines unit p k notice = if list_any (nat_eq p) notice.to
     then (codes "notice" ∷ decimal (k + 1) ∷ text_of_moment notice.moment
     ∷ activity_of_notice unit notice ∷ json_text notice.subject ∷ []) ∷ []
     else []
 
 -- The notices that reach the person, from the oldest on, by their numbers in the run's outbox.
-abbrev pub outbox_lines : Course → RunState → ℕ → List WordLine
+abbrev pub outbox_lines : Unit → RunState → ℕ → List WordLine
 outbox_lines unit s p = each_numbered (notice_lines unit p) s.outbox
 
 -- ---- the report
@@ -68,29 +68,29 @@ progress_word false true = codes "open"
 progress_word false false = codes "waiting"
 
 -- The state of the act itself, or of a role-part of the act, by its identifier.
-abbrev pub progress_in : Course → Seen → Act → List ℕ → List ℕ
+abbrev pub progress_in : Unit → Seen → Act → List ℕ → List ℕ
 progress_in unit seen act id = progress_word (is_done unit seen Run id) (is_opened unit seen act)
 
 -- `part ID STATE`
-abbrev pub report_of_part : Course → Seen → Act → RolePart → WordLine
+abbrev pub report_of_part : Unit → Seen → Act → RolePart → WordLine
 report_of_part unit seen act part =
     codes "part" ∷ part.identifier ∷ progress_in unit seen act part.identifier ∷ []
 
 -- An act, with the moment of its opening if there was one, and its role-parts.
-abbrev pub report_of_act : Course → Seen → Act → List WordLine
+abbrev pub report_of_act : Unit → Seen → Act → List WordLine
 report_of_act unit seen act =
     (codes "act" ∷ act.identifier ∷ progress_in unit seen act act.identifier
     ∷ moment_word (opening_of unit seen act))
     ∷ flat_map (λ part. report_of_part unit seen act part ∷ []) act.role_parts
 
 -- A play and its acts.
-abbrev pub report_of_play : Course → Seen → Play → List WordLine
+abbrev pub report_of_play : Unit → Seen → Play → List WordLine
 report_of_play unit seen play =
     (codes "play" ∷ play.identifier ∷ done_or_open (is_done unit seen Run play.identifier) ∷ [])
     ∷ flat_map (report_of_act unit seen) play.acts
 
 -- When the run was started, the members of each role, the method, the unit, and how many notices were sent.
-abbrev pub report_lines : Course → RunState → List WordLine
+abbrev pub report_lines : Unit → RunState → List WordLine
 report_lines unit s =
     let seen = seen_in unit s in
     (codes "started" ∷ moment_word (s.cells Started))

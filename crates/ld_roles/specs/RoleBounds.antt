@@ -3,7 +3,7 @@ use Rattle.std.specs.Prelude.{ℕ, List, map, Option}
 use Rattle.ld_model.specs.RoleRows.{RoleRow}
 use Rattle.ld_model.specs.Roles.{roles_of}
 use Rattle.ld_model.specs.declared.role.MatchPersons.{MatchPersons}
-use Rattle.ld_model.specs.declared.unit.Unit.{Unit as Course}
+use Rattle.ld_model.specs.declared.unit.Unit.{Unit}
 
 -- Where the role stands, as in a row of the unit's roles; whether a person may be in several of the
 -- roles directly within it; and its least and greatest number of members.
@@ -23,5 +23,5 @@ bounds_of row = record {
 }
 
 -- The bounds of the unit's roles, by their numbers.
-abbrev pub role_bounds : Course → List RoleBounds
+abbrev pub role_bounds : Unit → List RoleBounds
 role_bounds unit = map bounds_of (roles_of unit)

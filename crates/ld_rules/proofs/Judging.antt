@@ -6,7 +6,7 @@ use Rattle.std.specs.List.{list_all}
 use Rattle.std.specs.Option.{option_map}
 use Rattle.ld_model.specs.declared.activity.Activity.{Activity}
 use Rattle.ld_model.specs.declared.cell.CellName.{CellName}
-use Rattle.ld_model.specs.declared.unit.Unit.{Unit as Course}
+use Rattle.ld_model.specs.declared.unit.Unit.{Unit}
 use Rattle.ld_expr.specs.Membership.{some_and_each}
 use Rattle.ld_expr.specs.Viewing.{HasCells}
 use Rattle.ld_expr.proofs.Having.{has_more}
@@ -34,11 +34,11 @@ all_to_do opened nothing all done xs opens is all_is = rw (opens, is, all_is) re
 
 -- ---- activities
 
-pub row_is : (unit : Course) (reach : List (List ℕ)) (n : ℕ) (activity : Activity) (row : List ℕ) → reach ≡ reach_of unit → slice_get unit.activities n ≡ Some activity → Some row ≡ slice_get reach n → row ≡ reaching_roles unit activity.identifier
+pub row_is : (unit : Unit) (reach : List (List ℕ)) (n : ℕ) (activity : Activity) (row : List ℕ) → reach ≡ reach_of unit → slice_get unit.activities n ≡ Some activity → Some row ≡ slice_get reach n → row ≡ reaching_roles unit activity.identifier
 row_is unit reach n activity row is at found =
     some_same (found ∙ ap (λ rows. slice_get rows n) is ∙ slice_get-map (λ (one : Activity). reaching_roles unit one.identifier) unit.activities n ∙ ap (option_map (λ (one : Activity). reaching_roles unit one.identifier)) at)
 
-pub row_there : (unit : Course) (reach : List (List ℕ)) (n : ℕ) (activity : Activity) → reach ≡ reach_of unit → slice_get unit.activities n ≡ Some activity → n < length reach
+pub row_there : (unit : Unit) (reach : List (List ℕ)) (n : ℕ) (activity : Activity) → reach ≡ reach_of unit → slice_get unit.activities n ≡ Some activity → n < length reach
 row_there unit reach n activity is at =
     omega (arith, slice_get_within unit.activities n activity at, length-map unit.activities (λ (one : Activity). reaching_roles unit one.identifier), ap length is)
 

@@ -4,7 +4,7 @@ use Rattle.ld_base.specs.Maybe.{◌>>=◌}
 use Rattle.ld_value.specs.Datum.{Datum}
 use Rattle.ld_model.specs.Cells.{CellMap}
 use Rattle.ld_model.specs.declared.cell.CellName.{CellName}
-use Rattle.ld_model.specs.declared.unit.Unit.{Unit as Course}
+use Rattle.ld_model.specs.declared.unit.Unit.{Unit}
 use Rattle.ld_names.specs.declared.rule.Rule.{Rule}
 use Rattle.ld_names.specs.Rules.{Site}
 use Rattle.ld_expr.specs.Seen.{Seen}
@@ -31,6 +31,6 @@ abbrev pub shown_in : CellMap → Option CellName → Option Datum
 shown_in cells cell = cell >>= cells
 
 -- What the test of a site looks at whose rule this is.
-abbrev pub looks_until_latched : Course → Seen → Site → Rule → List CellName
+abbrev pub looks_until_latched : Unit → Seen → Site → Rule → List CellName
 looks_until_latched unit seen site rule =
     if is_latched seen site rule then site_mark site ∷ [] else looks_by unit seen site rule

@@ -76,10 +76,10 @@ impl Drop for PreparedUnit {
 impl Model for PreparedUnit {
     ghost use Rattle.std.specs.Coded.{codes};
     ghost use Rattle.ld_model.specs.ExpressionCodes.{coded_term, coded_test};
-    ghost use Rattle.ld_model.specs.declared.unit.Unit.{Unit as Course};
+    ghost use Rattle.ld_model.specs.declared.unit.Unit.{Unit};
     ghost use Rattle.ld_rules.specs.PreparedParts.{IsMadeOf};
 
-    ghost Value = { Course };
+    ghost Value = { Unit };
 
     ghost coded = { Prim.hlevel (codes, coded_term, coded_test) };
 

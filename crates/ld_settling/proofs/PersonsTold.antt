@@ -9,7 +9,7 @@ use Rattle.ld_cascade.specs.Wiring.{LinksFollow, HasSameRow, IsSameTable, IsWith
 use Rattle.ld_cascade.proofs.Touching.{bound_touched, tidy_touched}
 use Rattle.ld_model.specs.declared.cell.Owner.{Owner}
 use Rattle.ld_model.specs.declared.cell.Owner.TheVariants.{Run, Person}
-use Rattle.ld_model.specs.declared.unit.Unit.{Unit as Course}
+use Rattle.ld_model.specs.declared.unit.Unit.{Unit}
 use Rattle.ld_names.specs.Rules.{Site, rules_of}
 use Rattle.ld_roles.specs.declared.limit.TheConstants.{SEATS}
 use Rattle.ld_state.specs.RunState.{RunState}
@@ -29,10 +29,10 @@ has_owner s own owner (a_person p below) = below
 has_owner s own owner the_run = tt
 
 -- The number is that of a site of a person who is in the one run and not in the other.
-abbrev IsNew : Course → RunState → RunState → ℕ → Type 0
+abbrev IsNew : Unit → RunState → RunState → ℕ → Type 0
 IsNew unit s t i = IsAmong (length (rules_of unit)) (length s.persons) (length t.persons) i
 
-module _ (unit : Course) (s t : RunState) (told : List ℕ) (sound : IsSoundRun unit s) (sound_after : IsSoundRun unit t)
+module _ (unit : Unit) (s t : RunState) (told : List ℕ) (sound : IsSoundRun unit s) (sound_after : IsSoundRun unit t)
     (tells : TellsPersons unit s t told) where
   stays : (i : ℕ) (site : Site) → site_at unit s i ≡ Some site → site_at unit t i ≡ Some site
   stays i site at = site_stays unit s t i site (sym tells.seats) tells.persons (seats_of unit t sound_after) at
@@ -113,7 +113,7 @@ pub record IsTold (told : List ℕ) (old now : Wiring) : Type 0 where
 
 -- The links before, once they had room, once the slots were told, and once the sites of the persons who joined were
 -- set loose.
-module _ (unit : Course) (s t : RunState) (told : List ℕ) (sound : IsSoundRun unit s) (sound_after : IsSoundRun unit t)
+module _ (unit : Unit) (s t : RunState) (told : List ℕ) (sound : IsSoundRun unit s) (sound_after : IsSoundRun unit t)
     (tells : TellsPersons unit s t told) (seats : t.seats ≡ SEATS) (old roomy touched now : Wiring)
     (rows : (i : ℕ) → HasSameRow old.edges roomy.edges i) (same_dirty : IsSameTable old.dirty roomy.dirty)
     (same_loose : IsSameTable old.loose roomy.loose) (is_told : IsTold told roomy touched) (loosened : Loosens touched now)

@@ -11,7 +11,7 @@ use Rattle.ld_cascade.specs.System.{Lawful, System}
 use Rattle.ld_cascade.specs.Wiring.{EdgesAre, LinksFollow, IsEmpty, IsSameTable, IsTakenBack, Wiring}
 use Rattle.ld_cascade.proofs.TakingBack.{bound_back, bound_begun, covers_back, covers_begun, rest_back, rest_begun, tidy_back, tidy_begun}
 use Rattle.ld_cascade.proofs.Touching.{bound_touched, tidy_touched}
-use Rattle.ld_model.specs.declared.unit.Unit.{Unit as Course}
+use Rattle.ld_model.specs.declared.unit.Unit.{Unit}
 use Rattle.ld_names.specs.Names.{names_of}
 use Rattle.ld_names.specs.Rules.{Site, kind_of, rules_of}
 use Rattle.ld_model.specs.declared.cell.Owner.{Owner}
@@ -83,7 +83,7 @@ abbrev mark_by : RunState → Option Site → Option Bool
 mark_by s found = option_map_or (λ site. verdict_in (s.cells (site_mark site))) found (Some false)
 
 -- What is told of writes that are no firing is what they change.
-pub changes_told : (unit : Course) (s t : RunState) (told : List ℕ) → IsSoundRun unit s → IsSoundRun unit t
+pub changes_told : (unit : Unit) (s t : RunState) (told : List ℕ) → IsSoundRun unit s → IsSoundRun unit t
     → Tells unit s t [] told → ChangesOnly (run_system unit) s t told
 changes_told unit s t told sound sound_after tells = record {
   sound_before = sound;
@@ -102,7 +102,7 @@ changes_told unit s t told sound sound_after tells = record {
     by (Some site) = ap verdict_in (tells.marks site.rule site.owner)
 
 -- The slots that are told are in range.
-pub told_below : (unit : Course) (s t : RunState) (told : List ℕ) (wiring : Wiring) → AreLinksOf unit s wiring → Tells unit s t [] told
+pub told_below : (unit : Unit) (s t : RunState) (told : List ℕ) (wiring : Wiring) → AreLinksOf unit s wiring → Tells unit s t [] told
     → (k : ℕ) → Contains told k → k < wiring.edges.slots
 told_below unit s t told wiring links tells k there = by (tells.slots k there)
   where
@@ -111,7 +111,7 @@ told_below unit s t told wiring links tells k there = by (tells.slots k there)
     by (inr below) = omega (arith, below, links.covers.slots)
 
 -- Links that cover a run cover it after the writes.
-covers_told : (unit : Course) (s t : RunState) (told : List ℕ) (old now : Wiring) → AreLinksOf unit s old → Tells unit s t [] told
+covers_told : (unit : Unit) (s t : RunState) (told : List ℕ) (old now : Wiring) → AreLinksOf unit s old → Tells unit s t [] told
     → old.sites ≤ now.sites → old.edges.slots ≤ now.edges.slots → Covers (run_system unit) t now
 covers_told unit s t told old now links tells sites slots = record {
   sites = omega (arith, ap (λ n. length (rules_of unit) * n) tells.seats, links.covers.sites, sites);
@@ -119,7 +119,7 @@ covers_told unit s t told old now links tells sites slots = record {
 }
 
 -- Where the slots that are told are touched, the links are those of the run after the writes.
-pub links_told : (unit : Course) (s t : RunState) (told : List ℕ) (old now : Wiring) → IsSoundRun unit s → IsSoundRun unit t
+pub links_told : (unit : Unit) (s t : RunState) (told : List ℕ) (old now : Wiring) → IsSoundRun unit s → IsSoundRun unit t
     → AreLinksOf unit s old → Tells unit s t [] told → Touched (run_system unit) s t told old now
     → old.sites ≤ now.sites → old.edges.slots ≤ now.edges.slots → AreLinksOf unit t now
 links_told unit s t told old now sound sound_after links tells touched sites slots = record {
@@ -129,7 +129,7 @@ links_told unit s t told old now sound sound_after links tells touched sites slo
 }
 
 -- No site is new where no person is; so the readers of the slots are all that has to be set dirty.
-pub links_touched : (unit : Course) (s t : RunState) (told : List ℕ) (old now : Wiring) → IsSoundRun unit s → IsSoundRun unit t
+pub links_touched : (unit : Unit) (s t : RunState) (told : List ℕ) (old now : Wiring) → IsSoundRun unit s → IsSoundRun unit t
     → AreLinksOf unit s old → Tells unit s t [] told → now.edges ≡ old.edges → now.sites ≡ old.sites → now.loose ≡ old.loose
     → ((i : ℕ) → has old.dirty i ≡ true → has now.dirty i ≡ true)
     → ((k : ℕ) → Contains told k → (i : ℕ) → IsLinked old.edges k i → has now.dirty i ≡ true)
@@ -163,7 +163,7 @@ edges_none edges i slots row none = record {
 }
 
 -- Where no number has an edge and each site is dirty and loose, the links are those of the run.
-pub links_anew : (unit : Course) (s : RunState) (wiring : Wiring) → IsSoundRun unit s → Covers (run_system unit) s wiring
+pub links_anew : (unit : Unit) (s : RunState) (wiring : Wiring) → IsSoundRun unit s → Covers (run_system unit) s wiring
     → ((i : ℕ) → (run_system unit).is_site s i ≡ true → has wiring.dirty i ≡ true) → IsSameTable wiring.dirty wiring.loose
     → ((i : ℕ) → get_or wiring.edges.rows i [] ≡ []) → AreLinksOf unit s wiring
 links_anew unit s wiring sound covers dirty loose none = record {
@@ -191,12 +191,12 @@ links_anew unit s wiring sound covers dirty loose none = record {
     ]
 
 -- Links are at rest where a settling is done.
-pub resting_settled : (unit : Course) (s : RunState) (wiring : Wiring) → AreLinksOf unit s wiring → IsEmpty wiring.dirty
+pub resting_settled : (unit : Unit) (s : RunState) (wiring : Wiring) → AreLinksOf unit s wiring → IsEmpty wiring.dirty
     → AreRestingLinks unit s wiring
 resting_settled unit s wiring links clean = record { links = links; rest = λ i dirty. absurd (let none = clean i in cc) }
 
 -- And where links only begin.
-pub resting_begun : (unit : Course) (s : RunState) (old now : Wiring) → now.edges ≡ old.edges → now.dirty ≡ old.dirty → now.loose ≡ old.loose
+pub resting_begun : (unit : Unit) (s : RunState) (old now : Wiring) → now.edges ≡ old.edges → now.dirty ≡ old.dirty → now.loose ≡ old.loose
     → now.sites ≡ old.sites → AreRestingLinks unit s old → AreRestingLinks unit s now
 resting_begun unit s old now edges dirty loose sites resting = record {
   links = record {
@@ -208,7 +208,7 @@ resting_begun unit s old now edges dirty loose sites resting = record {
 }
 
 -- Where the state of a run and its links were taken back, the links are those of the run.
-pub resting_back : (unit : Course) (s : RunState) (begun now back : Wiring) → AreRestingLinks unit s begun → LinksFollow begun now
+pub resting_back : (unit : Unit) (s : RunState) (begun now back : Wiring) → AreRestingLinks unit s begun → LinksFollow begun now
     → IsTakenBack now back → AreRestingLinks unit s back
 resting_back unit s begun now back resting follows taken = record {
   links = record {
@@ -225,7 +225,7 @@ owner_within : (persons places : ℕ) (own : Bool) (owner : Owner) → IsOwner p
 owner_within persons places own owner (a_person p below) enough = omega (arith, below, enough.persons)
 owner_within persons places own owner the_run enough = enough.run
 
-pub sites_dirty : (unit : Course) (s : RunState) (dirty : List Bool) (rules places : ℕ) → s.seats ≡ SEATS
+pub sites_dirty : (unit : Unit) (s : RunState) (dirty : List Bool) (rules places : ℕ) → s.seats ≡ SEATS
     → rules ≡ length (rules_of unit) → IsPlaceCount (length s.persons) places → AreDirty dirty rules places
     → (i : ℕ) → (run_system unit).is_site s i ≡ true → has dirty i ≡ true
 sites_dirty unit s dirty rules places seats count enough are i there =
@@ -248,7 +248,7 @@ within limit count none = by (nat_lt limit count) refl
     by false few = omega (arith, ltb-false limit count few)
 
 -- A valid unit has at most 600 rules.
-pub rules_few : (unit : Course) → IsValid unit → length (rules_of unit) ≤ 600
+pub rules_few : (unit : Unit) → IsValid unit → length (rules_of unit) ≤ 600
 unfolding check_faults amount_faults count_faults
 rules_few unit valid =
     let names = names_of unit in
@@ -265,12 +265,12 @@ rules_few unit valid =
     within 600 (length (rules_of unit)) (nothing_first rules leaves no_count)
 
 -- A run has few numbers of sites.
-pub sites_few : (unit : Course) → IsValid unit → (s : RunState) → s.seats ≡ 200 → (run_system unit).count s ≤ 4000000
+pub sites_few : (unit : Unit) → IsValid unit → (s : RunState) → s.seats ≡ 200 → (run_system unit).count s ≤ 4000000
 sites_few unit valid s seats =
     omega (arith, ap (λ n. length (rules_of unit) * n) seats, rules_few unit valid)
 
 -- A run has as many slots as its state has cells.
-pub slots_many : (unit : Course) (state : StateView) → IsStateOf unit state
+pub slots_many : (unit : Unit) (state : StateView) → IsStateOf unit state
     → (run_system unit).slots (run_of state) ≡ length (cells_in state.layout (length state.rows))
 slots_many unit state own =
     ap (λ n. length (all_cells unit n)) (persons_counted state)

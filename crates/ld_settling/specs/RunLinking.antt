@@ -3,20 +3,20 @@ use Rattle.std.specs.Prelude.{◌≡◌, ℕ, ◌+◌, ◌*◌, ◌<◌, ◌≤�
 use Rattle.ld_graph.specs.Table.{has}
 use Rattle.ld_cascade.specs.Tidy.{Bound, Covers, Tidy}
 use Rattle.ld_cascade.specs.Wiring.{IsAtRest, Wiring}
-use Rattle.ld_model.specs.declared.unit.Unit.{Unit as Course}
+use Rattle.ld_model.specs.declared.unit.Unit.{Unit}
 use Rattle.ld_firing.specs.RunSystem.{run_system}
 use Rattle.ld_roles.specs.declared.limit.TheConstants.{SEATS}
 use Rattle.ld_state.specs.RunState.{RunState}
 
 -- The links are those of the run: each site that is not dirty has the mark that its test gives; each that is
 -- not loose has edges equal to its reads, and a loose one is dirty; all sites and all slots are in range.
-pub record AreLinksOf (unit : Course) (s : RunState) (wiring : Wiring) : Type 0 where
+pub record AreLinksOf (unit : Unit) (s : RunState) (wiring : Wiring) : Type 0 where
   pub tidy : Tidy (run_system unit) s wiring
   pub bound : Bound (run_system unit) s wiring
   pub covers : Covers (run_system unit) s wiring
 
 -- The links of a run between commands: every dirty site is loose, so that they can be taken back.
-pub record AreRestingLinks (unit : Course) (s : RunState) (wiring : Wiring) : Type 0 where
+pub record AreRestingLinks (unit : Unit) (s : RunState) (wiring : Wiring) : Type 0 where
   pub links : AreLinksOf unit s wiring
   pub rest : IsAtRest wiring
 

@@ -5,7 +5,7 @@ ghost use Rattle.ld_graph.specs.Table.{has};
 ghost use Rattle.ld_cascade.specs.Wiring.{LinksFollow, IsEmpty, IsSameTable, Wiring};
 ghost use Rattle.ld_names.specs.Rules.{rules_of};
 ghost use Rattle.ld_roles.specs.declared.limit.TheConstants.{SEATS};
-ghost use Rattle.ld_model.specs.declared.unit.Unit.{Unit as Course};
+ghost use Rattle.ld_model.specs.declared.unit.Unit.{Unit};
 ghost use Rattle.ld_state.specs.RunState.{RunState};
 ghost use Rattle.ld_state.specs.StateView.{IsStateOf, run_of};
 ghost use Rattle.ld_firing.specs.RunSystem.{IsSoundRun};
@@ -56,9 +56,9 @@ impl RunLinks {
     /// from one state of the run to another, the links are those of the other state then. It takes
     /// no memory.
     pub fn tell(&mut self, changed: &[u32])
-        requires told { (unit : Course) × (s : RunState) × (t : RunState)
+        requires told { (unit : Unit) × (s : RunState) × (t : RunState)
             × AreLinksOf unit s self.old × Tells unit s t [] changed.now }
-        ensures linked { (unit : Course) (s t : RunState) → IsSoundRun unit s → IsSoundRun unit t
+        ensures linked { (unit : Unit) (s t : RunState) → IsSoundRun unit s → IsSoundRun unit t
             → AreLinksOf unit s self.old → Tells unit s t [] changed.now
             → AreLinksOf unit t self.new }
         ensures only { (i : ℕ) → has self.new.dirty i ≡ true → (has self.old.dirty i ≡ true)
@@ -101,7 +101,7 @@ impl RunLinks {
     /// Counts no site as linked anew, until the next settling: call it where the state is marked.
     /// The links stay those of the run.
     pub fn begin(&mut self)
-        ensures linked { (unit : Course) (s : RunState) → AreRestingLinks unit s self.old
+        ensures linked { (unit : Unit) (s : RunState) → AreRestingLinks unit s self.old
             → AreRestingLinks unit s self.new }
         ensures relinked { IsEmpty self.new.relinked }
         ensures dirty { self.new.dirty ≡ self.old.dirty }
@@ -113,7 +113,7 @@ impl RunLinks {
     /// only the sites that were linked anew since then are dirty, and those that were loose. It
     /// takes no memory.
     pub fn take_back(&mut self)
-        ensures linked { (unit : Course) (s : RunState) (begun : Wiring)
+        ensures linked { (unit : Unit) (s : RunState) (begun : Wiring)
             → AreRestingLinks unit s begun → LinksFollow begun self.old
             → AreRestingLinks unit s self.new }
         ensures only { (i : ℕ) → has self.new.dirty i ≡ true → (has self.old.loose i ≡ true)

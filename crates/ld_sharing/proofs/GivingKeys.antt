@@ -12,7 +12,7 @@ use Rattle.ld_model.specs.Counting.{number_where}
 use Rattle.ld_model.specs.Properties.{is_personal}
 use Rattle.ld_model.specs.declared.cell.Owner.TheVariants.{Run}
 use Rattle.ld_model.specs.declared.property.Property.{Property}
-use Rattle.ld_model.specs.declared.unit.Unit.{Unit as Course}
+use Rattle.ld_model.specs.declared.unit.Unit.{Unit}
 use Rattle.ld_names.specs.Identifiers.{all_differ}
 use Rattle.ld_names.proofs.Differing.{is_itself}
 use Rattle.ld_expr.specs.Lookup.{list_from}
@@ -104,7 +104,7 @@ same_or_given store one = by (option_eq same_datum (store one.uri one.person) on
     by true is = inl (one_value (store one.uri one.person) one.value is)
     by false is = inr (inl refl)
 
-module _ (unit : Course) (s : RunState) (store : GlobalValues) where
+module _ (unit : Unit) (s : RunState) (store : GlobalValues) where
   -- What is true of each value of a global property is true of each that differs.
   module _ (P : GivenValue → Type 0)
       (of_run : (n : ℕ) (property : Property) (uri : List ℕ) → slice_get unit.properties n ≡ Some property

@@ -5,7 +5,7 @@ use Rattle.std.specs.Option.{option_map}
 use Rattle.ld_globals.specs.Store.{Store}
 use Rattle.ld_model.specs.Counting.{each_numbered_from}
 use Rattle.ld_model.specs.Properties.{is_personal}
-use Rattle.ld_model.specs.declared.unit.Unit.{Unit as Course}
+use Rattle.ld_model.specs.declared.unit.Unit.{Unit}
 use Rattle.ld_expr.specs.Lookup.{list_from}
 use Rattle.ld_expr.specs.Owners.{of_person}
 use Rattle.ld_expr.specs.Seen.{property_cell}
@@ -62,7 +62,7 @@ module _ (store : GlobalValues) (s : RunState) (n : ℕ) (uri : List ℕ) (p : �
       ∙ ap (λ o. before ++ list_from (others_of_person store s n uri p) o) (sym (slice_get-map person_of rows p))
 
 -- What is listed of a global property is what is listed of its uri.
-pub shared_added : (unit : Course) (s : RunState) (store : Store) (values : GlobalValues) (n : ℕ) (uri : List ℕ) (personal : Bool)
+pub shared_added : (unit : Unit) (s : RunState) (store : Store) (values : GlobalValues) (n : ℕ) (uri : List ℕ) (personal : Bool)
     (before after : List GivenValue) → IsShared unit store n uri personal
     → after ≡ before ++ others_of_uri values s n personal uri
     → after ≡ before ++ list_from (others_of_property values s n) (slice_get unit.properties n)

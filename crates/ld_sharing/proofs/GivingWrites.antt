@@ -9,7 +9,7 @@ use Rattle.ld_value.specs.Datum.{Datum, datum_of}
 use Rattle.ld_model.specs.declared.cell.Owner.{Owner}
 use Rattle.ld_model.specs.declared.cell.Owner.TheVariants.{Run}
 use Rattle.ld_model.specs.declared.property.Property.{Property}
-use Rattle.ld_model.specs.declared.unit.Unit.{Unit as Course}
+use Rattle.ld_model.specs.declared.unit.Unit.{Unit}
 use Rattle.ld_expr.specs.Lookup.{is_some_and}
 use Rattle.ld_expr.specs.Owners.{fits_property, is_global, of_person}
 use Rattle.ld_expr.specs.Seen.{property_cell}
@@ -31,7 +31,7 @@ use Rattle.ld_sharing.proofs.UrisDiffer.{uris_differ}
 
 -- ---- what the store may take
 
-module _ (unit : Course) (s : RunState) (store : Store) (sound : IsSoundRun unit s) (serves : Serves store unit)
+module _ (unit : Unit) (s : RunState) (store : Store) (sound : IsSoundRun unit s) (serves : Serves store unit)
     (fitting : HasFittingGlobals unit s) where
   value_fits : (n : ℕ) (property : Property) (owner : Owner) (value : Option Datum)
       → slice_get unit.properties n ≡ Some property → is_global property.kind ≡ true

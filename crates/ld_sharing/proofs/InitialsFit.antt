@@ -14,7 +14,7 @@ use Rattle.ld_model.specs.Properties.{initial_of, limits_by}
 use Rattle.ld_model.specs.Roles.{roles_of}
 use Rattle.ld_model.specs.declared.property.Property.{Property}
 use Rattle.ld_model.specs.declared.property.Restrictions.{Restrictions}
-use Rattle.ld_model.specs.declared.unit.Unit.{Unit as Course}
+use Rattle.ld_model.specs.declared.unit.Unit.{Unit}
 use Rattle.ld_model.specs.Counting.{each_numbered}
 use Rattle.ld_walk.specs.ExpressionParts.{plain_part}
 use Rattle.ld_walk.specs.Parts.{Declared, Types, Part}
@@ -83,7 +83,7 @@ fits_initial property (Some text) value fit is =
     (ap (λ found. not (fits_as_initial property found)) (sym is) ∙ fit))
 
 -- The check of a property is among those of the unit.
-property_listed : (unit : Course) (n : ℕ) (property : Property) (part : Part) → slice_get unit.properties n ≡ Some property
+property_listed : (unit : Unit) (n : ℕ) (property : Property) (part : Part) → slice_get unit.properties n ≡ Some property
     → IsIn (property_parts (root file.Properties) n property) part → IsIn (parts_of unit) part
 unfolding parts_of middle_parts
 property_listed unit n property part at inside =
@@ -92,7 +92,7 @@ property_listed unit n property part at inside =
     (in_left (each_numbered (property_parts (root file.Properties)) unit.properties) _ part
     (in_each (property_parts (root file.Properties)) unit.properties n property part at inside)))
 
-none_told : (unit : Course) → IsValid unit → (n : ℕ) (property : Property) → slice_get unit.properties n ≡ Some property
+none_told : (unit : Unit) → IsValid unit → (n : ℕ) (property : Property) → slice_get unit.properties n ≡ Some property
     → property_faults (nth (root file.Properties) (codes "properties") n) property ≡ []
 unfolding property_parts_at
 none_told unit valid n property at =
@@ -102,7 +102,7 @@ none_told unit valid n property at =
     (property_listed unit n property part at (inr (in_right (shared_parts place property.uri) _ part (inl refl))))).types
 
 -- The initial value of each property of a valid unit fits it.
-pub initials_fit : (unit : Course) → IsValid unit → (n : ℕ) (property : Property) → slice_get unit.properties n ≡ Some property
+pub initials_fit : (unit : Unit) → IsValid unit → (n : ℕ) (property : Property) → slice_get unit.properties n ≡ Some property
     → (value : Datum) → initial_of property ≡ Some value → fits_property property value ≡ true
 unfolding property_faults
 initials_fit unit valid n property at value is =

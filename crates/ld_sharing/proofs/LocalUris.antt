@@ -14,7 +14,7 @@ use Rattle.ld_shape.specs.Words.{one_of}
 use Rattle.ld_model.specs.declared.property.Property.{Property}
 use Rattle.ld_model.specs.declared.property.PropertyKind.{PropertyKind}
 use Rattle.ld_model.specs.declared.property.PropertyKind.TheVariants.{Loc, LocPers, LocRole, GlobPers, Glob}
-use Rattle.ld_model.specs.declared.unit.Unit.{Unit as Course}
+use Rattle.ld_model.specs.declared.unit.Unit.{Unit}
 use Rattle.ld_refs.specs.Checks.{IsValid}
 use Rattle.ld_expr.specs.Owners.{is_global}
 use Rattle.ld_state.proofs.Elements.{different, none_is_some, some_same}
@@ -56,7 +56,7 @@ unfolding property
 no_uri x local formed = by_kind x.kind x local (values_formed (Some x.kind) x formed)
 
 -- The properties of a well-formed unit have their form: behind the roles.
-properties_formed : (x : Course) → is_well_formed x ≡ true → list_all property.has_form x.properties ≡ true
+properties_formed : (x : Unit) → is_well_formed x ≡ true → list_all property.has_form x.properties ≡ true
 unfolding is_well_formed unit parts properties_document environments_document
 properties_formed x formed =
     let all = and_parts (parts.has_form (declared_parts x)) (method_documents.has_form (head_and_conditions x)) formed in
@@ -99,14 +99,14 @@ formed_at (y ∷ ys) formed (suc n) x at =
     formed_at ys (and_parts (property.has_form y) (list_all property.has_form ys) formed).1 n x at
 
 -- A property that has a uri is global.
-pub named_is_global : (unit : Course) → IsValid unit → (n : ℕ) (x : Property) → slice_get unit.properties n ≡ Some x
+pub named_is_global : (unit : Unit) → IsValid unit → (n : ℕ) (x : Property) → slice_get unit.properties n ≡ Some x
     → (name : List ℕ) → x.uri ≡ Some name → is_global x.kind ≡ true
 named_is_global unit valid n x at name named =
     true_from_ne_false (is_global x.kind) (λ local.
     true≢false (sym (no_uri x local (formed_at unit.properties (properties_formed unit valid.formed) n x at)) ∙ ap is_none named))
 
 -- A property that is global has a uri.
-pub global_is_named : (unit : Course) → IsValid unit → (n : ℕ) (x : Property) → slice_get unit.properties n ≡ Some x
+pub global_is_named : (unit : Unit) → IsValid unit → (n : ℕ) (x : Property) → slice_get unit.properties n ≡ Some x
     → is_global x.kind ≡ true → is_some x.uri ≡ true
 global_is_named unit valid n x at global =
     true_from_ne_false (is_some x.uri) (λ unnamed.

@@ -6,7 +6,7 @@ use Rattle.ld_base.specs.Maybe.{◌>>=◌}
 use Rattle.ld_value.specs.Datum.{Datum, same_truth}
 use Rattle.ld_model.specs.Properties.{is_personal}
 use Rattle.ld_model.specs.declared.property.Property.{Property}
-use Rattle.ld_model.specs.declared.unit.Unit.{Unit as Course}
+use Rattle.ld_model.specs.declared.unit.Unit.{Unit}
 use Rattle.ld_expr.specs.Owners.{is_global}
 use Rattle.ld_globals.specs.Store.{IsWritable, Store, key_at, value_at}
 use Rattle.ld_rules.specs.PreparedView.{uri_at}
@@ -25,10 +25,10 @@ abbrev part : GlobalValues → Option (List ℕ) → Property → Option Datum
 part store person property = if is_global property.kind then stored_value store person property else None
 
 -- What the store says of a property, of which it may hold nothing.
-abbrev pub IsStored : Course → GlobalValues → Option (List ℕ) → ℕ → Option Datum → Type 0
+abbrev pub IsStored : Unit → GlobalValues → Option (List ℕ) → ℕ → Option Datum → Type 0
 IsStored unit store person n value = IsStoredOf unit store person n value × FitsStored unit store person n
 
-module _ (unit : Course) (store : GlobalValues) (person : Option (List ℕ)) (n : ℕ) (property : Property)
+module _ (unit : Unit) (store : GlobalValues) (person : Option (List ℕ)) (n : ℕ) (property : Property)
     (at : slice_get unit.properties n ≡ Some property) where
   part_at : slice_get (stored_for store person unit.properties) n ≡ Some (part store person property)
   part_at = slice_get-map (part store person) unit.properties n ∙ ap (option_map (part store person)) at
@@ -53,7 +53,7 @@ module _ (unit : Course) (store : GlobalValues) (person : Option (List ℕ)) (n 
       nothing_stored (ap (λ b. cond b (property.uri >>= λ uri. store uri person) None) other)
 
 -- A property without a uri.
-pub no_uri_stored : (unit : Course) (store : GlobalValues) (person : Option (List ℕ)) (n : ℕ) → n < length unit.properties
+pub no_uri_stored : (unit : Unit) (store : GlobalValues) (person : Option (List ℕ)) (n : ℕ) → n < length unit.properties
     → uri_at unit.properties n ≡ None → IsStored unit store person n None
 no_uri_stored unit store person n within unnamed =
     nothing_stored unit store person n property at (by (same_truth (is_personal property.kind) (is_some person)))
@@ -71,7 +71,7 @@ no_uri_stored unit store person n within unnamed =
     by false = refl
 
 -- The value of a key that the store shares.
-pub shared_stored : (unit : Course) (store : Store) (person : Option (List ℕ)) (n : ℕ) (uri : List ℕ)
+pub shared_stored : (unit : Unit) (store : Store) (person : Option (List ℕ)) (n : ℕ) (uri : List ℕ)
     → (shared : IsShared unit store n uri (is_some person)) → (value : Option Datum)
     → value ≡ value_at store (key_at uri person) → IsWritable store (key_at uri person) value
     → IsStored unit (values_of store) person n value
@@ -106,17 +106,17 @@ take_more (y ∷ ys) (suc n) x at =
     ap (λ m. take m (y ∷ ys)) next ∙ ap (λ zs. y ∷ zs) (take_more ys n x at)
 
 -- One value more.
-pub one_stored : (unit : Course) (store : GlobalValues) (person : Option (List ℕ)) (n : ℕ) (values : List (Option Datum)) (value : Option Datum)
+pub one_stored : (unit : Unit) (store : GlobalValues) (person : Option (List ℕ)) (n : ℕ) (values : List (Option Datum)) (value : Option Datum)
     → values ≡ take n (stored_for store person unit.properties) → IsStoredOf unit store person n value
     → values ++ value ∷ [] ≡ take (n + 1) (stored_for store person unit.properties)
 one_stored unit store person n values value before is =
     ap (λ front. front ++ value ∷ []) before ∙ sym (take_more (stored_for store person unit.properties) n value is)
 
 -- What the store holds of the first so many properties fits.
-abbrev pub FitsBefore : Course → GlobalValues → Option (List ℕ) → ℕ → Type 0
+abbrev pub FitsBefore : Unit → GlobalValues → Option (List ℕ) → ℕ → Type 0
 FitsBefore unit store person count = (n : ℕ) → n < count → FitsStored unit store person n
 
-pub all_fit : (unit : Course) (store : GlobalValues) (person : Option (List ℕ)) (count : ℕ)
+pub all_fit : (unit : Unit) (store : GlobalValues) (person : Option (List ℕ)) (count : ℕ)
     → length unit.properties ≤ count → FitsBefore unit store person count → BeginsFitting unit store person
 all_fit unit store person count far fit n property at global =
     fit n (omega (arith, far, slice_get_within unit.properties n property at)) property at global

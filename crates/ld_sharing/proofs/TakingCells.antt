@@ -5,7 +5,7 @@ use Rattle.std.proofs.lemmas.Bool.{or_cases}
 use Rattle.ld_value.specs.Datum.{Datum}
 use Rattle.ld_model.specs.Cells.{CellMap, same_cell}
 use Rattle.ld_model.specs.declared.cell.CellName.{CellName}
-use Rattle.ld_model.specs.declared.unit.Unit.{Unit as Course}
+use Rattle.ld_model.specs.declared.unit.Unit.{Unit}
 use Rattle.ld_roles.specs.Roster.{Persons}
 use Rattle.ld_state.specs.GlobalValues.{GlobalValues}
 use Rattle.ld_state.specs.RunState.{RunState, with_cell}
@@ -47,7 +47,7 @@ same_run : (s : RunState) (cells others : CellMap) → ((c : CellName) → cells
     → record s { cells = cells } ≡ record s { cells = others }
 same_run s cells others each = ap (λ (map : CellMap). record s { cells = map }) (fun_ext each)
 
-module _ (unit : Course) (store : GlobalValues) (test : CellName → Bool) where
+module _ (unit : Unit) (store : GlobalValues) (test : CellName → Bool) where
   -- A run that takes nothing.
   pub taken_none : (s : RunState) → ((c : CellName) (value : Option Datum) → test c ≡ true → store_says unit store s.persons c ≡ Some value → ⊥)
       → HasTaken unit store test s s
@@ -107,7 +107,7 @@ module _ (unit : Course) (store : GlobalValues) (test : CellName → Bool) where
 
 -- ---- one cell
 
-module _ (unit : Course) (store : GlobalValues) (cell : CellName) (s : RunState) (value : Option Datum)
+module _ (unit : Unit) (store : GlobalValues) (cell : CellName) (s : RunState) (value : Option Datum)
     (said : store_says unit store s.persons cell ≡ Some value) (fits : fits_cell unit cell value ≡ true) where
   pub taken_cell : HasTaken unit store (λ c. same_cell c cell) s (with_cell s cell value)
   taken_cell = record {

@@ -13,7 +13,7 @@ use Rattle.ld_model.specs.declared.cell.Owner.TheVariants.{Run, Person}
 use Rattle.ld_model.specs.declared.property.Property.{Property}
 use Rattle.ld_model.specs.declared.property.PropertyKind.{PropertyKind}
 use Rattle.ld_model.specs.declared.property.PropertyKind.TheVariants.{Loc, LocPers, LocRole, GlobPers, Glob}
-use Rattle.ld_model.specs.declared.unit.Unit.{Unit as Course}
+use Rattle.ld_model.specs.declared.unit.Unit.{Unit}
 use Rattle.ld_refs.specs.Checks.{IsValid}
 use Rattle.ld_expr.specs.Lookup.{is_some_and}
 use Rattle.ld_expr.specs.Owners.{fits_property, is_global}
@@ -33,7 +33,7 @@ use Rattle.ld_sharing.specs.StoreView.{IsDeclared, Serves, declaration_by, kind_
 use Rattle.ld_sharing.proofs.LocalUris.{named_is_global}
 
 -- A property that has a uri is one that the store shares.
-pub shared_at : (unit : Course) (store : Store) (n : ℕ) (uri : List ℕ) → IsValid unit → Serves store unit
+pub shared_at : (unit : Unit) (store : Store) (n : ℕ) (uri : List ℕ) → IsValid unit → Serves store unit
     → uri_at unit.properties n ≡ Some uri → (property : Property) → slice_get unit.properties n ≡ Some property
     → IsShared unit store n uri (is_personal property.kind)
 shared_at unit store n uri valid serves named property at =
@@ -48,16 +48,16 @@ shared_at unit store n uri valid serves named property at =
     }
 
 -- The property that is found in the unit's list.
-pub property_here : (unit other : Course) (properties : List Property) (n : ℕ) (property : Property) → other ≡ unit
+pub property_here : (unit other : Unit) (properties : List Property) (n : ℕ) (property : Property) → other ≡ unit
     → properties ≡ other.properties → n < length unit.properties
     → slice_get unit.properties n ≡ Some (get_or properties n property)
 property_here unit other properties n property same listed within =
     slice_get-get_or unit.properties n property within
     ∙ ap (λ (list : List Property). Some (get_or list n property))
-    (sym (listed ∙ ap (λ (one : Course). one.properties) same))
+    (sym (listed ∙ ap (λ (one : Unit). one.properties) same))
 
 -- The same, of the property that is found there.
-pub shared_here : (unit other : Course) (properties : List Property) (store : Store) (n : ℕ) (uri : List ℕ) (property : Property)
+pub shared_here : (unit other : Unit) (properties : List Property) (store : Store) (n : ℕ) (uri : List ℕ) (property : Property)
     (personal : Bool) → IsValid unit → Serves store unit → uri_at unit.properties n ≡ Some uri → other ≡ unit
     → properties ≡ other.properties → n < length unit.properties → is_personal (get_or properties n property).kind ≡ personal
     → IsShared unit store n uri personal
@@ -75,7 +75,7 @@ kind_suits LocRole = refl
 kind_suits GlobPers = refl
 kind_suits Glob = refl
 
-module _ (unit : Course) (store : Store) (n : ℕ) (uri : List ℕ) (personal : Bool)
+module _ (unit : Unit) (store : Store) (n : ℕ) (uri : List ℕ) (personal : Bool)
     (shared : IsShared unit store n uri personal) where
   pub key_readable : (person : Option (List ℕ)) → is_some person ≡ personal → IsReadable store (key_at uri person)
   key_readable person given = record {
@@ -149,7 +149,7 @@ name_is rows p name is =
     by None = refl
     by (Some row) = refl
 
-module _ (unit : Course) (store : Store) (n : ℕ) (uri : List ℕ) (owner : Owner)
+module _ (unit : Unit) (store : Store) (n : ℕ) (uri : List ℕ) (owner : Owner)
     (shared : IsShared unit store n uri (is_person owner)) where
   -- What the store says of the owner's cell.
   pub said_for : (rows : List PersonRow) (name : Option (List ℕ)) → IsOwnerAmong (length rows) owner

@@ -14,7 +14,7 @@ use Rattle.ld_model.specs.declared.cell.CellName.TheVariants.{Prop, Vis, Member,
 use Rattle.ld_model.specs.declared.cell.Owner.{Owner}
 use Rattle.ld_model.specs.declared.cell.Owner.TheVariants.{Run, Person}
 use Rattle.ld_model.specs.declared.property.Property.{Property}
-use Rattle.ld_model.specs.declared.unit.Unit.{Unit as Course}
+use Rattle.ld_model.specs.declared.unit.Unit.{Unit}
 use Rattle.ld_expr.specs.Owners.{is_global, of_person}
 use Rattle.ld_expr.specs.Seen.{property_cell}
 use Rattle.ld_roles.specs.Roster.{PersonState}
@@ -40,7 +40,7 @@ none_before p is = absurd (omega (arith, ltb-true p 0 is))
 
 -- ---- property by property
 
-module _ (unit : Course) (store : GlobalValues) (s : RunState) where
+module _ (unit : Unit) (store : GlobalValues) (s : RunState) where
   pub no_property : HasTaken unit store (is_value_before 0) s s
   no_property = taken_none unit store (is_value_before 0) s none
     where
@@ -139,7 +139,7 @@ either_of : (a b c : Bool) → (a && (b || c)) ≡ ((a && b) || (a && c))
 either_of true b c = refl
 either_of false b c = refl
 
-module _ (unit : Course) (store : GlobalValues) (s : RunState) (n : ℕ) where
+module _ (unit : Unit) (store : GlobalValues) (s : RunState) (n : ℕ) where
   pub no_person : HasTaken unit store (is_own_value_before n 0) s s
   no_person = taken_none unit store (is_own_value_before n 0) s none
     where
@@ -187,7 +187,7 @@ module _ (unit : Course) (store : GlobalValues) (s : RunState) (n : ℕ) where
       both Now = refl
       both Roster = refl
 
-module _ (unit : Course) (store : Store) (s t : RunState) (n : ℕ) (uri : List ℕ) (personal : Bool)
+module _ (unit : Unit) (store : Store) (s t : RunState) (n : ℕ) (uri : List ℕ) (personal : Bool)
     (shared : IsShared unit store n uri personal) where
   -- Of the property's cells the store says something only for those owners of whom it has a value.
   asked_of : (p : ℕ) (owner : Owner) → p ≡ n → IsSome (store_says unit (values_of store) s.persons (property_cell p owner))
@@ -213,7 +213,7 @@ module _ (unit : Course) (store : Store) (s t : RunState) (n : ℕ) (uri : List 
       ∙ sym (is p owner)
 
 -- The run's cell is all that a property has which is not one of persons.
-pub run_value : (unit : Course) (store : Store) (s t : RunState) (n : ℕ) (uri : List ℕ) → IsShared unit store n uri false
+pub run_value : (unit : Unit) (store : Store) (s t : RunState) (n : ℕ) (uri : List ℕ) → IsShared unit store n uri false
     → HasTaken unit (values_of store) (λ c. same_cell c (property_cell n Run)) s t
     → HasTaken unit (values_of store) (is_value_of n) s t
 run_value unit store s t n uri shared taken =
@@ -239,7 +239,7 @@ run_value unit store s t n uri shared taken =
     same Roster some = refl
 
 -- The cells of all persons are all that a property of persons has.
-pub all_persons : (unit : Course) (store : Store) (s t : RunState) (n : ℕ) (uri : List ℕ) → IsShared unit store n uri true
+pub all_persons : (unit : Unit) (store : Store) (s t : RunState) (n : ℕ) (uri : List ℕ) → IsShared unit store n uri true
     → (k : ℕ) → length s.persons ≤ k → HasTaken unit (values_of store) (is_own_value_before n k) s t
     → HasTaken unit (values_of store) (is_value_of n) s t
 all_persons unit store s t n uri shared k far taken =

@@ -13,7 +13,7 @@ use Rattle.ld_model.specs.Counting.{each_numbered, each_numbered_from}
 use Rattle.ld_model.specs.Roles.{roles_of}
 use Rattle.ld_model.specs.declared.property.Property.{Property}
 use Rattle.ld_model.specs.declared.unit.Level.TheVariants.{B}
-use Rattle.ld_model.specs.declared.unit.Unit.{Unit as Course}
+use Rattle.ld_model.specs.declared.unit.Unit.{Unit}
 use Rattle.ld_walk.specs.CommonParts.{optional_reference_parts}
 use Rattle.ld_walk.specs.ExpressionParts.{plain_part}
 use Rattle.ld_walk.specs.Parts.{What, Declared, Declares, Shares, Types, Part}
@@ -116,14 +116,14 @@ of_properties at n (property ∷ properties) =
 -- ---- the unit
 
 -- The uris of properties stand in the middle of those of all parts.
-abbrev listed : Course → List Part
+abbrev listed : Unit → List Part
 listed unit = each_numbered (property_parts (root file.Properties)) unit.properties
 
-among_middle : (unit : Course) → all_differ (uris (middle_parts unit)) ≡ true → all_differ (uris (listed unit)) ≡ true
+among_middle : (unit : Unit) → all_differ (uris (middle_parts unit)) ≡ true → all_differ (uris (listed unit)) ≡ true
 unfolding middle_parts
 among_middle unit differ = differ_first (uris (listed unit)) _ (rw (both_uris (listed unit) _) at differ)
 
-among_all : (unit : Course) → all_differ (uris (parts_of unit)) ≡ true → all_differ (uris (middle_parts unit)) ≡ true
+among_all : (unit : Unit) → all_differ (uris (parts_of unit)) ≡ true → all_differ (uris (middle_parts unit)) ≡ true
 unfolding parts_of
 among_all unit differ =
     let roles = map (role_part (root file.Roles)) (roles_of unit) in
@@ -131,13 +131,13 @@ among_all unit differ =
     (rw (both_uris (middle_parts unit) _) at
     (differ_second (uris roles) _ (rw (both_uris roles _) at differ)))
 
-all_parts : (unit : Course) → IsValid unit → all_differ (uris (parts_of unit)) ≡ true
+all_parts : (unit : Unit) → IsValid unit → all_differ (uris (parts_of unit)) ≡ true
 unfolding check_faults text_faults
 all_parts unit valid =
     let none : text_faults (parts_of unit) ≡ [] = none_before _ _ valid.faultless in
     unrepeated_differ (parts_of unit) (search (none_behind, none))
 
-pub uris_differ : (unit : Course) → IsValid unit → all_differ (uris_of unit.properties) ≡ true
+pub uris_differ : (unit : Unit) → IsValid unit → all_differ (uris_of unit.properties) ≡ true
 uris_differ unit valid =
     rw (of_properties (root file.Properties) 0 unit.properties) at (among_middle unit (among_all unit (all_parts unit valid)))
 
@@ -165,5 +165,5 @@ apart [] differ = tt
 apart (x ∷ xs) differ =
     (each_other x xs (not_listed x xs differ), apart xs (and_parts (not (list_any (bytes_eq x) xs)) (all_differ xs) differ).1)
 
-pub uris_distinct : (unit : Course) → IsValid unit → IsDistinct bytes_eq (uris_of unit.properties)
+pub uris_distinct : (unit : Unit) → IsValid unit → IsDistinct bytes_eq (uris_of unit.properties)
 uris_distinct unit valid = apart (uris_of unit.properties) (uris_differ unit valid)

@@ -6,7 +6,7 @@ use Rattle.ld_model.specs.Counting.{each_numbered}
 use Rattle.ld_model.specs.Properties.{is_personal}
 use Rattle.ld_model.specs.declared.cell.Owner.TheVariants.{Run}
 use Rattle.ld_model.specs.declared.property.Property.{Property}
-use Rattle.ld_model.specs.declared.unit.Unit.{Unit as Course}
+use Rattle.ld_model.specs.declared.unit.Unit.{Unit}
 use Rattle.ld_expr.specs.Lookup.{list_from}
 use Rattle.ld_expr.specs.Owners.{of_person}
 use Rattle.ld_expr.specs.Seen.{property_cell}
@@ -62,5 +62,5 @@ others_of_property store s n property =
     list_from (others_of_uri store s n (is_personal property.kind)) property.uri
 
 -- All values that differ, in the order of the properties, and of each in the order of the persons.
-abbrev pub other_values : GlobalValues → Course → RunState → List GivenValue
+abbrev pub other_values : GlobalValues → Unit → RunState → List GivenValue
 other_values store unit s = each_numbered (others_of_property store s) unit.properties

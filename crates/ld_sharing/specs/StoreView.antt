@@ -5,7 +5,7 @@ use Rattle.ld_model.specs.Properties.{initial_of, limits_by}
 use Rattle.ld_model.specs.declared.property.Property.{Property}
 use Rattle.ld_model.specs.declared.property.PropertyKind.{PropertyKind}
 use Rattle.ld_model.specs.declared.property.PropertyKind.TheVariants as kind
-use Rattle.ld_model.specs.declared.unit.Unit.{Unit as Course}
+use Rattle.ld_model.specs.declared.unit.Unit.{Unit}
 use Rattle.ld_globals.specs.Declarations.{Declaration}
 use Rattle.ld_globals.specs.Store.{Store, declared_at, key_at, value_at}
 use Rattle.ld_globals.specs.declared.declared.GlobalKind.{GlobalKind}
@@ -39,5 +39,5 @@ IsDeclared store property =
     (uri : List ℕ) → property.uri ≡ Some uri → declared_at store uri ≡ Some (declaration_by property)
 
 -- The store declares the uri of each of the unit's properties that has one, with its contents.
-abbrev pub Serves : Store → Course → Type 0
+abbrev pub Serves : Store → Unit → Type 0
 Serves store unit = AllByRecursion (IsDeclared store) unit.properties

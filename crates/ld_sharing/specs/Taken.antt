@@ -5,14 +5,14 @@ use Rattle.ld_model.specs.declared.cell.CellName.{CellName}
 use Rattle.ld_model.specs.declared.cell.CellName.TheVariants.{Prop}
 use Rattle.ld_model.specs.declared.cell.Owner.{Owner}
 use Rattle.ld_model.specs.declared.cell.Owner.TheVariants.{Run, Person}
-use Rattle.ld_model.specs.declared.unit.Unit.{Unit as Course}
+use Rattle.ld_model.specs.declared.unit.Unit.{Unit}
 use Rattle.ld_state.specs.GlobalValues.{GlobalValues}
 use Rattle.ld_state.specs.RunState.{RunState}
 use Rattle.ld_sharing.specs.Fitting.{fits_cell}
 use Rattle.ld_sharing.specs.Globals.{store_says}
 
 -- The state, in which each cell of a global property that passes the test has the store's value.
-abbrev pub taking_where : (CellName → Bool) → Course → GlobalValues → RunState → RunState
+abbrev pub taking_where : (CellName → Bool) → Unit → GlobalValues → RunState → RunState
 taking_where test unit store s = record s {
   cells =
       λ cell. if test cell then unwrap_or (store_says unit store s.persons cell) (s.cells cell)
@@ -20,7 +20,7 @@ taking_where test unit store s = record s {
 }
 
 -- The cells that pass the test have the store's values, which fit, and all else is as before.
-pub record HasTaken (unit : Course) (store : GlobalValues) (test : CellName → Bool) (old new : RunState) : Type 0 where
+pub record HasTaken (unit : Unit) (store : GlobalValues) (test : CellName → Bool) (old new : RunState) : Type 0 where
   pub run : new ≡ taking_where test unit store old
   pub fitting :
       (cell : CellName) (value : Option Datum) → test cell ≡ true

@@ -4,7 +4,7 @@ use Rattle.std.specs.List.{AllByRecursion, fold}
 use Rattle.std.specs.Option.{option_eq}
 use Rattle.std.specs.Str.{bytes_eq}
 use Rattle.ld_globals.specs.Store.{Store, IsWritable, key_at}
-use Rattle.ld_model.specs.declared.unit.Unit.{Unit as Course}
+use Rattle.ld_model.specs.declared.unit.Unit.{Unit}
 use Rattle.ld_state.specs.GlobalValues.{GlobalValues}
 use Rattle.ld_state.specs.RunState.{RunState}
 use Rattle.ld_value.specs.Datum.{Datum, datum_of}
@@ -27,7 +27,7 @@ IsWritableTo store write = IsWritable store (key_at write.uri.now.bytes write.pe
 
 -- By these writes the store takes the values of the run; there is room for them, and each is one that the
 -- store may take.
-pub record AreWritesOf (unit : Course) (s : RunState) (store : Store) (writes : List Write) : Type 0 where
+pub record AreWritesOf (unit : Unit) (s : RunState) (store : Store) (writes : List Write) : Type 0 where
   pub room : length writes ≤ store.spare
   pub writable : AllByRecursion (IsWritableTo store) writes
   pub given : fold written_by (values_of store) writes ≡ giving_back unit s (values_of store)

@@ -2,7 +2,7 @@
 ghost use Rattle.std.specs.Prelude.{◌≡◌, ◌<◌, ◌++◌, ℕ, List, Some, length, map, option_copied, slice_get, true, IfOk, OnOk};
 ghost use Rattle.ld_globals.specs.Answers.{key_given, meaning};
 ghost use Rattle.ld_globals.specs.Store.{KeepsWrites, key_at};
-ghost use Rattle.ld_model.specs.declared.unit.Unit.{Unit as Course};
+ghost use Rattle.ld_model.specs.declared.unit.Unit.{Unit};
 ghost use Rattle.ld_expr.specs.Lookup.{list_from};
 ghost use Rattle.ld_expr.specs.Owners.{of_person};
 ghost use Rattle.ld_expr.specs.Seen.{property_cell};
@@ -66,9 +66,9 @@ pub fn prepare<'u, L: Ledger>(
 
 /// Makes the writes. It takes no memory.
 pub fn give_back(globals: &mut Globals, writes: Vec<Write<'_>>)
-    requires writes { (unit : Course) × (s : RunState)
+    requires writes { (unit : Unit) × (s : RunState)
         × AreWritesOf unit s globals.old writes.items }
-    ensures values { (unit : Course) (s : RunState)
+    ensures values { (unit : Unit) (s : RunState)
         → AreWritesOf unit s globals.old writes.entry.items
         → values_of globals.new ≡ giving_back unit s (values_of globals.old) }
     ensures declared { globals.new.declared ≡ globals.old.declared }

@@ -6,7 +6,7 @@ use Rattle.ld_model.specs.declared.cell.CellName.{CellName}
 use Rattle.ld_model.specs.declared.cell.CellName.TheVariants.{Prop, Vis, Member, Chosen, Opened, ActOpened, Started, Mark, Now, Roster}
 use Rattle.ld_model.specs.declared.cell.Owner.{Owner}
 use Rattle.ld_model.specs.declared.cell.Owner.TheVariants.{Run, Person}
-use Rattle.ld_model.specs.declared.unit.Unit.{Unit as Course}
+use Rattle.ld_model.specs.declared.unit.Unit.{Unit}
 use Rattle.ld_expr.specs.Seen.{Seen}
 use Rattle.ld_roles.specs.Roster.{Persons, is_member_in, newcomer, with_role, changed_at}
 use Rattle.ld_state.specs.RunCells.{begins_as, is_kept_by_run, is_kept_for_persons}
@@ -29,7 +29,7 @@ pub record RunState : Type 0 where
   pub cells : CellMap
 
 -- The value of a cell. What `Member` and `Roster` name follows from the persons.
-unfoldable pub cell_of : Course → RunState → CellName → Option Datum
+unfoldable pub cell_of : Unit → RunState → CellName → Option Datum
 cell_of unit s (Member r p) = Some (truth_datum (is_member_in unit s.persons r.0 p.0))
 cell_of unit s Roster = Some (number_datum (pos (length s.persons)))
 cell_of unit s (Prop p owner) = s.cells (Prop p owner)
@@ -42,7 +42,7 @@ cell_of unit s (Mark r owner) = s.cells (Mark r owner)
 cell_of unit s Now = s.cells Now
 
 -- What is seen of the run: how many persons it has, and the value of each cell.
-abbrev pub seen_in : Course → RunState → Seen
+abbrev pub seen_in : Unit → RunState → Seen
 seen_in unit s = record { persons = length s.persons; value = cell_of unit s }
 
 -- The state after the cell got the value.
@@ -50,7 +50,7 @@ abbrev pub with_cell : RunState → CellName → Option Datum → RunState
 with_cell s name value = record s { cells = put_cell s.cells name value }
 
 -- The state of a run with so many seats that is made at this moment.
-abbrev pub made_at : ℕ → Course → GlobalValues → ℤ → RunState
+abbrev pub made_at : ℕ → Unit → GlobalValues → ℤ → RunState
 made_at seats unit store moment = record {
   seats = seats;
   persons = [];
@@ -79,11 +79,11 @@ is_cell_of p Now = false
 is_cell_of p Roster = false
 
 -- The cell is one of which a value is kept for the person of this number.
-abbrev pub is_kept_for : Course → ℕ → CellName → Bool
+abbrev pub is_kept_for : Unit → ℕ → CellName → Bool
 is_kept_for unit p cell = is_cell_of p cell && is_kept_for_persons unit cell
 
 -- The person of this name joins, last of all, with new cells.
-abbrev pub joined : Course → GlobalValues → RunState → ℤ → List ℕ → RunState
+abbrev pub joined : Unit → GlobalValues → RunState → ℤ → List ℕ → RunState
 joined unit store s moment name = record {
   seats = s.seats;
   persons = s.persons ++ newcomer name ∷ [];

@@ -8,7 +8,7 @@ use Rattle.ld_cells.specs.Stored.{Kept, held_at}
 use Rattle.ld_model.specs.Cells.{CellMap}
 use Rattle.ld_model.specs.declared.cell.CellName.{CellName}
 use Rattle.ld_model.specs.declared.cell.CellName.TheVariants.{Prop, Vis, Member, Chosen, Opened, ActOpened, Started, Mark, Now, Roster}
-use Rattle.ld_model.specs.declared.unit.Unit.{Unit as Course}
+use Rattle.ld_model.specs.declared.unit.Unit.{Unit}
 use Rattle.ld_expr.specs.Seen.{member_cell}
 use Rattle.ld_roles.specs.Kept.{PersonRow, persons_of}
 use Rattle.ld_roles.specs.Membership.{is_member_among}
@@ -111,7 +111,7 @@ is_following Now = false
 -- ---- what is always so
 
 -- Cells and roles are those of the unit.
-pub record IsStateOf (unit : Course) (s : StateView) : Type 0 where
+pub record IsStateOf (unit : Unit) (s : StateView) : Type 0 where
   pub layout : s.layout ≡ layout_of unit
   pub roles : s.roles ≡ role_bounds unit
 

@@ -1,7 +1,7 @@
 //! The state of a run.
 ghost use Rattle.std.specs.Prelude.{◌≡◌, ◌<◌, ◌≤◌, ◌+◌, ◌++◌, ◌∷◌, [], length, true, false, Some, None, Option, option_map, IfOk, IfSome, OnOk, OnErr, IsOk, IsSome, vec_len, vec_capacity};
 ghost use Rattle.ld_cells.specs.Stored.{cells_of, held};
-ghost use Rattle.ld_model.specs.declared.unit.Unit.{Unit as Course};
+ghost use Rattle.ld_model.specs.declared.unit.Unit.{Unit};
 ghost use Rattle.ld_roles.specs.Kept.{persons_of};
 ghost use Rattle.ld_roles.specs.Persons.{holds_role};
 ghost use Rattle.ld_roles.specs.Refusals.{assign_fault, enrol_fault};
@@ -207,7 +207,7 @@ impl State {
         role: RoleNo,
         changed: &mut Vec<u32>,
     ) -> Result<(), NoMemory>
-        requires unit { (unit : Course) × IsStateOf unit self.old }
+        requires unit { (unit : Unit) × IsStateOf unit self.old }
         requires person { person.0 < length self.old.rows }
         requires role { role.0 < length self.old.roles }
         requires may { assign_fault self.old.roles (persons_of self.old.rows) role.0 person.0
@@ -241,7 +241,7 @@ impl State {
         role: RoleNo,
         changed: &mut Vec<u32>,
     ) -> Result<(), NoMemory>
-        requires unit { (unit : Course) × IsStateOf unit self.old }
+        requires unit { (unit : Unit) × IsStateOf unit self.old }
         requires person { person.0 < length self.old.rows }
         requires role { role.0 < length self.old.roles }
         requires held { holds_role (persons_of self.old.rows) role.0 person.0 ≡ true }

@@ -9,19 +9,19 @@ use Rattle.ld_json.specs.declared.code.Code.{Code}
 use Rattle.ld_json.specs.declared.code.Code.TheVariants.{Absent, TooBig, NotJson}
 use Rattle.ld_json.specs.declared.docs.Docs.{Docs}
 use Rattle.ld_json.specs.declared.file.FileNo.{FileNo}
-use Rattle.ld_json.specs.declared.file.FileNo.TheVariants.{Roles, Properties, Environments, Activities, Unit, Conditions}
+use Rattle.ld_json.specs.declared.file.FileNo.TheVariants.{Roles, Properties, Environments, Activities, Unit as UnitFile, Conditions}
 use Rattle.ld_json.specs.Fault.{Told}
 use Rattle.ld_json.specs.Files.{file_name}
 use Rattle.ld_formats.specs.Units.{unit}
 use Rattle.ld_json.specs.Json.{json_of}
-use Rattle.ld_model.specs.declared.unit.Unit.{Unit as Course}
+use Rattle.ld_model.specs.declared.unit.Unit.{Unit}
 use Rattle.ld_refs.specs.Checks.{check_faults}
 
 -- ---- the files
 
 -- The six files in their order.
 abbrev pub all_files : List FileNo
-all_files = Roles ∷ Properties ∷ Environments ∷ Activities ∷ Unit ∷ Conditions ∷ []
+all_files = Roles ∷ Properties ∷ Environments ∷ Activities ∷ UnitFile ∷ Conditions ∷ []
 
 -- The bytes of each of the six files, if it is there.
 abbrev pub Held : Type 0
@@ -37,7 +37,7 @@ is_required Roles = true
 is_required Properties = false
 is_required Environments = false
 is_required Activities = true
-is_required Unit = true
+is_required UnitFile = true
 is_required Conditions = false
 
 -- A fault of a whole file.
@@ -78,7 +78,7 @@ docs_in held = record {
   properties = held Properties >>= json_of;
   environments = held Environments >>= json_of;
   activities = held Activities >>= json_of;
-  unit = held Unit >>= json_of;
+  unit = held UnitFile >>= json_of;
   conditions = held Conditions >>= json_of;
 }
 
@@ -89,11 +89,11 @@ unfoldable pub shape_faults : Docs → List Told
 shape_faults docs = (unit.reading docs).faults
 
 -- The unit for which the documents stand, whether or not a check finds a fault in it.
-unfoldable pub unit_of : Docs → Option Course
+unfoldable pub unit_of : Docs → Option Unit
 unit_of docs = (unit.reading docs).value
 
 -- What the checks find in the unit, if there is one.
-abbrev pub faults_of_unit : Option Course → List Told
+abbrev pub faults_of_unit : Option Unit → List Told
 faults_of_unit None = []
 faults_of_unit (Some unit) = check_faults unit
 
@@ -111,5 +111,5 @@ folder_faults files folder =
     ++ document_faults (docs_in (held_by_folder files folder)))
 
 -- The unit for which the documents of the folder stand, if they stand for one.
-unfoldable pub unit_of_folder : Files → List ℕ → Option Course
+unfoldable pub unit_of_folder : Files → List ℕ → Option Unit
 unit_of_folder files folder = unit_of (docs_in (held_by_folder files folder))

@@ -1,8 +1,8 @@
 -- What a call of the program is to have done when it ends.
-use Rattle.std.specs.Prelude.{ℕ, List, [], ◌∷◌, ◌≡◌, ◌⊎◌, Option, Some, None, Result, Ok, Err}
+use Rattle.std.specs.Prelude.{ℕ, List, [], ◌∷◌, ◌≡◌, ◌⊎◌, Option, Some, None, Result, Ok, Err, ⊤}
 use Rattle.ld_base.specs.Outside.{Files, then_piece, AddsPrefix}
 use Rattle.ld_json.specs.Fault.{Told}
-use Rattle.ld_model.specs.declared.unit.Unit.{Unit as Course}
+use Rattle.ld_model.specs.declared.unit.Unit.{Unit}
 use Rattle.ld_world.specs.Published.{RefusedFolder, published, refused_line}
 use Rattle.ld_world.specs.World.{first_world}
 use Rattle.ld_top.specs.Answering.{AnsweredAll, AnsweredTaken, AnsweredCut}
@@ -11,22 +11,22 @@ use Rattle.ld_top.specs.InFolder.{IsReading, WhereTold}
 -- ---- the folders
 
 -- These are the readings of the folders, one for each.
-abbrev pub AreReadings : Files → List (List ℕ) → List (Result Course Told) → Type 0
-AreReadings files [] [] = Unit {0}
+abbrev pub AreReadings : Files → List (List ℕ) → List (Result Unit Told) → Type 0
+AreReadings files [] [] = ⊤
 AreReadings files [] (reading ∷ readings) = ⊥
 AreReadings files (folder ∷ folders) [] = ⊥
 AreReadings files (folder ∷ folders) (reading ∷ readings) =
     IsReading files folder reading × AreReadings files folders readings
 
 -- The units of the folders are published in their order, or the first folder that is refused is this one.
-abbrev pub Publishes : Files → List (List ℕ) → Result (List Course) RefusedFolder → Type 0
+abbrev pub Publishes : Files → List (List ℕ) → Result (List Unit) RefusedFolder → Type 0
 Publishes files folders result =
-    (readings : List (Result Course Told)) × AreReadings files folders readings × (published readings ≡ result)
+    (readings : List (Result Unit Told)) × AreReadings files folders readings × (published readings ≡ result)
 
 -- The folders' units are published, and from their world on this was done.
-abbrev pub FromUnits : Option Files → List (List ℕ) → (List Course → Type 0) → Type 0
+abbrev pub FromUnits : Option Files → List (List ℕ) → (List Unit → Type 0) → Type 0
 FromUnits files folders Done =
-    (units : List Course) × WhereTold files (λ told. Publishes told folders (Ok units)) × Done units
+    (units : List Unit) × WhereTold files (λ told. Publishes told folders (Ok units)) × Done units
 
 -- A folder is refused, and of the line that tells which, and for what, this was done.
 abbrev pub FromRefusal : Option Files → List (List ℕ) → (List ℕ → Type 0) → Type 0

@@ -4,7 +4,7 @@ use Rattle.std.specs.List.{list_all}
 use Rattle.std.specs.Option.{option_map}
 use Rattle.ld_base.specs.Maybe.{◌>>=◌, provided}
 use Rattle.ld_model.specs.declared.property.Property.{Property}
-use Rattle.ld_model.specs.declared.unit.Unit.{Unit as Course}
+use Rattle.ld_model.specs.declared.unit.Unit.{Unit}
 use Rattle.ld_model.specs.Expressions.{ListOperator, adding, multiplying, PairOperator, subtracting, dividing, TermOf, TermsOf, property_term, literal_term, list_term, pair_term, now_term, opened_term, started_term, no_term, term_and}
 use Rattle.ld_model.specs.Properties.{is_personal}
 use Rattle.ld_value.specs.declared.kind.Kind.{Kind}
@@ -45,12 +45,12 @@ is_ordered Duration = true
 -- ---- properties
 
 -- The property, if what is named is one.
-abbrev pub property_at : Course → Named → Option Property
+abbrev pub property_at : Unit → Named → Option Property
 property_at unit (named.Prop p) = slice_get unit.properties p.0
 property_at unit _ = None
 
 -- The property that the identifier names.
-abbrev pub property_named : Course → NameTable → List ℕ → Option Property
+abbrev pub property_named : Unit → NameTable → List ℕ → Option Property
 property_named unit names id = named_by names id >>= property_at unit
 
 -- Which property an identifier names.

@@ -3,7 +3,7 @@ use Rattle.std.specs.Prelude.{ℕ, List, [], ◌++◌, Option, Some, None, Bool,
 use Rattle.ld_json.specs.declared.code.Code.TheVariants.{BadType}
 use Rattle.ld_json.specs.Fault.{Told}
 use Rattle.ld_model.specs.declared.property.Property.{Property}
-use Rattle.ld_model.specs.declared.unit.Unit.{Unit as Course}
+use Rattle.ld_model.specs.declared.unit.Unit.{Unit}
 use Rattle.ld_model.specs.Expressions.{TermOf}
 use Rattle.ld_names.specs.Names.{NameTable}
 use Rattle.ld_walk.specs.Parts.{Typed, Declared, ValueOf, OfRun, Changed, Tested, What, Types, Part}
@@ -48,5 +48,5 @@ abbrev pub type_faults_of : Find → Part → List Told
 type_faults_of find part = types_in find part.at part.what
 
 -- The faults of types in all parts of the unit, in document order.
-abbrev pub type_faults : Course → NameTable → List Part → List Told
+abbrev pub type_faults : Unit → NameTable → List Part → List Told
 type_faults unit names parts = flat_map (type_faults_of (property_named unit names)) parts

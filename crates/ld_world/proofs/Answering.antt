@@ -7,7 +7,7 @@ use Rattle.std.specs.Str.{bytes_eq}
 use Rattle.ld_lines.specs.declared.command.RunCommand.{RunCommand}
 use Rattle.ld_lines.specs.declared.line.Line.{Line}
 use Rattle.ld_lines.specs.declared.line.Line.TheVariants.{Create, OfRun}
-use Rattle.ld_model.specs.declared.unit.Unit.{Unit as Course}
+use Rattle.ld_model.specs.declared.unit.Unit.{Unit}
 use Rattle.ld_value.specs.declared.moment.Moment.{Moment}
 use Rattle.ld_roles.specs.declared.limit.TheConstants.{SEATS}
 use Rattle.ld_globals.specs.Store.{Store}
@@ -60,7 +60,7 @@ pub unknown_unit : (w : WorldState) (moment : Moment) (name id : List ℕ) → u
 unfolding world_step
 unknown_unit w moment name id none = rw none refl
 
-pub run_exists : (w : WorldState) (moment : Moment) (name id : List ℕ) (unit : Course) → unit_named w.units id ≡ Some unit
+pub run_exists : (w : WorldState) (moment : Moment) (name id : List ℕ) (unit : Unit) → unit_named w.units id ≡ Some unit
     → is_some (run_named w.runs name) ≡ true → world_step w (Some (Create moment name id)) ≡ Err RunExists
 unfolding world_step
 run_exists w moment name id unit found there = rw (found, there) refl
@@ -69,14 +69,14 @@ run_exists w moment name id unit found there = rw (found, there) refl
 abbrev with_new : WorldState → RunOf → DoneLine
 with_new w run = record { deed = made; world = record w { runs = w.runs ++ run ∷ [] } }
 
-pub run_made : (w : WorldState) (moment : Moment) (name id : List ℕ) (unit : Course) → unit_named w.units id ≡ Some unit
+pub run_made : (w : WorldState) (moment : Moment) (name id : List ℕ) (unit : Unit) → unit_named w.units id ≡ Some unit
     → is_some (run_named w.runs name) ≡ false
     → world_step w (Some (Create moment name id)) ≡ Ok (with_new w (record { name = name; unit = unit; state = made_at w.seats unit w.store moment.0 }))
 unfolding world_step
 run_made w moment name id unit found new = rw (found, new) refl
 
 -- A run that was put behind the others.
-pub made_run : (units : List Course) (store : Store) (runs more : List (List ℕ × RunView)) (moment : Moment) (name id : List ℕ) (unit : Course) (run : RunView) (text : List ℕ)
+pub made_run : (units : List Unit) (store : Store) (runs more : List (List ℕ × RunView)) (moment : Moment) (name id : List ℕ) (unit : Unit) (run : RunView) (text : List ℕ)
     → unit_named units id ≡ Some unit → is_some (lookup (bytes_eq name) runs) ≡ false → run.unit ≡ unit
     → run_of run.state ≡ made_at SEATS unit (values_of store) moment.0 → more ≡ runs ++ (name, run) ∷ [] → text ≡ codes "ok create\n"
     → AnswersLine (world_with units store runs) (Some (Create moment name id)) text (world_with units store more)
@@ -97,7 +97,7 @@ unfolding world_step
 unknown_run w moment name command none = rw none refl
 
 -- What a line of a run does, from what its command does.
-abbrev line_from : WorldState → List ℕ → Course → Result DoneCommand Refusal → Result DoneLine Refusal
+abbrev line_from : WorldState → List ℕ → Unit → Result DoneCommand Refusal → Result DoneLine Refusal
 line_from w name unit r = r >>= λ d. Ok (record { deed = ran unit d; world = with_run w name d })
 
 found_step : (w : WorldState) (moment : Moment) (name : List ℕ) (command : RunCommand) (run : RunOf) → run_named w.runs name ≡ Some run
@@ -105,7 +105,7 @@ found_step : (w : WorldState) (moment : Moment) (name : List ℕ) (command : Run
 unfolding world_step
 found_step w moment name command run found = rw found refl
 
-module _ (units : List Course) (store left : Store) (runs : List (List ℕ × RunView)) (name : List ℕ) (run new : RunView)
+module _ (units : List Unit) (store left : Store) (runs : List (List ℕ × RunView)) (name : List ℕ) (run new : RunView)
     (distinct : IsDistinct bytes_eq (keys_of runs)) (found : lookup (bytes_eq name) runs ≡ Some run) (whose : new.unit ≡ run.unit) where
   -- The world before the line.
   abbrev before : WorldState

@@ -1,11 +1,12 @@
 -- How a line that asks the store for something is answered.
+use Rattle.std.specs.Prelude.{⊤}
 use Rattle.std.proofs.Common.{Bor, IfSome, option_copied, ◌≡◌, ◌≢◌, ℕ, List, [], ◌∷◌, ◌++◌, Option, None, Some, is_some, option_map, option_and_then, Result, Ok, Err, Bool, true, false, not, if◌then◌else◌, refl, sym, ap, ◌∙◌, subst, codes, ok_or, append_assoc}
 use Rattle.std.proofs.lemmas.Bool.{and_parts}
 use Rattle.ld_lines.specs.declared.line.Line.TheVariants.{GlobalSet, GlobalGet}
 use Rattle.ld_model.specs.declared.property.Property.{Property}
 use Rattle.ld_model.specs.declared.property.PropertyKind.{PropertyKind}
 use Rattle.ld_model.specs.declared.property.PropertyKind.TheVariants as kind
-use Rattle.ld_model.specs.declared.unit.Unit.{Unit as Course}
+use Rattle.ld_model.specs.declared.unit.Unit.{Unit}
 use Rattle.ld_model.specs.Properties.{is_personal}
 use Rattle.ld_value.proofs.Laws.{HasText-is_value}
 use Rattle.ld_value.specs.Datum.{Datum, datum_of}
@@ -36,7 +37,7 @@ use Rattle.ld_world.proofs.Setting.{put_values}
 -- ---- what the store refuses
 
 -- A person suits the property exactly where one suits its declaration.
-abbrev allowed : Bool → Result (Unit {0}) Refusal
+abbrev allowed : Bool → Result ⊤ Refusal
 allowed true = Ok tt
 allowed false = Err NotAllowed
 
@@ -120,7 +121,7 @@ module _ (w : WorldState) (store : Store) (is_of : IsStoreOf w.units store) (uri
 
 -- ---- lines
 
-module _ (units : List Course) (store : Store) (runs : List (List ℕ × RunView)) (is_of : IsStoreOf units store) (moment : Moment) (uri : List ℕ) (person : Option (List ℕ)) where
+module _ (units : List Unit) (store : Store) (runs : List (List ℕ × RunView)) (is_of : IsStoreOf units store) (moment : Moment) (uri : List ℕ) (person : Option (List ℕ)) where
   abbrev before : WorldState
   before = world_with units store runs
 

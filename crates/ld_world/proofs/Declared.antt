@@ -9,7 +9,7 @@ use Rattle.std.specs.Str.{bytes_eq}
 use Rattle.ld_base.specs.Maybe.{◌>>=◌}
 use Rattle.ld_model.specs.Properties.{initial_of}
 use Rattle.ld_model.specs.declared.property.Property.{Property}
-use Rattle.ld_model.specs.declared.unit.Unit.{Unit as Course}
+use Rattle.ld_model.specs.declared.unit.Unit.{Unit}
 use Rattle.ld_globals.specs.Declarations.{Declaration}
 use Rattle.ld_globals.specs.Store.{Store, Write, declare_in, declared_at, declared_in, key_at, last_write, value_after, with_declared}
 use Rattle.ld_expr.specs.Lookup.{is_some_and}
@@ -79,7 +79,7 @@ pairs_found uri (property ∷ properties) = by property.uri (pairs_found uri pro
     by (Some other) rest = inner (bytes_eq uri other) rest
 
 -- What all units declare, once there is one more.
-one_more : (units : List Course) (unit : Course) (uri : List ℕ)
+one_more : (units : List Unit) (unit : Unit) (uri : List ℕ)
     → declared_by (units ++ unit ∷ []) uri ≡ option_or (declared_by units uri) (property_with uri unit.properties)
 one_more units unit uri =
     let behind : flat_map (λ other. other.properties) (units ++ unit ∷ []) ≡ flat_map (λ other. other.properties) units ++ unit.properties =
@@ -92,7 +92,7 @@ mapped_or f (Some x) second = refl
 
 -- ---- the store once a unit is published
 
-module _ (units : List Course) (store : Store) (unit : Course)
+module _ (units : List Unit) (store : Store) (unit : Unit)
     (declares : (uri : List ℕ) → declared_at store uri ≡ option_map declaration_by (declared_by units uri)) where
   abbrev after : Store
   after = declare_in store (pairs_by unit.properties)

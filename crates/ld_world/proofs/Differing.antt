@@ -3,7 +3,7 @@ use Rattle.std.proofs.Common.{◌≡◌, ℕ, zero, suc, ◌+◌, ◌-◌, List,
 use Rattle.std.specs.List.{AllByRecursion}
 use Rattle.ld_base.specs.Maybe.{◌>>=◌}
 use Rattle.ld_model.specs.declared.property.Property.{Property}
-use Rattle.ld_model.specs.declared.unit.Unit.{Unit as Course}
+use Rattle.ld_model.specs.declared.unit.Unit.{Unit}
 use Rattle.ld_globals.specs.Store.{Agrees, Differs, IsFirstToDiffer, Store, declared_at}
 use Rattle.ld_expr.specs.Lookup.{is_some_and}
 use Rattle.ld_sharing.specs.StoreView.{declaration_by}
@@ -12,7 +12,7 @@ use Rattle.ld_world.specs.Published.{differing, differs_at, same_declaration}
 use Rattle.ld_world.specs.Declaring.{uri_property_number, pairs_by, pairs_with}
 use Rattle.ld_world.proofs.Alike.{alike}
 
-module _ (units : List Course) (store : Store)
+module _ (units : List Unit) (store : Store)
     (declares : (uri : List ℕ) → declared_at store uri ≡ option_map declaration_by (declared_by units uri)) where
   -- A pair that agrees with the store agrees with the units, and one that differs differs from them.
   agrees_so : (property : Property) (uri : List ℕ) → Agrees store (uri, declaration_by property)

@@ -4,7 +4,7 @@ use Rattle.std.proofs.lemmas.List.Folds.{find-append}
 use Rattle.std.proofs.lemmas.Slice.Eq.{bytes_eq-Decides}
 use Rattle.std.specs.Option.{option_or}
 use Rattle.std.specs.Str.{bytes_eq}
-use Rattle.ld_model.specs.declared.unit.Unit.{Unit as Course}
+use Rattle.ld_model.specs.declared.unit.Unit.{Unit}
 use Rattle.ld_lines.specs.declared.command.RunCommand.{RunCommand}
 use Rattle.ld_lines.specs.declared.line.Line.{Line}
 use Rattle.ld_lines.specs.declared.line.Line.TheVariants.{Create, OfRun, GlobalSet, GlobalGet}
@@ -116,7 +116,7 @@ own_line_steps w moment name command run found =
 -- ---- the line
 
 -- The reply and the state do not tell which store is left.
-block_alike : (unit : Course) (r t : Result DoneCommand Refusal) → but_for_store r ≡ but_for_store t → block_of unit r ≡ block_of unit t
+block_alike : (unit : Unit) (r t : Result DoneCommand Refusal) → but_for_store r ≡ but_for_store t → block_of unit r ≡ block_of unit t
 block_alike unit r t same = told r ∙ ap (block_of unit) same ∙ sym (told t)
   where
     told : (x : Result DoneCommand Refusal) → block_of unit x ≡ block_of unit (but_for_store x)

@@ -1,12 +1,13 @@
 -- A run never goes back in time, no reply is the block for want of memory, and so what is written tells which
 -- world is left.
+use Rattle.std.specs.Prelude.{⊤}
 use Rattle.std.proofs.Common.{◌≡◌, ◌≢◌, refl, sym, ap, ◌∙◌, subst, ℕ, ℤ, List, [], ◌∷◌, ◌++◌, get_or, nat_eq, codes, Option, Some, None, Result, Ok, Err, ok_or, Bool, true, false, ◌&&◌, is_some, int_lt, inl, inr}
 use Rattle.std.specs.Fmt.{digits}
 use Rattle.std.proofs.lemmas.Cmp.{nat_eq_equiv}
 use Rattle.std.proofs.lemmas.List.{append_cancel_left}
 use Rattle.ld_value.specs.Datum.{moment_datum}
 use Rattle.ld_model.specs.declared.cell.CellName.TheVariants.{Now}
-use Rattle.ld_model.specs.declared.unit.Unit.{Unit as Course}
+use Rattle.ld_model.specs.declared.unit.Unit.{Unit}
 use Rattle.ld_lines.specs.declared.command.RunCommand.{RunCommand}
 use Rattle.ld_lines.specs.declared.command.RunCommand.TheVariants.{Enrol, Assign, Drop, Start, Open, Complete, Set, Clear, Get, Tree, Outbox, Report, Tick}
 use Rattle.ld_lines.specs.declared.line.Line.{Line}
@@ -47,7 +48,7 @@ IsLater s moment = int_lt moment (last_moment s) ≡ false
 in_time_first : (s : RunState) (moment : ℤ) (next : Result Admitted Refusal) → Each (λ (_ : Admitted). IsLater s moment) (in_time s moment >> next)
 in_time_first s moment next = passes (int_lt moment (last_moment s)) (MomentBack (last_moment s)) next
 
-admitted_later : (unit : Course) (s : RunState) (moment : ℤ) (asked : RunCommand) → Each (λ (_ : Admitted). IsLater s moment) (admitted unit s moment asked)
+admitted_later : (unit : Unit) (s : RunState) (moment : ℤ) (asked : RunCommand) → Each (λ (_ : Admitted). IsLater s moment) (admitted unit s moment asked)
 unfolding admitted
 admitted_later unit s moment (Enrol person) = in_time_first s moment _
 admitted_later unit s moment (Assign person role) = in_time_first s moment _
@@ -82,7 +83,7 @@ now_untouched s t (shows_outbox p) fit = refl
 now_untouched s t reports fit = refl
 now_untouched s t ticks fit = refl
 
-settled_at : (unit : Course) (moment : ℤ) (b : Bool) (t : RunState) → IsAt moment t → Each (λ (x : Settlement). IsAt moment x.state) (settled b unit t)
+settled_at : (unit : Unit) (moment : ℤ) (b : Bool) (t : RunState) → IsAt moment t → Each (λ (x : Settlement). IsAt moment x.state) (settled b unit t)
 settled_at unit moment false t at = at
 settled_at unit moment true t at = by (run_settling unit t) refl
   where
@@ -97,7 +98,7 @@ each_with : {A : Type 0} (P Q : A → Type 0) (r : Result A Refusal) → Each P 
 each_with P Q (Ok x) this that = (this, that)
 each_with P Q (Err refusal) this that = tt
 
-step_at : (unit : Course) (s : RunState) (store : GlobalValues) (moment : ℤ) (asked : RunCommand) → Each (IsDoneAt s moment) (run_step unit s store moment asked)
+step_at : (unit : Unit) (s : RunState) (store : GlobalValues) (moment : ℤ) (asked : RunCommand) → Each (IsDoneAt s moment) (run_step unit s store moment asked)
 unfolding run_step
 step_at unit s store moment asked =
     bound_where (λ (command : Admitted). Fits s command × IsLater s moment) (IsDoneAt s moment) (admitted unit s moment asked) _
@@ -112,7 +113,7 @@ step_at unit s store moment asked =
 
 -- A run never goes back in time: a command that is done is not before the last moment of its run, and leaves its
 -- own moment as the last one.
-pub moments_never_go_back : (unit : Course) (s : RunState) (store : GlobalValues) (moment : ℤ) (asked : RunCommand) (d : DoneCommand) → run_step unit s store moment asked ≡ Ok d
+pub moments_never_go_back : (unit : Unit) (s : RunState) (store : GlobalValues) (moment : ℤ) (asked : RunCommand) (d : DoneCommand) → run_step unit s store moment asked ≡ Ok d
     → (int_lt moment (last_moment s) ≡ false) × (d.state.cells Now ≡ Some (moment_datum moment))
 moments_never_go_back unit s store moment asked d is = subst (Each (IsDoneAt s moment)) is (step_at unit s store moment asked)
 
@@ -124,7 +125,7 @@ is_of_line NoMemory = false
 is_of_line _ = true
 
 abbrev IsOfLine : {A : Type 0} → Result A Refusal → Type 0
-IsOfLine (Ok x) = Unit {0}
+IsOfLine (Ok x) = ⊤
 IsOfLine (Err refusal) = is_of_line refusal ≡ true
 
 stops_if : (b : Bool) (refusal : Refusal) → is_of_line refusal ≡ true → IsOfLine (refuse_if b refusal)
@@ -143,11 +144,11 @@ and_with : {A B : Type 0} (r : Result A Refusal) (next : A → Result B Refusal)
 and_with (Ok x) next this that = that x
 and_with (Err refusal) next this that = this
 
-stops_short : (unit : Course) (short : Option Shortage) → IsOfLine (none_short unit short)
+stops_short : (unit : Unit) (short : Option Shortage) → IsOfLine (none_short unit short)
 stops_short unit None = tt
 stops_short unit (Some short) = refl
 
-module _ (unit : Course) (s : RunState) (moment : ℤ) where
+module _ (unit : Unit) (s : RunState) (moment : ℤ) where
   timely : (next : Result Admitted Refusal) → IsOfLine next → IsOfLine (in_time s moment >> next)
   timely next rest = and_then (in_time s moment) next (stops_if _ _ refl) rest
 
@@ -179,11 +180,11 @@ module _ (unit : Course) (s : RunState) (moment : ℤ) where
   admitted_by_line Report = started _ tt
   admitted_by_line Tick = started _ tt
 
-settled_by_line : (b : Bool) (unit : Course) (s : RunState) → IsOfLine (settled b unit s)
+settled_by_line : (b : Bool) (unit : Unit) (s : RunState) → IsOfLine (settled b unit s)
 settled_by_line true unit s = stops_without (run_settling unit s) TurnBudget refl
 settled_by_line false unit s = tt
 
-open_by_line : (unit : Course) (s : RunState) (command : Admitted) → IsOfLine (open_for_it unit s command)
+open_by_line : (unit : Unit) (s : RunState) (command : Admitted) → IsOfLine (open_for_it unit s command)
 open_by_line unit s (opens p thing) = stops_if _ _ refl
 open_by_line unit s (completes p thing) = stops_if _ _ refl
 open_by_line unit s (enrols name) = tt
@@ -198,7 +199,7 @@ open_by_line unit s (shows_outbox p) = tt
 open_by_line unit s reports = tt
 open_by_line unit s ticks = tt
 
-step_by_line : (unit : Course) (s : RunState) (store : GlobalValues) (moment : ℤ) (asked : RunCommand) → IsOfLine (run_step unit s store moment asked)
+step_by_line : (unit : Unit) (s : RunState) (store : GlobalValues) (moment : ℤ) (asked : RunCommand) → IsOfLine (run_step unit s store moment asked)
 unfolding run_step
 step_by_line unit s store moment asked =
     and_with (admitted unit s moment asked) _ (admitted_by_line unit s moment asked) λ command.

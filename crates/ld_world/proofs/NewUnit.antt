@@ -2,7 +2,7 @@
 use Rattle.std.proofs.Common.{◌≡◌, ℕ, List, [], ◌∷◌, ◌++◌, map, None, sym, ap, ◌∙◌, subst}
 use Rattle.std.proofs.lemmas.List.{map-append}
 use Rattle.ld_globals.specs.Store.{Key, Store, declare_in, declared_at, key_at, last_write}
-use Rattle.ld_model.specs.declared.unit.Unit.{Unit as Course}
+use Rattle.ld_model.specs.declared.unit.Unit.{Unit}
 use Rattle.ld_roles.specs.declared.limit.TheConstants.{SEATS}
 use Rattle.ld_run.specs.RunView.{RunView}
 use Rattle.ld_sharing.specs.StoreView.{Serves, values_of}
@@ -15,11 +15,11 @@ use Rattle.ld_world.proofs.Named.{all_with}
 use Rattle.ld_world.proofs.Serving.{still_serves_all, still_serves_runs}
 
 -- The units, behind which there is one more.
-pub units_behind : {A : Type 0} (f : A → Course) (xs more : List A) (x : A) (unit : Course) → more ≡ xs ++ x ∷ [] → f x ≡ unit → map f more ≡ map f xs ++ unit ∷ []
+pub units_behind : {A : Type 0} (f : A → Unit) (xs more : List A) (x : A) (unit : Unit) → more ≡ xs ++ x ∷ [] → f x ≡ unit → map f more ≡ map f xs ++ unit ∷ []
 units_behind f xs more x unit behind same =
     ap (map f) behind ∙ map-append f xs (x ∷ []) ∙ ap (λ last. map f xs ++ last ∷ []) same
 
-module _ (units more : List Course) (store new : Store) (unit : Course) (behind : more ≡ units ++ unit ∷ [])
+module _ (units more : List Unit) (store new : Store) (unit : Unit) (behind : more ≡ units ++ unit ∷ [])
     (declares : new ≡ declare_in store (pairs_by unit.properties)) where
   pub still_store_of : IsStoreOf units store → IsStoreOf more new
   still_store_of is_of =

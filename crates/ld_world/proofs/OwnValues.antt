@@ -5,7 +5,7 @@ use Rattle.ld_model.specs.Properties.{initial_of}
 use Rattle.ld_model.specs.declared.cell.CellName.{CellName}
 use Rattle.ld_model.specs.declared.cell.CellName.TheVariants.{Prop, Vis, Member, Chosen, Opened, ActOpened, Started, Mark, Now, Roster}
 use Rattle.ld_model.specs.declared.property.Property.{Property}
-use Rattle.ld_model.specs.declared.unit.Unit.{Unit as Course}
+use Rattle.ld_model.specs.declared.unit.Unit.{Unit}
 use Rattle.ld_expr.specs.Owners.{is_global}
 use Rattle.ld_lines.specs.declared.command.RunCommand.{RunCommand}
 use Rattle.ld_lines.specs.declared.command.RunCommand.TheVariants.{Enrol, Assign, Drop, Start, Open, Complete, Set, Clear, Get, Tree, Outbox, Report, Tick}
@@ -27,7 +27,7 @@ use Rattle.ld_world.specs.Isolation.{HoldTheSame, OwnValuesTell, but_for_store, 
 -- ---- what a command is told by the store
 
 -- How the cells of one who joins begin.
-module _ (unit : Course) (store other : GlobalValues) (name : List ℕ)
+module _ (unit : Unit) (store other : GlobalValues) (name : List ℕ)
     (same : (n : ℕ) (property : Property) → slice_get unit.properties n ≡ Some property → is_global property.kind ≡ true
     → stored_value store (Some name) property ≡ stored_value other (Some name) property) where
   property_alike : (n : ℕ) → (slice_get unit.properties n and_then property_begins store (Some name)) ≡ (slice_get unit.properties n and_then property_begins other (Some name))
@@ -68,7 +68,7 @@ joins _ = None
 abbrev IsOf : RunCommand → Admitted → Type 0
 IsOf asked command = joins command ≡ newcomer_of asked
 
-admitted_is : (unit : Course) (s : RunState) (moment : ℤ) (asked : RunCommand) → Each (IsOf asked) (admitted unit s moment asked)
+admitted_is : (unit : Unit) (s : RunState) (moment : ℤ) (asked : RunCommand) → Each (IsOf asked) (admitted unit s moment asked)
 unfolding admitted
 admitted_is unit s moment (Enrol person) =
     each_then (IsOf (Enrol person)) (in_time s moment) _ (each_then (IsOf (Enrol person)) (not_enrolled s person) _ (each_then (IsOf (Enrol person)) (has_seat s) _ refl))
@@ -117,7 +117,7 @@ then_alike : {A : Type 0} (r : Result A Refusal) (next other : Result DoneComman
 then_alike (Ok x) next other same = same
 then_alike (Err refusal) next other same = refl
 
-module _ (unit : Course) (s : RunState) (store other : GlobalValues) (moment : ℤ) (asked : RunCommand) (hold : HoldTheSame unit s asked store other) where
+module _ (unit : Unit) (s : RunState) (store other : GlobalValues) (moment : ℤ) (asked : RunCommand) (hold : HoldTheSame unit s asked store other) where
   -- The run takes in the same.
   taken_alike : taking_in unit store (at_moment s moment) ≡ taking_in unit other (at_moment s moment)
   taken_alike = λ i. record (at_moment s moment) { cells = λ cell. unwrap_or (hold.present cell i) ((at_moment s moment).cells cell) }

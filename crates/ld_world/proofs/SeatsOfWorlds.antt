@@ -1,9 +1,10 @@
 -- Seats play no part in the answers to lines but in the refusals that a run is full.
+use Rattle.std.specs.Prelude.{⊤}
 use Rattle.std.proofs.Common.{◌≡◌, ◌≢◌, ℕ, ℤ, ◌<◌, ◌≤◌, List, [], ◌∷◌, ◌++◌, map, Bool, true, false, cond, is_some, not, if◌then◌else◌, bytes_eq, Option, Some, None, Result, Ok, Err, ok_or, option_map, refl, sym, ap, ◌∙◌, subst, arith}
 use Rattle.std.proofs.lemmas.Bool.{and_parts, false≢true}
 use Rattle.std.proofs.lemmas.List.{map-append}
 use Rattle.std.proofs.lemmas.Slice.Eq.{bytes_eq-Decides}
-use Rattle.ld_model.specs.declared.unit.Unit.{Unit as Course}
+use Rattle.ld_model.specs.declared.unit.Unit.{Unit}
 use Rattle.ld_lines.specs.declared.command.RunCommand.{RunCommand}
 use Rattle.ld_lines.specs.declared.line.Line.{Line}
 use Rattle.ld_lines.specs.declared.line.Line.TheVariants.{Create, OfRun, GlobalSet, GlobalGet}
@@ -53,7 +54,7 @@ abbrev SeatedIn : ℕ → RunOf → Type 0
 SeatedIn n run = HasSeats run.state × (run.state.seats ≤ n)
 
 abbrev AllSeated : ℕ → List RunOf → Type 0
-AllSeated n [] = Unit {0}
+AllSeated n [] = ⊤
 AllSeated n (run ∷ runs) = SeatedIn n run × AllSeated n runs
 
 -- There is a seat in each run that is made, and not more than so many; and so in the runs that there are.
@@ -91,7 +92,7 @@ then_through n (Ok x) next other same = same
 then_through n (Err refusal) next other same = refl
 
 -- A run that is made.
-abbrev new_run : WorldState → ℤ → List ℕ → Course → RunOf
+abbrev new_run : WorldState → ℤ → List ℕ → Unit → RunOf
 new_run w moment name unit = record { name = name; unit = unit; state = made_at w.seats unit w.store moment }
 
 abbrev made_there : WorldState → List RunOf → DoneLine
@@ -100,16 +101,16 @@ made_there w runs = record { deed = made; world = record w { runs = runs } }
 make_through : (n : ℕ) (w : WorldState) (moment : ℤ) (name id : List ℕ) → make_run (world_reseated n w) moment name id ≡ line_reseated n (make_run w moment name id)
 make_through n w moment name id = bound_through n (ok_or (unit_named w.units id) UnknownUnit) (once w) (once (world_reseated n w)) same
   where
-    once : WorldState → Course → Result DoneLine Refusal
+    once : WorldState → Unit → Result DoneLine Refusal
     once v unit = refuse_if (is_some (run_named v.runs name)) RunExists >> Ok (made_there v (v.runs ++ new_run v moment name unit ∷ []))
 
-    same : (unit : Course) → once (world_reseated n w) unit ≡ line_reseated n (once w unit)
+    same : (unit : Unit) → once (world_reseated n w) unit ≡ line_reseated n (once w unit)
     same unit =
         ap (λ b. refuse_if b RunExists >> Ok (made_there (world_reseated n w) (map (run_reseated n) w.runs ++ run_reseated n (new_run w moment name unit) ∷ []))) (ap is_some (named_same n w.runs name) ∙ is_there_same n (run_named w.runs name))
         ∙ then_through n (refuse_if (is_some (run_named w.runs name)) RunExists) (Ok (made_there w (w.runs ++ new_run w moment name unit ∷ []))) (Ok (made_there (world_reseated n w) (map (run_reseated n) w.runs ++ run_reseated n (new_run w moment name unit) ∷ [])))
         (ap (λ runs. Ok (made_there (world_reseated n w) runs)) (sym (map-append (run_reseated n) w.runs (new_run w moment name unit ∷ []))))
 
-abbrev ran_there : WorldState → List ℕ → Course → DoneCommand → DoneLine
+abbrev ran_there : WorldState → List ℕ → Unit → DoneCommand → DoneLine
 ran_there w name unit d = record { deed = ran unit d; world = with_run w name d }
 
 -- What a command does to a run that was found.
@@ -117,7 +118,7 @@ abbrev run_of : WorldState → ℤ → List ℕ → RunCommand → RunOf → Res
 run_of w moment name command run =
     run_step run.unit run.state w.store moment command >>= λ d. Ok (ran_there w name run.unit d)
 
-ran_through : (n : ℕ) (w : WorldState) (name : List ℕ) (unit : Course) (r : Result DoneCommand Refusal) → (step_reseated n r >>= λ d. Ok (ran_there (world_reseated n w) name unit d)) ≡ line_reseated n (r >>= λ d. Ok (ran_there w name unit d))
+ran_through : (n : ℕ) (w : WorldState) (name : List ℕ) (unit : Unit) (r : Result DoneCommand Refusal) → (step_reseated n r >>= λ d. Ok (ran_there (world_reseated n w) name unit d)) ≡ line_reseated n (r >>= λ d. Ok (ran_there w name unit d))
 ran_through n w name unit (Ok d) = λ i. Ok (record {
   deed = ran unit (done_reseated n d);
   world = record (world_reseated n w) { store = d.store; runs = all_in_state_same n name d.state w.runs i };
@@ -158,7 +159,7 @@ world_through n w (Some line) seated room = line_through n w line seated.2 room
 abbrev LeavesSeated : ℕ → DoneLine → Type 0
 LeavesSeated n line = IsSeated n line.world
 
-new_seated : (n : ℕ) (w : WorldState) (moment : ℤ) (name : List ℕ) (unit : Course) → IsSeated n w → SeatedIn n (new_run w moment name unit)
+new_seated : (n : ℕ) (w : WorldState) (moment : ℤ) (name : List ℕ) (unit : Unit) → IsSeated n w → SeatedIn n (new_run w moment name unit)
 new_seated n w moment name unit seated = (record { seat = seated.0; seated = omega arith }, seated.1)
 
 ran_seated : (n : ℕ) (w : WorldState) (moment : ℤ) (name : List ℕ) (command : RunCommand) (run : RunOf) → IsSeated n w → SeatedIn n run → Each (LeavesSeated n) (run_of w moment name command run)
@@ -215,7 +216,7 @@ replies_same n w (line ∷ lines) seated never =
     ∙ ap (λ rest. reply_block (world_step w line) ∷ rest) (ap (λ v. replies v lines) (after_through n w (world_step w line)) ∙ replies_same n (world_after w (world_step w line)) lines (after_seated n w (world_step w line) seated (world_seated n w line seated)) never.1)
 
 -- As long as no run is full with fewer seats, all replies are the same with more.
-pub replies_with_more : (units : List Course) (lines : List (Option Line)) (fewer more : ℕ) → 0 < fewer → fewer ≤ more → NeverFull (seated_world fewer units) lines → replies (seated_world more units) lines ≡ replies (seated_world fewer units) lines
+pub replies_with_more : (units : List Unit) (lines : List (Option Line)) (fewer more : ℕ) → 0 < fewer → fewer ≤ more → NeverFull (seated_world fewer units) lines → replies (seated_world more units) lines ≡ replies (seated_world fewer units) lines
 replies_with_more units lines fewer more seat few never =
     replies_same more (seated_world fewer units) lines (seat, few, tt) never
 
@@ -231,6 +232,6 @@ never_full w (line ∷ lines) none =
     (not_full (world_step w line) parts.0, never_full (world_after w (world_step w line)) lines parts.1)
 
 -- Replies none of which says that a run is full are the replies with more seats, too.
-pub told_with_more : (units : List Course) (lines : List (Option Line)) (texts : List (List ℕ)) (fewer more : ℕ) → 0 < fewer → fewer ≤ more → replies (seated_world fewer units) lines ≡ texts → tell_none_full texts ≡ true → replies (seated_world more units) lines ≡ texts
+pub told_with_more : (units : List Unit) (lines : List (Option Line)) (texts : List (List ℕ)) (fewer more : ℕ) → 0 < fewer → fewer ≤ more → replies (seated_world fewer units) lines ≡ texts → tell_none_full texts ≡ true → replies (seated_world more units) lines ≡ texts
 told_with_more units lines texts fewer more seat few told none =
     replies_with_more units lines fewer more seat few (never_full (seated_world fewer units) lines (ap tell_none_full told ∙ none)) ∙ told

@@ -9,7 +9,7 @@ use Rattle.std.specs.Str.{bytes_eq}
 use Rattle.ld_base.specs.Roomy.{Roomy}
 use Rattle.ld_model.specs.Properties.{initial_of}
 use Rattle.ld_model.specs.declared.property.Property.{Property}
-use Rattle.ld_model.specs.declared.unit.Unit.{Unit as Course}
+use Rattle.ld_model.specs.declared.unit.Unit.{Unit}
 use Rattle.ld_value.specs.Datum.{Datum}
 use Rattle.ld_globals.specs.Declarations.{Declaration, fits_declared}
 use Rattle.ld_globals.specs.Kept.{IsWhole, pairs_of}
@@ -48,7 +48,7 @@ keys_by (property ∷ properties) = by property.uri (keys_by properties)
     by None rest = rest
     by (Some uri) rest = ap (λ uris. uri ∷ uris) rest
 
-pub distinct_by : (unit : Course) → IsValid unit → IsDistinct bytes_eq (keys_of (pairs_by unit.properties))
+pub distinct_by : (unit : Unit) → IsValid unit → IsDistinct bytes_eq (keys_of (pairs_by unit.properties))
 distinct_by unit valid = subst (IsDistinct bytes_eq) (sym (keys_by unit.properties)) (uris_distinct unit valid)
 
 -- ---- the unit itself
@@ -98,7 +98,7 @@ each_declared store (property ∷ properties) all = by property.uri refl all (ea
       rest all.1,
     )
 
-pub serves_own : (store : Store) (unit : Course) → IsDistinct bytes_eq (keys_of (pairs_by unit.properties)) → AllByRecursion (Agrees store) (pairs_by unit.properties)
+pub serves_own : (store : Store) (unit : Unit) → IsDistinct bytes_eq (keys_of (pairs_by unit.properties)) → AllByRecursion (Agrees store) (pairs_by unit.properties)
     → Serves (declare_in store (pairs_by unit.properties)) unit
 serves_own store unit distinct agree =
     each_declared (declare_in store (pairs_by unit.properties)) unit.properties (declares_own store (pairs_by unit.properties) distinct agree)
@@ -109,10 +109,10 @@ still_declared : (store : Store) (pairs : Pairs) (property : Property) → IsDec
 still_declared store pairs property is uri has =
     with_all uri pairs store.declared ∙ ap (λ o. option_or o (declared_in pairs uri)) (is uri has)
 
-pub still_serves : (store : Store) (pairs : Pairs) (unit : Course) → Serves store unit → Serves (declare_in store pairs) unit
+pub still_serves : (store : Store) (pairs : Pairs) (unit : Unit) → Serves store unit → Serves (declare_in store pairs) unit
 still_serves store pairs unit serves = all_mean (IsDeclared store) (IsDeclared (declare_in store pairs)) (still_declared store pairs) unit.properties serves
 
-pub still_serves_all : (store : Store) (pairs : Pairs) (units : List Course) → ServesAll store units → ServesAll (declare_in store pairs) units
+pub still_serves_all : (store : Store) (pairs : Pairs) (units : List Unit) → ServesAll store units → ServesAll (declare_in store pairs) units
 still_serves_all store pairs units serves = all_mean (Serves store) (Serves (declare_in store pairs)) (still_serves store pairs) units serves
 
 -- ---- initial values
@@ -146,16 +146,16 @@ whole_by [] all = tt
 whole_by (e ∷ list) all = (all.0, whole_by list all.1)
 
 -- A list that declares the properties of a valid unit is whole.
-pub all_whole : (list : List (Roomy × Declared)) (unit : Course) → pairs_of list ≡ pairs_by unit.properties → IsValid unit → AllByRecursion IsWhole list
+pub all_whole : (list : List (Roomy × Declared)) (unit : Unit) → pairs_of list ≡ pairs_by unit.properties → IsValid unit → AllByRecursion IsWhole list
 all_whole list unit same valid =
     whole_by list (subst (AllByRecursion HasFitting) (sym same) (pairs_fit unit.properties (initials_fit unit valid)))
 
 -- ---- stores that declare the same
 
 -- Which units are served is told by what is declared.
-pub serves_alike : (old new : Store) (units : List Course) → new.declared ≡ old.declared → ServesAll old units → ServesAll new units
+pub serves_alike : (old new : Store) (units : List Unit) → new.declared ≡ old.declared → ServesAll old units → ServesAll new units
 serves_alike old new units same serves =
-    subst (λ declared. AllByRecursion (λ (unit : Course). AllByRecursion (λ property. (uri : List ℕ) → property.uri ≡ Some uri → declared_in declared uri ≡ Some (declaration_by property)) unit.properties) units) (sym same) serves
+    subst (λ declared. AllByRecursion (λ (unit : Unit). AllByRecursion (λ property. (uri : List ℕ) → property.uri ≡ Some uri → declared_in declared uri ≡ Some (declaration_by property)) unit.properties) units) (sym same) serves
 
 pub runs_alike : (old new : Store) (runs : List (List ℕ × RunView)) → new.declared ≡ old.declared → ServesRuns old runs → ServesRuns new runs
 runs_alike old new runs same serves =
@@ -165,5 +165,5 @@ pub still_serves_runs : (store : Store) (pairs : Pairs) (runs : List (List ℕ �
 still_serves_runs store pairs runs serves =
     all_mean (λ (entry : List ℕ × RunView). Serves store entry.1.unit) (λ entry. Serves (declare_in store pairs) entry.1.unit) (λ entry. still_serves store pairs entry.1.unit) runs serves
 
-pub store_alike : (old new : Store) (units : List Course) → new.declared ≡ old.declared → IsStoreOf units old → IsStoreOf units new
+pub store_alike : (old new : Store) (units : List Unit) → new.declared ≡ old.declared → IsStoreOf units old → IsStoreOf units new
 store_alike old new units same is_of = λ uri. ap (λ declared. declared_in declared uri) same ∙ is_of uri

@@ -2,7 +2,7 @@
 use Rattle.std.specs.Prelude.{◌≡◌, ℕ, List, map}
 use Rattle.std.specs.List.{AllByRecursion}
 use Rattle.std.specs.Option.{option_map}
-use Rattle.ld_model.specs.declared.unit.Unit.{Unit as Course}
+use Rattle.ld_model.specs.declared.unit.Unit.{Unit}
 use Rattle.ld_globals.specs.Store.{Store, declared_at}
 use Rattle.ld_roles.specs.declared.limit.TheConstants.{SEATS}
 use Rattle.ld_state.specs.GlobalValues.{declared_by}
@@ -13,7 +13,7 @@ use Rattle.ld_world.specs.World.{RunOf, WorldState}
 
 -- The published units, the store, and the runs under their names, as the code keeps them.
 pub record WorldView : Type 0 where
-  pub units : List Course
+  pub units : List Unit
   pub store : Store
   pub runs : List (List ℕ × RunView)
 
@@ -22,7 +22,7 @@ abbrev pub run_named_so : List ℕ × RunView → RunOf
 run_named_so entry = record { name = entry.0; unit = entry.1.unit; state = run_of entry.1.state }
 
 -- The world of these units, this store and these runs.
-abbrev pub world_with : List Course → Store → List (List ℕ × RunView) → WorldState
+abbrev pub world_with : List Unit → Store → List (List ℕ × RunView) → WorldState
 world_with units store runs = record {
   seats = SEATS;
   units = units;
@@ -37,11 +37,11 @@ world_of w = world_with w.units w.store w.runs
 -- ---- what is always so
 
 -- The store declares what the units declare, each uri as the first of them does.
-abbrev pub IsStoreOf : List Course → Store → Type 0
+abbrev pub IsStoreOf : List Unit → Store → Type 0
 IsStoreOf units store = (uri : List ℕ) → declared_at store uri ≡ option_map declaration_by (declared_by units uri)
 
 -- The store serves each unit.
-abbrev pub ServesAll : Store → List Course → Type 0
+abbrev pub ServesAll : Store → List Unit → Type 0
 ServesAll store units = AllByRecursion (Serves store) units
 
 -- The store serves the unit of each run.

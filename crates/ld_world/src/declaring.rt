@@ -2,7 +2,7 @@
 ghost use Rattle.std.specs.Prelude.{◌≡◌, List, [], None, IfErr, IfOk, OnErr, OnOk};
 ghost use Rattle.ld_globals.specs.Store.{Key, declare_in, declared_at, last_write};
 ghost use Rattle.ld_json.specs.Fault.{Says, SaysFirst};
-ghost use Rattle.ld_model.specs.declared.unit.Unit.{Unit as Course};
+ghost use Rattle.ld_model.specs.declared.unit.Unit.{Unit};
 ghost use Rattle.ld_sharing.specs.StoreView.{Serves};
 ghost use Rattle.ld_world.specs.Declaring.{uri_property_number, pairs_by};
 ghost use Rattle.ld_world.specs.Published.{differing, differs_at};
@@ -32,9 +32,9 @@ pub(crate) fn declare_uris(
     ensures serves { OnOk result (Serves globals.new unit.now) }
     ensures unwritten { OnOk result ((key : Key) → declared_at globals.old key.uri ≡ None
         → last_write globals.old key ≡ None) }
-    ensures faultless { (units : List Course) → IsStoreOf units globals.old
+    ensures faultless { (units : List Unit) → IsStoreOf units globals.old
         → OnOk result (differing units 0 unit.now.properties ≡ []) }
-    ensures first { (units : List Course) → IsStoreOf units globals.old
+    ensures first { (units : List Unit) → IsStoreOf units globals.old
         → IfErr result (SaysFirst (differing units 0 unit.now.properties)) }
     ensures err { OnErr result (globals.new ≡ globals.old) }
 {

@@ -2,7 +2,7 @@
 ghost use Rattle.std.specs.Prelude.{◌≡◌, ◌≢◌, ◌≤◌, ◌++◌, ◌∷◌, [], List, ℕ, Some, codes, option_copied, option_map, IfSome, OnErr, OnOk};
 ghost use Rattle.ld_base.specs.Roomy.{KeepsRoom, room_of};
 ghost use Rattle.ld_lines.specs.declared.line.Line.TheVariants as line;
-ghost use Rattle.ld_model.specs.declared.unit.Unit.{Unit as Course};
+ghost use Rattle.ld_model.specs.declared.unit.Unit.{Unit};
 ghost use Rattle.ld_replies.specs.Replies.{printed_value, refusal_text};
 ghost use Rattle.ld_run.specs.RunView.{RunView};
 ghost use Rattle.ld_value.specs.Datum.{datum_of};
@@ -37,7 +37,7 @@ pub(crate) fn set_global(
     out: &mut Text,
 ) -> Result<(), NoMemory>
     requires room { 128 ≤ room_of out.old }
-    ensures ok { (units : List Course) (runs : List (List ℕ × RunView)) (moment : MomentOf)
+    ensures ok { (units : List Unit) (runs : List (List ℕ × RunView)) (moment : MomentOf)
         → IsStoreOf units globals.old → OnOk result (AnswersLine (world_with units globals.old runs)
         (Some (line.GlobalSet moment uri.now (option_copied person.entry) text.now))
         out.new.bytes (world_with units globals.new runs)) }
@@ -64,7 +64,7 @@ pub(crate) fn get_global<L: Ledger>(
     out: &mut Text,
     steps: &mut Steps<L>,
 ) -> Result<(), NoMemory>
-    ensures ok { (units : List Course) (runs : List (List ℕ × RunView)) (moment : MomentOf)
+    ensures ok { (units : List Unit) (runs : List (List ℕ × RunView)) (moment : MomentOf)
         → IsStoreOf units globals.now → OnOk result (AnswersLine (world_with units globals.now runs)
         (Some (line.GlobalGet moment uri.now (option_copied person.entry)))
         out.new.bytes (world_with units globals.now runs)) }

@@ -2,7 +2,7 @@
 ghost use Rattle.std.specs.Prelude.{◌≡◌, ◌≤◌, Some, List, map, OnOk, OnErr};
 ghost use Rattle.ld_base.specs.Roomy.{room_of, KeepsRoom};
 ghost use Rattle.ld_lines.specs.declared.line.Line.TheVariants as line;
-ghost use Rattle.ld_model.specs.declared.unit.Unit.{Unit as Course};
+ghost use Rattle.ld_model.specs.declared.unit.Unit.{Unit};
 ghost use Rattle.ld_value.specs.Calendar.{IsMoment};
 ghost use Rattle.ld_world.specs.Answers.{AnswersLine};
 ghost use Rattle.ld_world.specs.WorldView.{ServesAll, ServesRuns, world_with};
@@ -77,7 +77,7 @@ pub(crate) fn ask_run<L: Ledger>(
     requires moment { IsMoment moment.0 }
     requires runs { ServesRuns globals.old runs.old.entries }
     requires room { 128 ≤ room_of out.old }
-    ensures ok { (units : List Course) → OnOk result (AnswersLine
+    ensures ok { (units : List Unit) → OnOk result (AnswersLine
         (world_with units globals.old runs.old.entries)
         (Some (line.OfRun moment name.now command.now))
         out.new.bytes (world_with units globals.new runs.new.entries)) }

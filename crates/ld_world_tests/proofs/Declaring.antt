@@ -8,7 +8,7 @@ use Rattle.ld_base.specs.Maybe.{◌>>=◌}
 use Rattle.ld_base.specs.Roomy.{Roomy}
 use Rattle.ld_model.specs.Properties.{initial_of}
 use Rattle.ld_model.specs.declared.property.Property.{Property}
-use Rattle.ld_model.specs.declared.unit.Unit.{Unit as Course}
+use Rattle.ld_model.specs.declared.unit.Unit.{Unit}
 use Rattle.ld_globals.specs.Declarations.{Declaration, fits_declared}
 use Rattle.ld_globals.specs.Kept.{IsWhole, pairs_of}
 use Rattle.ld_globals.specs.Store.{Store, declare_in, declared_in, with_declared}
@@ -57,7 +57,7 @@ declared_one property = by property.uri
     by None = refl
     by (Some uri) = refl
 
-pub serves_one : (old new : Store) (unit : Course) (property : Property) → unit.properties ≡ property ∷ [] → old.declared ≡ []
+pub serves_one : (old new : Store) (unit : Unit) (property : Property) → unit.properties ≡ property ∷ [] → old.declared ≡ []
     → new ≡ declare_in old (of_one property) → Serves new unit
 serves_one old new unit property are empty made = subst (AllByRecursion (IsDeclared new)) (sym are) (one, tt)
   where
@@ -72,7 +72,7 @@ serves_one old new unit property are empty made = subst (AllByRecursion (IsDecla
         ∙ rw ((bytes_eq-Decides uri uri).1 refl) refl
 
 -- Which units are served is told by what is declared.
-pub serves_alike : (old new : Store) (unit : Course) → new.declared ≡ old.declared → Serves old unit → Serves new unit
+pub serves_alike : (old new : Store) (unit : Unit) → new.declared ≡ old.declared → Serves old unit → Serves new unit
 serves_alike old new unit same serves =
     subst (λ declared. AllByRecursion (λ property. (uri : List ℕ) → property.uri ≡ Some uri → declared_in declared uri ≡ Some (declaration_by property)) unit.properties)
     (sym same) serves

@@ -1,7 +1,7 @@
 //! A run and the store take each other's values.
 ghost use Rattle.std.specs.Prelude.{OnOk};
 ghost use Rattle.ld_firing.specs.RunSystem.{IsSoundRun};
-ghost use Rattle.ld_model.specs.declared.unit.Unit.{Unit as Course};
+ghost use Rattle.ld_model.specs.declared.unit.Unit.{Unit};
 ghost use Rattle.ld_sharing.specs.Fitting.{HasFittingGlobals};
 ghost use Rattle.ld_sharing.specs.StoreView.{Serves};
 ghost use Rattle.ld_state.specs.StateView.{IsStateOf, run_of};
@@ -101,7 +101,7 @@ fn take<L: Ledger>(
 
 /// Gives the value in the store that of this text.
 fn set(globals: &mut Globals, gate: &Text, text: &str) -> Result<(), Fail>
-    ensures serves { (unit : Course) → Serves globals.old unit
+    ensures serves { (unit : Unit) → Serves globals.old unit
         → OnOk result (Serves globals.new unit) }
 {
     Ok(globals.set(gate, None, text)?)

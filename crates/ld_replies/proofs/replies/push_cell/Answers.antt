@@ -1,6 +1,6 @@
 use Rattle.std.proofs.Common.{◌≡◌, length, subst, true}
 use Rattle.ld_model.specs.declared.cell.CellName.{CellName}
-use Rattle.ld_model.specs.declared.unit.Unit.{Unit as Course}
+use Rattle.ld_model.specs.declared.unit.Unit.{Unit}
 use Rattle.ld_state.specs.RunCells.{all_cells}
 use Rattle.ld_state.specs.StateView.{StateView, IsStateOf, has_cell, run_of}
 use Rattle.ld_state.proofs.Elements.{IsIn, in_from_contains}
@@ -9,7 +9,7 @@ use Rattle.ld_replies.proofs.CellsOfStates.{has_each}
 use Rattle.ld_replies.proofs.SeenInRuns.{persons_counted, value_printable}
 use Rattle.ld_replies.proofs.replies.push_cell.Goals as goal
 
-there : (unit : Course) (s : StateView) → IsStateOf unit s → (cell : CellName) → HasPropertyCell unit (run_of s) cell
+there : (unit : Unit) (s : StateView) → IsStateOf unit s → (cell : CellName) → HasPropertyCell unit (run_of s) cell
     → has_cell s cell ≡ true
 there unit s own cell has =
     has_each unit s own cell

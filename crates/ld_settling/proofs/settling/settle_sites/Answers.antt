@@ -1,13 +1,13 @@
 use Rattle.std.proofs.Common.{refl, ap, subst, arith}
 use Rattle.ld_cascade.specs.Outcome.{IsSettled}
 use Rattle.ld_cascade.specs.Settling.{PassesBudget}
-use Rattle.ld_model.specs.declared.unit.Unit.{Unit as Course}
+use Rattle.ld_model.specs.declared.unit.Unit.{Unit}
 use Rattle.ld_state.specs.StateView.{run_of}
 use Rattle.ld_firing.specs.RunSystem.{IsSoundRun}
 use Rattle.ld_firing.proofs.TurnsFew.{turns_are_few}
 use Rattle.ld_settling.specs.RunLinking.{AreLinksOf}
 use Rattle.ld_settling.specs.SitesView.{unit_run_of}
-use Rattle.ld_settling.specs.UnitRuns.{Setting, unit_runs}
+use Rattle.ld_settling.specs.UnitRuns.{RunSetting, unit_runs}
 use Rattle.ld_settling.proofs.Outcomes.{if_both, on_all, on_if}
 use Rattle.ld_settling.proofs.RunLinks.{links_settled, sites_few}
 use Rattle.ld_settling.proofs.UnitSettling.{passed_run, settled_run}
@@ -19,7 +19,7 @@ settle-requires-clause-few g c =
 
 pub settle-requires-clause-turns : goal.settle-requires-clause-turns
 settle-requires-clause-turns g c =
-    let same = ap (λ (unit : Course). unit.turns) c.unit.ensures.unit in
+    let same = ap (λ (unit : Unit). unit.turns) c.unit.ensures.unit in
     omega (arith, same, turns_are_few c.args.sites.now.unit.now c.requires.sound.valid.formed)
 
 pub returns-clause-settled : goal.returns-clause-settled
@@ -27,22 +27,22 @@ returns-clause-settled g c =
     let s = unit_run_of c.args.sites.now in
     if_both c.settle.result c.settle.ensures.settled c.settle.ensures.state
     (λ r settled same. settled_run s (unit_run_of c.settle.new.sites) r
-    (subst (λ (unit : Course). IsSettled unit_runs s unit.turns r) c.unit.ensures.unit settled) same)
+    (subst (λ (unit : Unit). IsSettled unit_runs s unit.turns r) c.unit.ensures.unit settled) same)
 
 pub returns-clause-budget : goal.returns-clause-budget
 returns-clause-budget g c is =
     let s = unit_run_of c.args.sites.now in
-    passed_run s (subst (λ (unit : Course). PassesBudget unit_runs s unit.turns) c.unit.ensures.unit (c.settle.ensures.budget is))
+    passed_run s (subst (λ (unit : Unit). PassesBudget unit_runs s unit.turns) c.unit.ensures.unit (c.settle.ensures.budget is))
 
 pub returns-clause-sound : goal.returns-clause-sound
 returns-clause-sound g c =
-    let same = ap (λ (setting : Setting). setting.unit) c.settle.ensures.course in
+    let same = ap (λ (setting : RunSetting). setting.unit) c.settle.ensures.setting in
     on_if c.settle.result c.settle.ensures.sound
-    (λ r sound. subst (λ (unit : Course). IsSoundRun unit (run_of c.settle.new.sites.state.now)) same sound.run)
+    (λ r sound. subst (λ (unit : Unit). IsSoundRun unit (run_of c.settle.new.sites.state.now)) same sound.run)
 
 pub returns-clause-linked : goal.returns-clause-linked
 returns-clause-linked g c =
-    let same = ap (λ (setting : Setting). setting.unit) c.settle.ensures.course in
+    let same = ap (λ (setting : RunSetting). setting.unit) c.settle.ensures.setting in
     on_all c.settle.result c.settle.ensures.tidy c.settle.ensures.bound c.settle.ensures.covers
-    (λ r tidy bound covers. subst (λ (unit : Course). AreLinksOf unit (run_of c.settle.new.sites.state.now) c.settle.new.links) same
+    (λ r tidy bound covers. subst (λ (unit : Unit). AreLinksOf unit (run_of c.settle.new.sites.state.now) c.settle.new.links) same
     (links_settled (unit_run_of c.settle.new.sites) c.settle.new.links tidy bound covers))

@@ -2,7 +2,7 @@ use Rattle.std.proofs.Common.{◌∙◌, ◌∷◌, [], ap, arith, length, optio
 use Rattle.std.proofs.lemmas.List.{map-append}
 use borrow.Author.Count.{below_more}
 use Rattle.ld_cells.specs.Stored.{cells_of, held}
-use Rattle.ld_model.specs.declared.unit.Unit.{Unit as Course}
+use Rattle.ld_model.specs.declared.unit.Unit.{Unit}
 use Rattle.ld_sharing.specs.Readable.{FitsStored, IsStoredOf}
 use Rattle.ld_sharing.specs.StoreView.{values_of}
 use Rattle.ld_sharing.proofs.StoredParts.{all_fit, one_stored}
@@ -28,5 +28,5 @@ loop-index-preserved g c =
 pub returns-clause-fitting : goal.returns-clause-fitting
 returns-clause-fitting g c =
     all_fit c.args.unit.now (values_of c.args.globals.now) (option_copied c.args.person) c.loop-index.index
-    (omega (arith, c.loop-index-test.false, c.len-count.ensures, ap (λ (unit : Course). length unit.properties) c.unit.ensures.unit))
+    (omega (arith, c.loop-index-test.false, c.len-count.ensures, ap (λ (unit : Unit). length unit.properties) c.unit.ensures.unit))
     c.loop-index.invariant.1

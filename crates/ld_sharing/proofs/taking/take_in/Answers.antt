@@ -1,6 +1,6 @@
 use Rattle.std.proofs.Common.{◌∙◌, ap, arith, length, refl, subst}
 use Rattle.ld_state.specs.StateView.{run_of}
-use Rattle.ld_model.specs.declared.unit.Unit.{Unit as Course}
+use Rattle.ld_model.specs.declared.unit.Unit.{Unit}
 use Rattle.ld_firing.proofs.Told.{tells_nothing, tells_then}
 use Rattle.ld_sharing.specs.StoreView.{values_of}
 use Rattle.ld_sharing.specs.Taken.{HasTaken, is_value_of}
@@ -38,11 +38,11 @@ loop-index-preserved g c =
 pub returns-clause-run : goal.returns-clause-run
 returns-clause-run g c =
     (all_properties c.args.unit.now (values_of c.args.globals.now) (run_of c.args.state.now) c.loop-index.index (run_of c.loop-index.state)
-    (omega (arith, c.loop-index-test.false, c.len-index-end.ensures, ap (λ (unit : Course). length unit.properties) c.unit.ensures.unit))
+    (omega (arith, c.loop-index-test.false, c.len-index-end.ensures, ap (λ (unit : Unit). length unit.properties) c.unit.ensures.unit))
     c.loop-index.invariant.0).0
 
 pub returns-clause-fitting : goal.returns-clause-fitting
 returns-clause-fitting g c =
     (all_properties c.args.unit.now (values_of c.args.globals.now) (run_of c.args.state.now) c.loop-index.index (run_of c.loop-index.state)
-    (omega (arith, c.loop-index-test.false, c.len-index-end.ensures, ap (λ (unit : Course). length unit.properties) c.unit.ensures.unit))
+    (omega (arith, c.loop-index-test.false, c.len-index-end.ensures, ap (λ (unit : Unit). length unit.properties) c.unit.ensures.unit))
     c.loop-index.invariant.0).1

@@ -3,15 +3,15 @@ use Rattle.std.proofs.lemmas.Result.{err_from_is_err_and}
 use Rattle.ld_json.specs.declared.file.FileNo.TheVariants as file
 use Rattle.ld_json.specs.Fault.{Told}
 use Rattle.ld_json.proofs.First.{says_later, says_more}
-use Rattle.ld_model.specs.declared.unit.Unit.{Unit as Course}
+use Rattle.ld_model.specs.declared.unit.Unit.{Unit}
 use Rattle.ld_names.specs.Names.{NameTable}
 use Rattle.ld_refs.specs.Reaching.{environment_graph, graph_faults, structure_graph}
 use Rattle.ld_refs.proofs.checks.cycles.check_cycles.Goals as goal
 
-abbrev among_environments : Course → NameTable → List Told
+abbrev among_environments : Unit → NameTable → List Told
 among_environments unit names = graph_faults file.Environments (codes "environments") (environment_graph unit names)
 
-abbrev among_structures : Course → NameTable → List Told
+abbrev among_structures : Unit → NameTable → List Told
 among_structures unit names = graph_faults file.Activities (codes "structures") (structure_graph unit names)
 
 pub returns-in_err-check_graph-clause-first : goal.returns-in_err-check_graph-clause-first

@@ -1,5 +1,5 @@
 use Rattle.std.proofs.Common.{◌∙◌, ap, arith, subst, sym}
-use Rattle.ld_model.specs.declared.unit.Unit.{Unit as Course}
+use Rattle.ld_model.specs.declared.unit.Unit.{Unit}
 use Rattle.ld_roles.specs.declared.limit.TheConstants.{SEATS}
 use Rattle.ld_firing.specs.RunSystem.{IsSoundRun}
 use Rattle.ld_sharing.specs.Fitting.{HasFittingGlobals}
@@ -17,7 +17,7 @@ begin-requires-clause-serves g c = subst (Serves c.args.globals.now) (sym c.dere
 pub returns-clause-state : goal.returns-clause-state
 returns-clause-state g c =
     c.in_ok-state.ensures.state
-    ∙ ap (λ (unit : Course). made_at SEATS unit (values_of c.args.globals.now) c.args.moment.0) c.deref.ensures
+    ∙ ap (λ (unit : Unit). made_at SEATS unit (values_of c.args.globals.now) c.args.moment.0) c.deref.ensures
 
 -- A run that is made is one that runs come to.
 pub returns-clause-reached : goal.returns-clause-reached
@@ -27,9 +27,9 @@ returns-clause-reached g c =
 
 pub invariant_of-result : goal.invariant_of-result
 invariant_of-result g c = (
-  subst (λ (unit : Course). IsStateOf unit c.in_ok-state.state) c.deref.ensures c.in_ok-state.ensures.own,
-  subst (λ (unit : Course). IsSoundRun unit (run_of c.in_ok-state.state)) c.deref.ensures c.in_ok-state.ensures.sound,
-  subst (λ (unit : Course). HasFittingGlobals unit (run_of c.in_ok-state.state)) c.deref.ensures c.in_ok-state.ensures.fitting,
+  subst (λ (unit : Unit). IsStateOf unit c.in_ok-state.state) c.deref.ensures c.in_ok-state.ensures.own,
+  subst (λ (unit : Unit). IsSoundRun unit (run_of c.in_ok-state.state)) c.deref.ensures c.in_ok-state.ensures.sound,
+  subst (λ (unit : Unit). HasFittingGlobals unit (run_of c.in_ok-state.state)) c.deref.ensures c.in_ok-state.ensures.fitting,
   c.in_ok-state.ensures.unmarked,
   subst (AreNoticesOf c.args.unit.value) (sym c.in_ok-state.ensures.silent) (λ k other below. absurd (omega (arith, below))),
   returns-clause-reached g c,
