@@ -60,9 +60,9 @@ def has_order(datatype):
 
 def fits(datatype, restrictions, value):
     """Whether the value meets each restriction that is a value; an enumeration is met by one of its values."""
-    characters = len(value) if TYPES[datatype] == "text" else 0
-    if not restrictions.get("minLength", 0) <= characters <= restrictions.get("maxLength", characters):
-        return False
+    if TYPES[datatype] == "text":
+        if not restrictions.get("minLength", 0) <= len(value) <= restrictions.get("maxLength", len(value)):
+            return False
     for name, is_met in [("minInclusive", lambda bound: bound <= value), ("maxInclusive", lambda bound: value <= bound)]:
         bound = value_of(datatype, restrictions[name]) if name in restrictions else None
         if bound is not None and not (has_order(datatype) and is_met(bound)):

@@ -28,14 +28,7 @@ pub struct PersonNo(pub u32);
 /// Persons, in an order that whoever fills the list says.
 pub type PersonList = Items<PersonNo>;
 
-/// What one firing did beside its writes: writes that did not fit, and notices appended.
-#[derive(Clone, Copy, Debug, PartialEq, Eq)]
-pub struct Fired {
-    pub rejected: u32,
-    pub sent: u32,
-}
-
-/// The number that counts so far. No machine holds a list on which it fails.
+/// The index as a number of 32 bits. No machine holds a list on which it fails.
 pub fn number(index: usize) -> Result<u32, NoMemory>
     ensures number { IfOk result (λ n. n ≡ index) }
     ensures within { OnOk result (index < 2 ^ 32) }

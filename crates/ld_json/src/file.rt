@@ -1,6 +1,6 @@
 //! The six documents of a unit, in their order.
 ghost use Rattle.std.specs.Prelude.{◌≡◌};
-ghost use Rattle.ld_json.specs.Files.{file_name, file_index};
+ghost use Rattle.ld_json.specs.Files.{file_name};
 
 /// A document of a unit.
 #[derive(Clone, Copy, Debug, PartialEq, Eq)]
@@ -14,20 +14,6 @@ pub enum FileNo {
 }
 
 impl FileNo {
-    /// The document's number in that order, counted from 0.
-    pub fn index(self) -> usize
-        ensures { result ≡ file_index self }
-    {
-        match self {
-            FileNo::Roles => 0,
-            FileNo::Properties => 1,
-            FileNo::Environments => 2,
-            FileNo::Activities => 3,
-            FileNo::Unit => 4,
-            FileNo::Conditions => 5,
-        }
-    }
-
     /// The name of the document's file.
     pub fn name(self) -> &'static str
         ensures { result.now ≡ file_name self }

@@ -139,20 +139,16 @@ abbrev pub meets_most : Option Datum → Datum → Bool
 meets_most None d = true
 meets_most (Some most) d = is_at_most d most
 
--- The number of characters, which are Unicode scalar values; a value that is no text has none.
-abbrev pub characters : Datum → ℕ
-characters (text_datum text) = length (chars text)
-characters _ = 0
-
--- It has the least number of characters, where there is one.
+-- A text has the least number of characters, which are Unicode scalar values, where there is one. A
+-- length restricts texts alone.
 abbrev pub meets_min_length : Option ℕ → Datum → Bool
-meets_min_length None d = true
-meets_min_length (Some least) d = nat_le least (characters d)
+meets_min_length (Some least) (text_datum text) = nat_le least (length (chars text))
+meets_min_length _ _ = true
 
 -- It has no more than the greatest number of characters, where there is one.
 abbrev pub meets_max_length : Option ℕ → Datum → Bool
-meets_max_length None d = true
-meets_max_length (Some most) d = nat_le (characters d) most
+meets_max_length (Some most) (text_datum text) = nat_le (length (chars text)) most
+meets_max_length _ _ = true
 
 -- The value is one of the list, or the list is empty and so restricts nothing.
 abbrev pub meets_one_of : List Datum → Datum → Bool

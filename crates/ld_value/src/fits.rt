@@ -4,7 +4,7 @@
 ghost use Rattle.std.specs.Prelude.{◌≡◌, map, option_map, length, chars};
 ghost use Rattle.std.specs.List.{list_any};
 ghost use Rattle.ld_value.specs.Datum.{datum_of, same_datum};
-ghost use Rattle.ld_value.specs.Values.{fits_in, restrictions_of, is_value as spec_is_value, is_at_most as spec_is_at_most, meets_least as spec_meets_least, meets_most as spec_meets_most, meets_min_length as spec_meets_min_length, meets_max_length as spec_meets_max_length, meets_one_of as spec_meets_one_of, characters as spec_characters};
+ghost use Rattle.ld_value.specs.Values.{fits_in, restrictions_of, is_value as spec_is_value, is_at_most as spec_is_at_most, meets_least as spec_meets_least, meets_most as spec_meets_most, meets_min_length as spec_meets_min_length, meets_max_length as spec_meets_max_length, meets_one_of as spec_meets_one_of};
 
 use crate::duration::LONGEST_SPAN;
 use crate::forms::{is_text, is_uri};
@@ -75,33 +75,25 @@ fn is_at_most(first: &Value, second: &Value) -> bool
     }
 }
 
-/// Whether the value has the least number of characters, where there is one.
+/// Whether a text has the least number of characters, where there is one. A value of another type
+/// has no length, and meets any.
 fn meets_min_length(least: Option<u32>, value: &Value) -> bool
     ensures { result ≡ spec_meets_min_length least (datum_of value.now) }
 {
-    match least {
-        None => true,
-        Some(least) => least as usize <= characters(value),
+    match (least, value) {
+        (Some(least), Value::Text(text)) => least as usize <= count_characters(text.as_str()),
+        _ => true,
     }
 }
 
-/// Whether the value has no more than the greatest number of characters, where there is one.
+/// Whether a text has no more than the greatest number of characters, where there is one. A value
+/// of another type has no length, and meets any.
 fn meets_max_length(most: Option<u32>, value: &Value) -> bool
     ensures { result ≡ spec_meets_max_length most (datum_of value.now) }
 {
-    match most {
-        None => true,
-        Some(most) => characters(value) <= most as usize,
-    }
-}
-
-/// The number of characters of a text; a value that is no text has none.
-fn characters(value: &Value) -> usize
-    ensures { result ≡ spec_characters (datum_of value.now) }
-{
-    match value {
-        Value::Text(text) => count_characters(text.as_str()),
-        _ => 0,
+    match (most, value) {
+        (Some(most), Value::Text(text)) => count_characters(text.as_str()) <= most as usize,
+        _ => true,
     }
 }
 
