@@ -1,15 +1,16 @@
 mod Sets
-mod Sums
-mod Sweeps
+pub mod Sums
+pub mod Sweeps
 pub mod Edges
-mod Weights
+pub mod Weights
 mod Goings
 mod Visits
 mod Linking
 mod Binding
 mod Sweeping
 mod Turns
+pub mod Prefixes
+pub mod Spending
 pub mod Restoring
-pub mod TakingBack
 pub mod Touching
 mod Walking

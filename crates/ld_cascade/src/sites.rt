@@ -27,7 +27,8 @@ pub trait Sites {
 
     ghost room: { Self → ℕ };
 
-    /// The site's test and its mark. It takes as many steps as the site's size, and one, at most.
+    /// The site's test and its mark. It takes as many steps as the site's size, and one, at most,
+    /// and none for a number that is no site.
     fn judge<L: Ledger>(&self, site: u32, steps: &mut Steps<L>) -> Judged
         requires sound { system.IsSound (now self.now) }
         ensures test { result.test ≡ system.test (now self.now) site }

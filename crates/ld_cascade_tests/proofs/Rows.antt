@@ -1,7 +1,7 @@
 use Rattle.std.proofs.Common.{◌≡◌, Bool, List, refl, sym, ap, ◌∙◌, subst, arith}
 use Rattle.ld_graph.specs.Table.{has}
 use Rattle.ld_graph.specs.Edges.{Edges}
-use Rattle.ld_cascade.specs.Wiring.{Wiring, IsAtRest}
+use Rattle.ld_cascade.specs.Wiring.{Wiring}
 use Rattle.ld_cascade.specs.Tidy.{IsTidy}
 use Rattle.ld_cascade_tests.specs.Lamps.{lamps}
 use Rattle.ld_cascade_tests.specs.Row.{Row}
@@ -22,7 +22,3 @@ settled_begun {s} {w} {w'} settled edges dirty sites = record {
     slots = let a = settled.covers.slots in let b = ap (λ (es : Edges). es.slots) edges in omega arith;
   };
 }
-
--- and they are at rest
-pub settled_rest : {s : Row} {w : Wiring} → AreSettled s w → IsAtRest w
-settled_rest settled i is_in = absurd (let out = settled.none i in cc)

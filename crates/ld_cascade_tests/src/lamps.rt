@@ -95,7 +95,6 @@ impl Sites for Lamps {
     ghost room = { λ l. l.list.room };
 
     fn judge<L: Ledger>(&self, site: u32, steps: &mut Steps<L>) -> Judged {
-        steps.tick();
         self.judged.set(self.judged.get().wrapping_add(1));
         if site as usize >= self.lit.len() {
             return Judged {
@@ -103,6 +102,7 @@ impl Sites for Lamps {
                 mark: Some(false),
             };
         }
+        steps.tick();
         Judged {
             test: self.lit[site as usize],
             mark: Some(self.marks[site as usize]),
@@ -110,12 +110,13 @@ impl Sites for Lamps {
     }
 
     fn reads<L: Ledger>(&mut self, site: u32, steps: &mut Steps<L>) -> Result<&SlotList, NoMemory> {
-        steps.tick();
         self.asked = self.asked.wrapping_add(1);
         self.list.clear();
-        if (site as usize) < self.lit.len() {
-            self.list.put(site);
+        if site as usize >= self.lit.len() {
+            return Ok(&self.list);
         }
+        steps.tick();
+        self.list.put(site);
         Ok(&self.list)
     }
 

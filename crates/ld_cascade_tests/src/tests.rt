@@ -7,8 +7,7 @@ ghost use Rattle.ld_cascade_tests.specs.Settled.{AreSettled};
 use crate::lamps::Lamps;
 use ld_base::steps::Steps;
 use ld_cascade::laws::{
-    back_is_bound, back_is_tidy, begins_bound, begins_restorable, begins_tidy, stays_bound,
-    stays_restorable, stays_tidy,
+    begins_bound, begins_restorable, begins_tidy, stays_bound, stays_restorable, stays_tidy,
 };
 use ld_cascade::links::Links;
 use ld_cascade::plain::settle_plainly;
@@ -183,34 +182,25 @@ fn settle_lamps_plainly<L: Ledger>(
     settle_plainly(alloc, lamps, count, turns, &mut steps)
 }
 
-/// How the links are made right again, once the lamps were taken back.
-#[derive(Clone, Copy)]
-enum Repair {
-    TakeBack,
-    Restore,
-}
-
 /// Five lamps are settled, and the last is switched off. Two turns are too few to hand that on to
-/// the first. The lamps and their links are taken back, or the links are restored at once, and then
-/// five turns do it. Of the sites ten are judged until the lamps are settled, three until the
-/// refusal, and six by the last settling: none is judged because of what was taken back.
+/// the first. The lamps are taken back and their links restored, and then five turns do it. Of the
+/// sites ten are judged until the lamps are settled, three until the refusal, and six by the last
+/// settling: none is judged because of what was taken back.
 #[test]
 fn refused_settling_is_taken_back(rt: HostRuntime) -> Result<(), Fail> {
     let alloc = rt.alloc();
-    for repair in [Repair::TakeBack, Repair::Restore] {
-        let mut row = Lamps::new(alloc, 5)?;
-        let wanted = Settled {
-            turns: 5,
-            fired: 5,
-            rejected: 0,
-            sent: 0,
-        };
-        let second = settle_again::<Brand>(alloc, &mut row, repair, Blank::new(1))?;
-        assert_eq!(rt; second, Some(Ok(wanted)));
-        assert_eq!(rt; row.lit.as_slice(), [false; 5].as_slice());
-        assert_eq!(rt; row.marks.as_slice(), [false; 5].as_slice());
-        assert_eq!(rt; row.judged(), 19);
-    }
+    let mut row = Lamps::new(alloc, 5)?;
+    let wanted = Settled {
+        turns: 5,
+        fired: 5,
+        rejected: 0,
+        sent: 0,
+    };
+    let second = settle_again::<Brand>(alloc, &mut row, Blank::new(1))?;
+    assert_eq!(rt; second, Some(Ok(wanted)));
+    assert_eq!(rt; row.lit.as_slice(), [false; 5].as_slice());
+    assert_eq!(rt; row.marks.as_slice(), [false; 5].as_slice());
+    assert_eq!(rt; row.judged(), 19);
     Ok(())
 }
 
@@ -219,7 +209,6 @@ fn refused_settling_is_taken_back(rt: HostRuntime) -> Result<(), Fail> {
 fn settle_again<L: Ledger>(
     alloc: Global,
     row: &mut Lamps,
-    repair: Repair,
     blank: Blank,
 ) -> Result<Option<Result<Settled, Stop>>, Fail>
     requires name { blank.name ≡ L.name }
@@ -238,12 +227,12 @@ fn settle_again<L: Ledger>(
         return Ok(None);
     };
     row.take_back(lit, marks);
-    make_right(row, &mut links, repair, &mut steps);
+    make_right(row, &mut links, &mut steps);
     Ok(Some(switch_last_off(alloc, row, &mut links, 256, &mut steps)))
 }
 
 /// Makes the links those of the lamps, which were taken back to where the links began.
-fn make_right<L: Ledger>(row: &mut Lamps, links: &mut Links, repair: Repair, steps: &mut Steps<L>)
+fn make_right<L: Ledger>(row: &mut Lamps, links: &mut Links, steps: &mut Steps<L>)
     requires begun { (begun : Wiring) × AreSettled (lamps_of row.old) begun
         × LinksFollow begun links.old }
     ensures tidy { Tidy lamps (lamps_of row.new) links.new }
@@ -251,12 +240,6 @@ fn make_right<L: Ledger>(row: &mut Lamps, links: &mut Links, repair: Repair, ste
     ensures covers { Covers lamps (lamps_of row.new) links.new }
     ensures count { length row.new.lit.items ≡ length row.old.lit.items }
 {
-    if let Repair::TakeBack = repair {
-        back_is_tidy(row);
-        back_is_bound(row);
-        links.take_back();
-        return;
-    }
     begins_restorable(row);
     stays_restorable(row);
     restore(row, links, steps);

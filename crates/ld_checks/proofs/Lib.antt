@@ -2,4 +2,3 @@ pub mod CheckParts
 pub mod FaultChecks
 pub mod LawsRefused
 pub mod NamedParts
-pub mod StateSeen

@@ -27,13 +27,13 @@ use Rattle.ld_expr.specs.Terms.{cell_of_property}
 use Rattle.ld_state.specs.RunCells.{all_cells, is_activity, is_activity_place, suits_cell, widest_of}
 use Rattle.ld_state.specs.StateView.{StateView, run_of}
 use Rattle.ld_state.proofs.Elements.{contains_from_in, none_is_some, some_same}
+use Rattle.ld_state.proofs.SeenSame.{persons_counted}
 use Rattle.ld_rules.specs.LawWords.{is_property}
 use Rattle.ld_firing.proofs.CellsThere.{AreCells}
 use Rattle.ld_firing.proofs.Effects.{widens}
 use Rattle.ld_firing.proofs.MetChecks.{activity_listed, declared_thing}
 use Rattle.ld_firing.proofs.Named.{IsThing, property_looks_there, thing_number_is}
 use Rattle.ld_checks.specs.AdmittedView.{HasPropertyCell}
-use Rattle.ld_checks.proofs.StateSeen.{persons_counted}
 
 -- ---- activities
 

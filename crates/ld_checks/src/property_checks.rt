@@ -1,5 +1,5 @@
 //! The checks of properties.
-#![tactic(auto, using(crate::proofs::NamedParts::has_property, crate::proofs::NamedParts::limits_are, crate::proofs::StateSeen::member_cells))]
+#![tactic(auto, using(crate::proofs::NamedParts::has_property, crate::proofs::NamedParts::limits_are))]
 
 ghost use Rattle.std.specs.Prelude.{◌≡◌, ◌<◌, length, true, Some, Ok, IfOk, IfErr, slice_get};
 ghost use Rattle.ld_expr.specs.Lookup.{property_number};
@@ -19,7 +19,6 @@ use ld_base::numbers::{PersonNo, PropNo};
 use ld_base::plain_text::PlainText;
 use ld_base::steps::Steps;
 use ld_expr::cells::cell_of_property;
-use ld_expr::members::is_member_of;
 use ld_model::cell::{CellName, Owner};
 use ld_model::property::Property;
 use ld_names::names::Named;
@@ -97,7 +96,6 @@ impl<'a, 's> Checker<'a, 's> {
         property: &Property,
         steps: &mut Steps<L>,
     ) -> Result<(), Refusal<'a>>
-        requires { person.0 < length self.now.state.now.rows }
         ensures { answer_of (λ _. tt) result ≡ may_write self.now.unit.now
             (run_of self.now.state.now) person.0 property.now }
     {
@@ -112,17 +110,11 @@ impl<'a, 's> Checker<'a, 's> {
 
     /// Whether the person is a member of the role.
     fn is_member_of<L: Ledger>(&self, role: &Id, person: PersonNo, steps: &mut Steps<L>) -> bool
-        requires { person.0 < length self.now.state.now.rows }
         ensures { result ≡ is_member_of self.now.unit.now
             (seen_in self.now.unit.now (run_of self.now.state.now)) role.now person.0 }
     {
-        is_member_of(
-            self.unit.unit(),
-            self.unit.names(),
-            self.state,
-            role,
-            person,
-            steps,
-        )
+        self.unit
+            .scope(self.state)
+            .is_member_of(person, role, steps)
     }
 }

@@ -1,14 +1,17 @@
 //! The documents of the tests. Together they have each member of each object that may be there.
+ghost use Rattle.std.specs.Prelude.{◌≡◌, true, IfOk};
+ghost use Rattle.ld_formats.specs.Units.{is_well_formed};
+
 use json::Scratch;
 use ld_base::plain_text::PlainText;
 use ld_json::doc::{Doc, document};
 use ld_json::docs::{Docs, Scratches};
 use ld_json::fault::ReadFault;
-use ld_method::parts::read_parts;
 use ld_method::whole::read_method;
 use ld_model::completion::OnCompletion;
 use ld_model::item::{ItemList, ReferenceList};
 use ld_model::unit::Unit;
+use ld_reader::parts::read_parts;
 use std::alloc::Global;
 use std::test::Fail;
 
@@ -115,7 +118,9 @@ fn docs_of<'a>(
 }
 
 /// The unit of the documents, or its first fault.
-fn unit_of(alloc: Global, docs: &Docs<'_>) -> Result<Unit, ReadFault> {
+fn unit_of(alloc: Global, docs: &Docs<'_>) -> Result<Unit, ReadFault>
+    ensures { IfOk result (λ unit. is_well_formed unit ≡ true) }
+{
     let parts = read_parts(alloc, docs)?;
     read_method(alloc, docs, parts)
 }
@@ -124,7 +129,9 @@ fn unit_of(alloc: Global, docs: &Docs<'_>) -> Result<Unit, ReadFault> {
 pub(crate) fn outcome_of(
     alloc: Global,
     texts: [&'static str; 6],
-) -> Result<Result<Unit, ReadFault>, Fail> {
+) -> Result<Result<Unit, ReadFault>, Fail>
+    ensures { IfOk result (λ outcome. IfOk outcome (λ unit. is_well_formed unit ≡ true)) }
+{
     let mut scratches = Scratches::new(alloc);
     let docs = docs_of(alloc, texts, &mut scratches)?;
     let outcome = unit_of(alloc, &docs);
@@ -133,7 +140,9 @@ pub(crate) fn outcome_of(
 }
 
 /// The unit that has each member.
-pub(crate) fn full_unit(alloc: Global) -> Result<Unit, Fail> {
+pub(crate) fn full_unit(alloc: Global) -> Result<Unit, Fail>
+    ensures { IfOk result (λ unit. is_well_formed unit ≡ true) }
+{
     let texts = [
         ROLES,
         PROPERTIES,

@@ -1,8 +1,7 @@
-//! The names, things and rules of a unit, told by hand, and a view of one cell.
+//! The names, things and rules of a unit, written down by hand, and a view of one cell.
 #![tactic(auto, using(ld_names::proofs::Rows::items_in_row))]
 
-ghost use Rattle.std.specs.Prelude.{◌≡◌, IfOk, map};
-ghost use Rattle.ld_names.specs.Names.{names_of};
+ghost use Rattle.std.specs.Prelude.{map};
 ghost use Rattle.ld_names.specs.Rows.{StandsIn};
 
 mod views;
@@ -11,11 +10,10 @@ use crate::documents::full_unit;
 use ld_base::id::Id;
 use ld_base::numbers::{PropNo, RoleNo, RuleNo, ThingNo};
 use ld_model::item::Item;
-use ld_model::unit::Unit;
-use ld_names::identifiers::has_distinct_identifiers;
 use ld_names::names::{Named, Names};
-use ld_names::rule::{Rule, RuleKind, list_rules, number_of_rule};
+use ld_names::rule::{Rule, RuleKind, list_rules};
 use ld_parts::listing::Listing;
+use ld_refs::check::{Checked, check};
 use ld_value::value::Value;
 use ld_walk::place::Place;
 use std::alloc::Global;
@@ -33,15 +31,9 @@ fn id(alloc: Global, text: &str) -> Result<Id, Fail> {
     Ok(read.ok_or("no identifier")?)
 }
 
-/// The names of the unit.
-fn names_of(alloc: Global, unit: &Unit) -> Result<Names, Fail>
-    ensures { IfOk result (λ names. names ≡ names_of unit.now) }
-{
-    let listing = Listing::of(alloc, unit)?;
-    if !has_distinct_identifiers(alloc, unit, &listing)? {
-        return Err("two parts have one identifier".into());
-    }
-    Ok(Names::of(alloc, unit, &listing)?)
+/// The unit that has each member, in which no check finds a fault, with its names.
+fn checked_unit(alloc: Global) -> Result<Checked, Fail> {
+    Ok(check(alloc, full_unit(alloc)?)?)
 }
 
 /// The number of the first of these items, which stand in a row.
@@ -54,11 +46,10 @@ fn first_of(names: &Names, items: &[Item]) -> Option<ThingNo>
     Some(names.first_of_row(&first.identifier))
 }
 
-/// The number of the first item of the unit's first activity, told by the row of its items.
-fn first_item(alloc: Global, unit: &Unit) -> Result<Option<ThingNo>, Fail> {
-    let names = names_of(alloc, unit)?;
-    let activity = unit.activities.get(0).ok_or("no activity")?;
-    Ok(first_of(&names, activity.items.as_slice()))
+/// The number of the first item of the unit's first activity, found by the row of its items.
+fn first_item(checked: &Checked) -> Result<Option<ThingNo>, Fail> {
+    let activity = checked.unit().activities.get(0).ok_or("no activity")?;
+    Ok(first_of(checked.names(), activity.items.as_slice()))
 }
 
 /// Whether the identifier names just this, also where it remembers a wrong number, which it then
@@ -73,15 +64,15 @@ fn is_named(names: &Names, id: &Id, named: Named) -> bool {
 
 #[test]
 fn parts_are_named_and_numbered(rt: HostRuntime) -> Result<(), Fail> {
-    let unit = full_unit(rt.alloc())?;
-    let names = names_of(rt.alloc(), &unit)?;
-    assert!(rt; are_the_roles(rt.alloc(), &names)?);
-    assert!(rt; are_the_things(rt.alloc(), &names)?);
-    assert!(rt; is_named(&names, &id(rt.alloc(), "score")?, Named::Prop(PropNo(0))));
-    assert!(rt; is_named(&names, &unit.identifier, Named::Unit));
+    let checked = checked_unit(rt.alloc())?;
+    let names = checked.names();
+    assert!(rt; are_the_roles(rt.alloc(), names)?);
+    assert!(rt; are_the_things(rt.alloc(), names)?);
+    assert!(rt; is_named(names, &id(rt.alloc(), "score")?, Named::Prop(PropNo(0))));
+    assert!(rt; is_named(names, &checked.unit().identifier, Named::Unit));
     assert!(rt; names.number(&id(rt.alloc(), "nobody")?).is_none());
     assert!(rt; names.rule(Named::Unit) == Some(RuleNo(14)));
-    assert!(rt; first_item(rt.alloc(), &unit)? == Some(ThingNo(9)));
+    assert!(rt; first_item(&checked)? == Some(ThingNo(9)));
     Ok(())
 }
 
@@ -123,11 +114,10 @@ const PLACES: [(&str, Place, Option<u32>); 10] = [
 
 #[test]
 fn things_stand_in_their_places(rt: HostRuntime) -> Result<(), Fail> {
-    let unit = full_unit(rt.alloc())?;
-    let names = names_of(rt.alloc(), &unit)?;
+    let checked = checked_unit(rt.alloc())?;
     for (word, place, rule) in PLACES.iter() {
         assert!(rt;
-            stands_at(&names, &id(rt.alloc(), word)?, *place, *rule),
+            stands_at(checked.names(), &id(rt.alloc(), word)?, *place, *rule),
             "{word}"
         );
     }
@@ -170,32 +160,15 @@ fn rules_stand_in_their_order(rt: HostRuntime) -> Result<(), Fail> {
     let listing = Listing::of(rt.alloc(), &unit)?;
     let rules = list_rules(rt.alloc(), &listing)?;
     assert!(rt; rules.as_slice() == RULES.as_slice());
-    assert!(rt; number_of_rule(&rules, Rule::OpensAct(0, 1)) == Some(8));
-    assert!(rt; number_of_rule(&rules, Rule::OpensAct(0, 2)).is_none());
     assert!(rt; matches!(Rule::CompletesStructure(0).kind(), RuleKind::Person));
     assert!(rt; matches!(Rule::OpensAct(0, 0).kind(), RuleKind::Run));
     Ok(())
 }
 
 #[test]
-fn a_repeated_identifier_is_found(rt: HostRuntime) -> Result<(), Fail> {
-    let mut unit = full_unit(rt.alloc())?;
-    assert!(rt; differ(rt.alloc(), &unit)?);
-    unit.identifier = id(rt.alloc(), "f3")?;
-    assert!(rt; !differ(rt.alloc(), &unit)?);
-    Ok(())
-}
-
-/// Whether no two parts of the unit have one identifier.
-fn differ(alloc: Global, unit: &Unit) -> Result<bool, Fail> {
-    let listing = Listing::of(alloc, unit)?;
-    Ok(has_distinct_identifiers(alloc, unit, &listing)?)
-}
-
-#[test]
 fn restrictions_and_initial_values_are_values(rt: HostRuntime) -> Result<(), Fail> {
-    let unit = full_unit(rt.alloc())?;
-    let names = names_of(rt.alloc(), &unit)?;
+    let checked = checked_unit(rt.alloc())?;
+    let names = checked.names();
     let Some(Named::Prop(score)) = names.number(&id(rt.alloc(), "score")?) else {
         return Err("no property".into());
     };

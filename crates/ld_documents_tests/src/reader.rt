@@ -1,9 +1,6 @@
 //! The roles, environments, activities and structures of documents, and single values.
 use crate::documents::{SMALL_UNIT, are, first_fault, full_unit, is_feedback, is_item, is_text};
 use json::Scratch;
-use ld_conditions::changes::read_on_completion;
-use ld_conditions::completions::ActivityCompletion;
-use ld_conditions::terms::read_term;
 use ld_json::doc::document;
 use ld_json::file::FileNo;
 use ld_model::activity::{Activity, ActivityKind, Structure, StructureKind};
@@ -12,6 +9,9 @@ use ld_model::environment::{Environment, LearningObject, Service, ServiceKind};
 use ld_model::expression::TermForm;
 use ld_model::property::{Property, PropertyKind};
 use ld_model::role::{CreateNew, MatchPersons, Role, RoleKind};
+use ld_reader::changes::read_on_completion;
+use ld_reader::completions::ActivityCompletion;
+use ld_reader::terms::read_term;
 use ld_shape::reads::Reads;
 use ld_value::kind::Kind;
 use std::test::Fail;

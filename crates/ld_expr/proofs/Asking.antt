@@ -7,8 +7,6 @@ use Rattle.ld_model.specs.declared.unit.Unit.{Unit}
 use Rattle.ld_expr.specs.Membership.{is_member, some_and_each}
 use Rattle.ld_expr.specs.Seen.{Seen, member_cell}
 use Rattle.ld_expr.specs.Users.{holds_for, holds_for_members, looks_for, looks_for_members}
-use Rattle.ld_expr.specs.Viewing.{HasCells}
-use Rattle.ld_expr.proofs.Having.{has_front, has_back, has_both, has_more, has_same}
 
 -- Below the end the next number comes first.
 pub range_more : (from end : ℕ) → from < end → range_with_len from (end - from) ≡ from ∷ range_with_len (from + 1) (end - (from + 1))
@@ -49,39 +47,33 @@ length_member unit seen role test p more there =
 
 -- These persons are still to be asked, after so many steps from the start; there was a member before or
 -- not, and the test held for each.
-pub record Asking (has : CellName → Bool) (unit : Unit) (seen : Seen) (role : ℕ) (test : TestOf) (some : Bool) (persons : List ℕ) (steps start : ℕ) : Type 0 where
+pub record Asking (unit : Unit) (seen : Seen) (role : ℕ) (test : TestOf) (some : Bool) (persons : List ℕ) (steps start : ℕ) : Type 0 where
   pub value : answer_left (is_member seen role) (holds_for unit seen test) some persons ≡ holds_for_members unit seen role test
-  pub cells : HasCells has (looks_left unit seen role test persons)
   pub cost : steps + length (looks_left unit seen role test persons) ≤ start + length (looks_for_members unit seen role test)
 
-pub passes_over : {has : CellName → Bool} {unit : Unit} {seen : Seen} {role : ℕ} {test : TestOf} {some : Bool} {persons : List ℕ} {steps start : ℕ} (p : ℕ) (more : List ℕ) (now : ℕ) → Asking has unit seen role test some persons steps start → persons ≡ p ∷ more → is_member seen role p ≡ false → now ≡ steps + 1 → Asking has unit seen role test some more now start
+pub passes_over : {unit : Unit} {seen : Seen} {role : ℕ} {test : TestOf} {some : Bool} {persons : List ℕ} {steps start : ℕ} (p : ℕ) (more : List ℕ) (now : ℕ) → Asking unit seen role test some persons steps start → persons ≡ p ∷ more → is_member seen role p ≡ false → now ≡ steps + 1 → Asking unit seen role test some more now start
 passes_over {unit = unit} {seen = seen} {role = role} {test = test} {some = some} p more now asking is there cost =
     let other = looks_other unit seen role test p more there in
     let value = rw is at asking.value in
-    let cells = has_same (looks_left unit seen role test (p ∷ more)) (member_cell role p ∷ looks_left unit seen role test more) other (rw is at asking.cells) in
     let within = rw is at asking.cost in
     record {
       value = sym (answer_other (is_member seen role) (holds_for unit seen test) some p more there) ∙ value;
-      cells = has_more (member_cell role p) (looks_left unit seen role test more) cells;
       cost = omega (arith, within, cost, ap length other);
     }
 
-pub goes_on : {has : CellName → Bool} {unit : Unit} {seen : Seen} {role : ℕ} {test : TestOf} {some : Bool} {persons : List ℕ} {steps start : ℕ} (p : ℕ) (more : List ℕ) (now : ℕ) → Asking has unit seen role test some persons steps start → persons ≡ p ∷ more → is_member seen role p ≡ true → holds_for unit seen test p ≡ true → now ≤ steps + 1 + length (looks_for unit seen test p) → Asking has unit seen role test true more now start
+pub goes_on : {unit : Unit} {seen : Seen} {role : ℕ} {test : TestOf} {some : Bool} {persons : List ℕ} {steps start : ℕ} (p : ℕ) (more : List ℕ) (now : ℕ) → Asking unit seen role test some persons steps start → persons ≡ p ∷ more → is_member seen role p ≡ true → holds_for unit seen test p ≡ true → now ≤ steps + 1 + length (looks_for unit seen test p) → Asking unit seen role test true more now start
 goes_on {unit = unit} {seen = seen} {role = role} {test = test} {some = some} p more now asking is there holds cost =
     let own = looks_for unit seen test p in
     let before = map (member_cell role) more in
     let rest = flat_map (looks_for unit seen test) (filter (is_member seen role) more) in
     let value = rw is at asking.value in
-    let cells = has_same (looks_left unit seen role test (p ∷ more)) (member_cell role p ∷ (before ++ (own ++ rest))) (looks_member unit seen role test p more there) (rw is at asking.cells) in
-    let tail = has_more (member_cell role p) (before ++ (own ++ rest)) cells in
     let within = rw is at asking.cost in
     record {
       value = sym (answer_member (is_member seen role) (holds_for unit seen test) some p more there holds) ∙ value;
-      cells = has_both before rest (has_front before (own ++ rest) tail) (has_back own rest (has_back before (own ++ rest) tail));
       cost = omega (arith, within, cost, length_member unit seen role test p more there);
     }
 
-pub stops_within : {has : CellName → Bool} {unit : Unit} {seen : Seen} {role : ℕ} {test : TestOf} {some : Bool} {persons : List ℕ} {steps start : ℕ} (p : ℕ) (more : List ℕ) (now : ℕ) → Asking has unit seen role test some persons steps start → persons ≡ p ∷ more → is_member seen role p ≡ true → now ≤ steps + 1 + length (looks_for unit seen test p) → now ≤ start + length (looks_for_members unit seen role test)
+pub stops_within : {unit : Unit} {seen : Seen} {role : ℕ} {test : TestOf} {some : Bool} {persons : List ℕ} {steps start : ℕ} (p : ℕ) (more : List ℕ) (now : ℕ) → Asking unit seen role test some persons steps start → persons ≡ p ∷ more → is_member seen role p ≡ true → now ≤ steps + 1 + length (looks_for unit seen test p) → now ≤ start + length (looks_for_members unit seen role test)
 stops_within {unit = unit} {seen = seen} {role = role} {test = test} p more now asking is there cost =
     let within = rw is at asking.cost in
     omega (arith, within, cost, length_member unit seen role test p more there)

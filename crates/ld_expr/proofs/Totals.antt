@@ -1,16 +1,13 @@
 -- Terms that are added up or multiplied from left to right, of which one may have no value.
-use Rattle.std.proofs.Common.{◌≡◌, ℕ, ◌+◌, ◌<◌, List, [], ◌∷◌, drop, fold, get_or, length, length-append, Bool, Option, Some, None, refl, sym, ap, ◌∙◌, add-one}
+use Rattle.std.proofs.Common.{◌≡◌, ℕ, ◌+◌, ◌<◌, List, [], ◌∷◌, drop, fold, get_or, length, length-append, Option, Some, None, refl, sym, ap, ◌∙◌, add-one}
 use Rattle.std.proofs.Math.Seq.{drop-cons}
 use Rattle.ld_value.specs.Datum.{Datum}
 use Rattle.ld_model.specs.Expressions.{TermOf, terms_from}
-use Rattle.ld_model.specs.declared.cell.CellName.{CellName}
 use Rattle.ld_model.specs.declared.cell.Owner.{Owner}
 use Rattle.ld_model.specs.declared.unit.Unit.{Unit}
 use Rattle.ld_expr.specs.Looks.{term_looks, terms_looks}
 use Rattle.ld_expr.specs.Seen.{Seen}
 use Rattle.ld_expr.specs.Terms.{combined, combined_all, term_value, term_values}
-use Rattle.ld_expr.specs.Viewing.{HasCells}
-use Rattle.ld_expr.proofs.Having.{has_front, has_back}
 
 -- The elements from this one on.
 pub from_here : {A : Type 0} (xs : List A) (i : ℕ) (x : A) → i < length xs → x ≡ get_or xs i x → drop i xs ≡ x ∷ drop (i + 1) xs
@@ -47,14 +44,6 @@ next_added unit seen owner operation total next sum terms i term whole within is
     ap (λ o. fold (combined operation) o rest) adds ∙ two
 
 -- ---- where one looks
-
-pub next_cells : (has : CellName → Bool) (unit : Unit) (owner : Owner) (terms : List TermOf) (i : ℕ) (term : TermOf) → i < length terms → term ≡ get_or terms i term → HasCells has (terms_looks unit owner (terms_from (drop i terms))) → HasCells has (term_looks unit owner term)
-next_cells has unit owner terms i term within is all =
-    has_front (term_looks unit owner term) (terms_looks unit owner (terms_from (drop (i + 1) terms))) (rw (from_here terms i term within is) at all)
-
-pub more_cells : (has : CellName → Bool) (unit : Unit) (owner : Owner) (terms : List TermOf) (i : ℕ) (term : TermOf) → i < length terms → term ≡ get_or terms i term → HasCells has (terms_looks unit owner (terms_from (drop i terms))) → HasCells has (terms_looks unit owner (terms_from (drop (i + 1) terms)))
-more_cells has unit owner terms i term within is all =
-    has_back (term_looks unit owner term) (terms_looks unit owner (terms_from (drop (i + 1) terms))) (rw (from_here terms i term within is) at all)
 
 pub looks_from : (unit : Unit) (owner : Owner) (terms : List TermOf) (i : ℕ) (term : TermOf) → i < length terms → term ≡ get_or terms i term → length (terms_looks unit owner (terms_from (drop i terms))) ≡ length (term_looks unit owner term) + length (terms_looks unit owner (terms_from (drop (i + 1) terms)))
 looks_from unit owner terms i term within is =

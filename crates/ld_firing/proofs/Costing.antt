@@ -15,7 +15,7 @@ use Rattle.ld_firing.specs.Actions.{actions_if, is_of_persons, owners_of_change}
 use Rattle.ld_firing.specs.Costs.{action_cost, term_leaves}
 use Rattle.ld_state.specs.RunState.{RunState}
 use Rattle.ld_state.specs.StateView.{StateView, run_of}
-use Rattle.ld_firing.proofs.SeenInStates.{persons_counted}
+use Rattle.ld_state.proofs.SeenSame.{persons_counted}
 
 pub change_costs : (unit : Unit) (s : RunState) (owner : Owner) (change : ChangeOf) (n : ℕ) → n ≡ length s.persons
     → (term_leaves change.value + 2) * length (owners_of_change n owner (is_of_persons unit change.property)) ≡ action_cost unit s owner (Change change)

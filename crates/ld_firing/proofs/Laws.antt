@@ -5,17 +5,17 @@ use Rattle.std.proofs.lemmas.Bool.{eqb-true}
 use Rattle.std.specs.Option.{option_map_or}
 use Rattle.ld_base.specs.Maybe.{◌>>=◌}
 use Rattle.ld_cascade.specs.System.{MayFire}
-use Rattle.ld_value.specs.Datum.{truth_datum, number_datum}
+use Rattle.ld_value.specs.Datum.{number_datum}
 use Rattle.ld_model.specs.Cells.{same_cell, same_owner}
 use Rattle.ld_model.specs.declared.cell.CellName.{CellName}
 use Rattle.ld_model.specs.declared.cell.CellName.TheVariants.{Prop, Vis, Member, Chosen, Opened, ActOpened, Started, Mark, Now, Roster}
 use Rattle.ld_model.specs.declared.unit.Unit.{Unit}
 use Rattle.ld_names.specs.Rules.{Site, rules_of}
 use Rattle.ld_expr.specs.Lookup.{list_from}
-use Rattle.ld_roles.specs.Roster.{Persons, is_member_in}
+use Rattle.ld_roles.specs.Roster.{Persons}
 use Rattle.ld_firing.specs.Actions.{Doing, nothing_done, site_firing}
 use Rattle.ld_state.specs.RunCells.{all_cells, slot_of, suits_cell}
-use Rattle.ld_state.specs.RunState.{RunState, seen_in, cell_of}
+use Rattle.ld_state.specs.RunState.{RunState, seen_in, cell_of, membership_of}
 use Rattle.ld_firing.specs.RunSystem.{owner_number, site_number, site_at, slots_named, Enrolment, IsSoundRun, verdict_in, firing_at, run_system}
 use Rattle.ld_rules.specs.SiteLooks.{site_looks, open_looks}
 use Rattle.ld_rules.specs.SiteTests.{site_test, site_mark}
@@ -49,7 +49,7 @@ following_same : (unit : Unit) (s t : RunState) (c : CellName) → s.persons ≡
     → cell_of unit s c ≡ cell_of unit t c
 unfolding cell_of
 following_same unit s t (Member r p) persons follows =
-    ap (λ (ps : Persons). Some (truth_datum (is_member_in unit ps r.0 p.0))) persons
+    ap (λ (ps : Persons). membership_of unit ps r.0 p.0) persons
 following_same unit s t Roster persons follows = ap (λ (ps : Persons). Some (number_datum (pos (length ps)))) persons
 following_same unit s t (Prop _ _) persons follows = different (sym follows)
 following_same unit s t (Vis _ _) persons follows = different (sym follows)
@@ -69,7 +69,7 @@ pub same_cell_of : (unit : Unit) (s t : RunState) (c : CellName) → s.persons �
     → s.cells c ≡ t.cells c → cell_of unit s c ≡ cell_of unit t c
 unfolding cell_of
 same_cell_of unit s t (Member r p) persons stored =
-    ap (λ (ps : Persons). Some (truth_datum (is_member_in unit ps r.0 p.0))) persons
+    ap (λ (ps : Persons). membership_of unit ps r.0 p.0) persons
 same_cell_of unit s t Roster persons stored = ap (λ (ps : Persons). Some (number_datum (pos (length ps)))) persons
 same_cell_of unit s t (Prop _ _) persons stored = stored
 same_cell_of unit s t (Vis _ _) persons stored = stored
@@ -258,7 +258,8 @@ module _ (unit : Unit) where
   suits_after : (s : RunState) (i : ℕ) → Suits unit s (after s i) → (c : CellName)
       → suits_cell unit c (cell_of unit s c) ≡ true → suits_cell unit c (cell_of unit (after s i) c) ≡ true
   unfolding cell_of
-  suits_after s i kept (Member r p) is = is
+  suits_after s i kept (Member r p) is =
+      subst (λ (ps : Persons). suits_cell unit (Member r p) (membership_of unit ps r.0 p.0) ≡ true) (sym (enrolled s i).persons) is
   suits_after s i kept Roster is =
       subst (λ (ps : Persons). suits_cell unit Roster (Some (number_datum (pos (length ps)))) ≡ true)
       (sym (enrolled s i).persons) is

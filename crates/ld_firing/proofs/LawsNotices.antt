@@ -24,11 +24,10 @@ use Rattle.ld_expr.specs.Lookup.{is_some_and}
 use Rattle.ld_expr.specs.Membership.{is_member, is_member_of}
 use Rattle.ld_expr.specs.Seen.{says_yes, moment_of_value}
 use Rattle.ld_expr.specs.Terms.{term_value, cell_of_property}
-use Rattle.ld_roles.specs.Roster.{is_member_in}
 use Rattle.ld_firing.specs.Actions.{Doing, nothing_done, with_write, with_change, if_fitting, change_for, targets_of, recipients, notice_now, with_visible, set_visible, do_action, actions_of, opened_by, with_opening, firing_by, site_firing}
 use Rattle.ld_rules.specs.LawWords.{notices_among}
 use Rattle.ld_firing.specs.RunSettling.{Settlement, settlement_after, turns_within, run_settling}
-use Rattle.ld_state.specs.RunState.{RunState, NoticeState, seen_in, cell_of}
+use Rattle.ld_state.specs.RunState.{RunState, NoticeState, seen_in, cell_of, membership_of}
 use Rattle.ld_firing.specs.RunSystem.{run_system, firing_at}
 use Rattle.ld_rules.specs.SiteTests.{site_test, site_mark, rule_of}
 use Rattle.ld_rules.proofs.Alike.{same_any, same_kept}
@@ -52,7 +51,7 @@ same_member unit s t persons role p = by (role_number unit role)
   where
     by : (number : Option ℕ) → is_some_and (λ r. is_member (seen_in unit t) r p) number ≡ is_some_and (λ r. is_member (seen_in unit s) r p) number
     by None = refl
-    by (Some r) = ap (λ ps. says_yes (Some (truth_datum (is_member_in unit ps r p)))) persons
+    by (Some r) = ap (λ ps. says_yes (membership_of unit ps r p)) persons
 
 -- A notice is the same whenever in a firing it is sent.
 same_notice : (unit : Unit) (s t : RunState) (notice : Notice) → IsSteady s t → notice_now unit t notice ≡ notice_now unit s notice

@@ -21,7 +21,6 @@ pub mod Looping
 pub mod MetChecks
 pub mod Named
 pub mod NewValues
-pub mod OnlyShown
 pub mod Progressing
 pub mod ReadsByMark
 pub mod RulesThere
@@ -30,7 +29,7 @@ pub mod SeatsAscent
 pub mod SeatsKept
 pub mod SeatsNumbers
 pub mod SeatsSweep
-pub mod SeenInStates
+pub mod SlotsThere
 pub mod Sites
 pub mod SitesNumbered
 pub mod Told

@@ -1,17 +1,18 @@
 -- What is so of each element of a list: cells that are there, steps that are taken, persons who are chosen.
 use Rattle.std.proofs.Common.{◌≡◌, refl, sym, ap, subst, ◌∙◌, ℕ, suc, ◌+◌, ◌*◌, ◌<◌, ◌≤◌, inl, inr, List, [], ◌∷◌, ◌++◌, map, filter, flat_map, drop, take, get_or, length, cond, Bool, true, false, ◌||◌, arith, mul-suc, append-nil}
+use Rattle.std.proofs.lemmas.Bool.{and_parts}
 use Rattle.std.proofs.lemmas.List.{map-append, take_all}
 use Rattle.std.proofs.lemmas.List.Elements.{filter-append}
+use Rattle.std.proofs.lemmas.List.Folds.{list_all-append}
 use Rattle.std.proofs.lemmas.List.FromFn.{map-range_with_len_more}
 use Rattle.std.proofs.lemmas.List.Sums.{sum_by-append, sum_by-cons, sum_by-take-le}
 use Rattle.std.proofs.lemmas.Option.{slice_get_read}
-use Rattle.std.specs.List.{list_any, sum_by}
+use Rattle.std.specs.List.{list_all, list_any, sum_by}
 use Rattle.ld_base.specs.Numbers.{numbers_below}
 use Rattle.ld_model.specs.declared.cell.CellName.{CellName}
 use Rattle.ld_model.specs.declared.unit.Unit.{Unit}
-use Rattle.ld_expr.proofs.Having.{has_front, has_back}
 use Rattle.ld_expr.proofs.Totals.{from_here}
-use Rattle.ld_expr.specs.Viewing.{HasCells}
+use Rattle.ld_firing.specs.ActionCells.{HasSlots, has_slot}
 use Rattle.ld_firing.specs.Actions.{Doing}
 use Rattle.ld_firing.specs.Progress.{Progress, Does}
 use Rattle.ld_firing.proofs.Progressing.{one_more}
@@ -19,21 +20,27 @@ use Rattle.ld_state.proofs.Elements.{IsIn, in_stands}
 
 -- ---- cells
 
-pub cells_of_one : {A : Type 0} (has : CellName → Bool) (cells : A → List CellName) (xs : List A) (x : A) → IsIn xs x
-    → HasCells has (flat_map cells xs) → HasCells has (cells x)
-cells_of_one has cells [] x inside all = absurd inside
-cells_of_one has cells (y ∷ ys) x (inl is) all =
-    subst (λ z. HasCells has (cells z)) is (has_front (cells y) (flat_map cells ys) all)
-cells_of_one has cells (y ∷ ys) x (inr later) all =
-    cells_of_one has cells ys x later (has_back (cells y) (flat_map cells ys) all)
+both_have : (unit : Unit) (persons : ℕ) (xs ys : List CellName) → HasSlots unit persons (xs ++ ys)
+    → (list_all (has_slot unit persons) xs ≡ true) × (list_all (has_slot unit persons) ys ≡ true)
+both_have unit persons xs ys all =
+    and_parts (list_all (has_slot unit persons) xs) (list_all (has_slot unit persons) ys)
+    (sym (list_all-append (has_slot unit persons) xs ys) ∙ all.each)
+
+pub slots_of_one : {A : Type 0} (unit : Unit) (persons : ℕ) (cells : A → List CellName) (xs : List A) (x : A) → IsIn xs x
+    → HasSlots unit persons (flat_map cells xs) → HasSlots unit persons (cells x)
+slots_of_one unit persons cells [] x inside all = absurd inside
+slots_of_one unit persons cells (y ∷ ys) x (inl is) all =
+    subst (λ z. HasSlots unit persons (cells z)) is (record { each = (both_have unit persons (cells y) (flat_map cells ys) all).0 })
+slots_of_one unit persons cells (y ∷ ys) x (inr later) all =
+    slots_of_one unit persons cells ys x later (record { each = (both_have unit persons (cells y) (flat_map cells ys) all).1 })
 
 pub item_in : {A : Type 0} (xs : List A) (i : ℕ) (x : A) → i < length xs → x ≡ get_or xs i x → IsIn xs x
 item_in xs i x within is = in_stands xs i x (slice_get_read xs (length xs) i x refl within is)
 
 -- The cells of the element of this number.
-pub cells_of_item : {A : Type 0} (has : CellName → Bool) (cells : A → List CellName) (xs : List A) (i : ℕ) (x : A)
-    → i < length xs → x ≡ get_or xs i x → HasCells has (flat_map cells xs) → HasCells has (cells x)
-cells_of_item has cells xs i x within is all = cells_of_one has cells xs x (item_in xs i x within is) all
+pub slots_of_item : {A : Type 0} (unit : Unit) (persons : ℕ) (cells : A → List CellName) (xs : List A) (i : ℕ) (x : A)
+    → i < length xs → x ≡ get_or xs i x → HasSlots unit persons (flat_map cells xs) → HasSlots unit persons (cells x)
+slots_of_item unit persons cells xs i x within is all = slots_of_one unit persons cells xs x (item_in xs i x within is) all
 
 -- ---- steps
 

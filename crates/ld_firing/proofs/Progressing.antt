@@ -43,7 +43,8 @@ use Rattle.ld_state.specs.RunState.{RunState, NoticeState, seen_in, with_cell, w
 use Rattle.ld_state.specs.StateView.{StateView, IsStateOf, is_following, run_of}
 use Rattle.ld_state.proofs.Elements.{different, none_is_some, some_same}
 use Rattle.ld_state.proofs.SameCells.{one_value}
-use Rattle.ld_firing.proofs.SeenInStates.{persons_counted, slot_same}
+use Rattle.ld_state.proofs.SeenSame.{persons_counted}
+use Rattle.ld_firing.proofs.SlotsThere.{slot_same}
 
 -- ---- one after another
 

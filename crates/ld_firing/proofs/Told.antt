@@ -22,7 +22,7 @@ use Rattle.ld_firing.proofs.Firings.{other_cell, write_told}
 use Rattle.ld_firing.proofs.Found.{in_filter_map}
 use Rattle.ld_firing.proofs.Laws.{same_cell_of, slots_below}
 use Rattle.ld_firing.proofs.Progressing.{told_where}
-use Rattle.ld_firing.proofs.SeenInStates.{persons_counted}
+use Rattle.ld_state.proofs.SeenSame.{persons_counted}
 
 -- ---- one after another
 

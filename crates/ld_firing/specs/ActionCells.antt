@@ -1,5 +1,6 @@
--- The cells that a firing looks at and writes, but for those that each run has.
-use Rattle.std.specs.Prelude.{ℕ, List, [], ◌∷◌, ◌++◌, flat_map, Bool, is_some}
+-- The cells that a firing writes.
+use Rattle.std.specs.Prelude.{◌≡◌, ℕ, List, [], ◌∷◌, ◌++◌, flat_map, Bool, true, is_some}
+use Rattle.std.specs.List.{list_all}
 use Rattle.ld_model.specs.declared.cell.CellName.{CellName}
 use Rattle.ld_model.specs.declared.cell.Owner.{Owner}
 use Rattle.ld_model.specs.declared.cell.Owner.TheVariants.{Run, Person}
@@ -9,7 +10,7 @@ use Rattle.ld_model.specs.declared.condition.Action.TheVariants.{Show, Hide, Cha
 use Rattle.ld_model.specs.declared.unit.Unit.{Unit}
 use Rattle.ld_names.specs.declared.rule.Rule.{Rule}
 use Rattle.ld_names.specs.Names.{thing_number}
-use Rattle.ld_expr.specs.Looks.{property_looks, term_looks}
+use Rattle.ld_expr.specs.Looks.{property_looks}
 use Rattle.ld_expr.specs.Lookup.{list_from}
 use Rattle.ld_expr.specs.Seen.{visibility_cell, act_opened_cell, mark_cell}
 use Rattle.ld_firing.specs.Actions.{actions_of, is_of_persons, opened_by, owners_of_change}
@@ -19,21 +20,25 @@ use Rattle.ld_state.specs.RunCells.{slot_of}
 abbrev pub has_slot : Unit → ℕ → CellName → Bool
 has_slot unit persons cell = is_some (slot_of unit persons cell)
 
+-- It has each of the cells.
+pub record HasSlots (unit : Unit) (persons : ℕ) (cells : List CellName) : Type 0 where
+  pub each : list_all (has_slot unit persons) cells ≡ true
+
 -- What the owner sees of the thing: a person.
 abbrev pub visible_cells : Unit → Owner → List ℕ → List CellName
 visible_cells unit Run id = []
 visible_cells unit (Person p) id = list_from (λ thing. visibility_cell thing p.0 ∷ []) (thing_number unit id)
 
--- The owner's value of the property, and what its new value is worked out from.
+-- The owner's value of the property.
 abbrev pub change_cells : Unit → ChangeOf → Owner → List CellName
-change_cells unit change owner = property_looks unit owner change.property ++ term_looks unit owner change.value
+change_cells unit change owner = property_looks unit owner change.property
 
 -- The same for all for whom the change is made.
 abbrev pub all_change_cells : Unit → ℕ → Owner → ChangeOf → List CellName
 all_change_cells unit persons owner change =
     flat_map (change_cells unit change) (owners_of_change persons owner (is_of_persons unit change.property))
 
--- The cells of one action at a site of the owner; of a notice none is listed.
+-- The cells of one action at a site of the owner; a notice writes none.
 abbrev pub action_cells : Unit → ℕ → Owner → Action → List CellName
 action_cells unit persons owner (Show things) = flat_map (visible_cells unit owner) things
 action_cells unit persons owner (Hide things) = flat_map (visible_cells unit owner) things

@@ -2,9 +2,8 @@
 ghost use Rattle.std.specs.Prelude.{◌≡◌, ◌+◌, ◌≤◌, flat_map, fold, length, map, sum_by, OnOk};
 ghost use Rattle.ld_base.specs.declared.fired.Fired.{Fired as Counts};
 ghost use Rattle.ld_model.specs.declared.condition.Action.TheVariants.{Change as ChangeAction, Notify as NotifyAction};
-ghost use Rattle.ld_expr.specs.Viewing.{HasCells};
 ghost use Rattle.ld_state.specs.StateView.{IsStateOf, run_of};
-ghost use Rattle.ld_firing.specs.ActionCells.{action_cells, actions_cells, has_slot, visible_cells};
+ghost use Rattle.ld_firing.specs.ActionCells.{HasSlots, action_cells, actions_cells, visible_cells};
 ghost use Rattle.ld_firing.specs.Actions.{actions_if, do_action, set_visible};
 ghost use Rattle.ld_firing.specs.Costs.{action_cost};
 ghost use Rattle.ld_firing.specs.Progress.{Does, progress_of};
@@ -33,7 +32,7 @@ impl<'a> Actor<'a> {
         steps: &mut Steps<L>,
     ) -> Result<(), NoMemory>
         requires own { IsStateOf self.now.unit.now state.old }
-        requires cells { HasCells (has_slot self.now.unit.now (length state.old.rows))
+        requires cells { HasSlots self.now.unit.now (length state.old.rows)
             (actions_cells self.now.unit.now (length state.old.rows) self.now.owner
             (actions_if follows.now)) }
         ensures does { OnOk result (Does self.now.unit.now
@@ -64,7 +63,7 @@ impl<'a> Actor<'a> {
         steps: &mut Steps<L>,
     ) -> Result<(), NoMemory>
         requires own { IsStateOf self.now.unit.now state.old }
-        requires cells { HasCells (has_slot self.now.unit.now (length state.old.rows))
+        requires cells { HasSlots self.now.unit.now (length state.old.rows)
             (actions_cells self.now.unit.now (length state.old.rows) self.now.owner
             (map ChangeAction changes.now)) }
         ensures does { OnOk result (Does self.now.unit.now
@@ -121,7 +120,7 @@ impl<'a> Actor<'a> {
         steps: &mut Steps<L>,
     ) -> Result<(), NoMemory>
         requires own { IsStateOf self.now.unit.now state.old }
-        requires cells { HasCells (has_slot self.now.unit.now (length state.old.rows))
+        requires cells { HasSlots self.now.unit.now (length state.old.rows)
             (actions_cells self.now.unit.now (length state.old.rows) self.now.owner actions.now) }
         ensures does { OnOk result (Does self.now.unit.now
             (progress_of state.old changed.old.items fired.old)
@@ -149,7 +148,7 @@ impl<'a> Actor<'a> {
         steps: &mut Steps<L>,
     ) -> Result<(), NoMemory>
         requires own { IsStateOf self.now.unit.now state.old }
-        requires cells { HasCells (has_slot self.now.unit.now (length state.old.rows))
+        requires cells { HasSlots self.now.unit.now (length state.old.rows)
             (action_cells self.now.unit.now (length state.old.rows) self.now.owner action.now) }
         ensures does { OnOk result (Does self.now.unit.now
             (progress_of state.old changed.old.items fired.old)
@@ -178,7 +177,7 @@ impl<'a> Actor<'a> {
         changed: &mut Vec<u32>,
     ) -> Result<(), NoMemory>
         requires own { IsStateOf self.now.unit.now state.old }
-        requires cells { HasCells (has_slot self.now.unit.now (length state.old.rows))
+        requires cells { HasSlots self.now.unit.now (length state.old.rows)
             (flat_map (visible_cells self.now.unit.now self.now.owner) things.now) }
         ensures does { (fired : Counts) → OnOk result (Does self.now.unit.now
             (progress_of state.old changed.old.items fired)
@@ -203,7 +202,7 @@ impl<'a> Actor<'a> {
         changed: &mut Vec<u32>,
     ) -> Result<(), NoMemory>
         requires own { IsStateOf self.now.unit.now state.old }
-        requires cells { HasCells (has_slot self.now.unit.now (length state.old.rows))
+        requires cells { HasSlots self.now.unit.now (length state.old.rows)
             (visible_cells self.now.unit.now self.now.owner thing.now) }
         ensures does { (fired : Counts) → OnOk result (Does self.now.unit.now
             (progress_of state.old changed.old.items fired)

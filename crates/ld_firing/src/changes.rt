@@ -6,11 +6,10 @@ ghost use Rattle.ld_model.specs.Properties.{is_personal};
 ghost use Rattle.ld_expr.specs.Lookup.{is_some_and, property_number, property_of};
 ghost use Rattle.ld_expr.specs.Owners.{fits_property, of_person};
 ghost use Rattle.ld_expr.specs.Terms.{term_value};
-ghost use Rattle.ld_expr.specs.Viewing.{HasCells};
 ghost use Rattle.ld_value.specs.Datum.{datum_of};
 ghost use Rattle.ld_state.specs.RunState.{seen_in};
 ghost use Rattle.ld_state.specs.StateView.{IsStateOf, run_of};
-ghost use Rattle.ld_firing.specs.ActionCells.{all_change_cells, change_cells, has_slot};
+ghost use Rattle.ld_firing.specs.ActionCells.{HasSlots, all_change_cells, change_cells};
 ghost use Rattle.ld_firing.specs.Actions.{change_for, do_change, if_fitting, is_of_persons, owners_of_change};
 ghost use Rattle.ld_firing.specs.Costs.{term_leaves};
 ghost use Rattle.ld_firing.specs.Progress.{Does, progress_of};
@@ -22,7 +21,7 @@ use ld_base::memory::NoMemory;
 use ld_base::numbers::{PersonNo, PropNo};
 use ld_base::steps::Steps;
 use ld_expr::cells::cell_of_property;
-use ld_expr::terms::value_of;
+use ld_expr::scope::Scope;
 use ld_model::cell::Owner;
 use ld_model::completion::Change;
 use ld_model::property::PropertyKind;
@@ -45,7 +44,7 @@ impl<'a> Actor<'a> {
         steps: &mut Steps<L>,
     ) -> Result<(), NoMemory>
         requires own { IsStateOf self.now.unit.now state.old }
-        requires cells { HasCells (has_slot self.now.unit.now (length state.old.rows))
+        requires cells { HasSlots self.now.unit.now (length state.old.rows)
             (all_change_cells self.now.unit.now (length state.old.rows) self.now.owner change.now) }
         ensures does { OnOk result (Does self.now.unit.now
             (progress_of state.old changed.old.items fired.old)
@@ -77,7 +76,7 @@ impl<'a> Actor<'a> {
         steps: &mut Steps<L>,
     ) -> Result<(), NoMemory>
         requires own { IsStateOf self.now.unit.now state.old }
-        requires cells { HasCells (has_slot self.now.unit.now (length state.old.rows))
+        requires cells { HasSlots self.now.unit.now (length state.old.rows)
             (flat_map (change_cells self.now.unit.now change.now)
             (map of_person (numbers_below (length state.old.rows)))) }
         ensures does { OnOk result (Does self.now.unit.now
@@ -110,7 +109,7 @@ impl<'a> Actor<'a> {
         steps: &mut Steps<L>,
     ) -> Result<(), NoMemory>
         requires own { IsStateOf self.now.unit.now state.old }
-        requires cells { HasCells (has_slot self.now.unit.now (length state.old.rows))
+        requires cells { HasSlots self.now.unit.now (length state.old.rows)
             (change_cells self.now.unit.now change.now owner) }
         ensures does { OnOk result (Does self.now.unit.now
             (progress_of state.old changed.old.items fired.old)
@@ -139,24 +138,18 @@ impl<'a> Actor<'a> {
         steps: &mut Steps<L>,
     ) -> Result<Option<Value>, NoMemory>
         requires own { IsStateOf self.now.unit.now state.now }
-        requires cells { HasCells (has_slot self.now.unit.now (length state.now.rows))
-            (change_cells self.now.unit.now change.now owner) }
         ensures value { IfOk result
             (λ value. option_map datum_of value ≡ (term_value self.now.unit.now
             (seen_in self.now.unit.now (run_of state.now)) owner change.now.value
             then if_fitting self.now.unit.now change.now.property)) }
         ensures cost { steps.new ≤ steps.old + term_leaves change.now.value }
     {
-        let Some(value) = value_of(
-            self.alloc,
-            self.unit,
-            self.names,
-            &change.value,
-            state,
-            owner,
-            steps,
-        )?
-        else {
+        let scope = Scope {
+            unit: self.unit,
+            names: self.names,
+            view: state,
+        };
+        let Some(value) = scope.value_of(self.alloc, owner, &change.value, steps)? else {
             return Ok(None);
         };
         if !self.fits(&change.property, &value) {

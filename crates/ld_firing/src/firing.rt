@@ -4,11 +4,10 @@ ghost use Rattle.ld_base.specs.declared.fired.Fired.{Fired as Counts};
 ghost use Rattle.ld_model.specs.declared.cell.CellName.TheVariants.{Now};
 ghost use Rattle.ld_names.specs.Rules.{sites_of};
 ghost use Rattle.ld_expr.specs.Seen.{mark_cell};
-ghost use Rattle.ld_expr.specs.Viewing.{HasCells};
 ghost use Rattle.ld_value.specs.Datum.{datum_of, truth_datum};
 ghost use Rattle.ld_state.specs.RunState.{seen_in};
 ghost use Rattle.ld_state.specs.StateView.{IsStateOf, run_of};
-ghost use Rattle.ld_firing.specs.ActionCells.{actions_cells, firing_cells, has_slot, opened_act_cells};
+ghost use Rattle.ld_firing.specs.ActionCells.{HasSlots, actions_cells, firing_cells, opened_act_cells};
 ghost use Rattle.ld_firing.specs.Actions.{actions_of, branch_of, do_action, opened_by, rule_effect, site_firing, with_opening, with_write};
 ghost use Rattle.ld_firing.specs.Costs.{action_cost, site_cost};
 ghost use Rattle.ld_firing.specs.Progress.{Does, progress_of};
@@ -91,7 +90,7 @@ impl<'a> Actor<'a> {
         steps: &mut Steps<L>,
     ) -> Result<Fired, NoMemory>
         requires own { IsStateOf self.now.unit.now state.old }
-        requires cells { HasCells (has_slot self.now.unit.now (length state.old.rows))
+        requires cells { HasSlots self.now.unit.now (length state.old.rows)
             (firing_cells self.now.unit.now (length state.old.rows) self.now.owner number.0 rule
             verdict) }
         ensures does { IfOk result (λ fired. Does self.now.unit.now
@@ -125,7 +124,7 @@ impl<'a> Actor<'a> {
         steps: &mut Steps<L>,
     ) -> Result<(), NoMemory>
         requires own { IsStateOf self.now.unit.now state.old }
-        requires cells { HasCells (has_slot self.now.unit.now (length state.old.rows))
+        requires cells { HasSlots self.now.unit.now (length state.old.rows)
             (opened_act_cells self.now.unit.now rule) }
         ensures does { (fired : Counts) → OnOk result (Does self.now.unit.now
             (progress_of state.old changed.old.items fired)
@@ -165,7 +164,7 @@ impl<'a> Actor<'a> {
         steps: &mut Steps<L>,
     ) -> Result<(), NoMemory>
         requires own { IsStateOf self.now.unit.now state.old }
-        requires cells { HasCells (has_slot self.now.unit.now (length state.old.rows))
+        requires cells { HasSlots self.now.unit.now (length state.old.rows)
             (actions_cells self.now.unit.now (length state.old.rows) self.now.owner
             (actions_of self.now.unit.now rule verdict)) }
         ensures does { OnOk result (Does self.now.unit.now

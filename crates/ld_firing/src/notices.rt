@@ -1,5 +1,5 @@
 //! Notices that are sent.
-ghost use Rattle.std.specs.Prelude.{◌≡◌, ℕ, List, ◌+◌, ◌*◌, ◌<◌, ◌≤◌, [], length, map, IfOk, OnOk, option_map, unwrap_or, pos};
+ghost use Rattle.std.specs.Prelude.{◌≡◌, ℕ, List, ◌+◌, ◌*◌, ◌≤◌, [], length, map, IfOk, OnOk, option_map, unwrap_or, pos};
 ghost use Rattle.std.specs.List.{list_any};
 ghost use Rattle.ld_base.specs.Maybe.{◌>>=◌ as ◌then◌};
 ghost use Rattle.ld_model.specs.declared.cell.CellName.TheVariants.{Now};
@@ -21,7 +21,7 @@ use ld_base::plain_text::PlainText;
 use ld_base::steps::Steps;
 use ld_base::text::Text;
 use ld_expr::cells::thing_number;
-use ld_expr::members::is_member_of;
+use ld_expr::scope::Scope;
 use ld_model::cell::CellName;
 use ld_model::completion::Notice;
 use ld_model::view::View;
@@ -136,14 +136,18 @@ impl<'a> Actor<'a> {
         state: &State,
         steps: &mut Steps<L>,
     ) -> bool
-        requires own { IsStateOf self.now.unit.now state.now }
-        requires person { person.0 < length state.now.rows }
+        requires { IsStateOf self.now.unit.now state.now }
         ensures value { result ≡ list_any (λ role. is_member_of self.now.unit.now
             (seen_in self.now.unit.now (run_of state.now)) role person.0) roles.now }
         ensures cost { steps.new ≤ steps.old + length roles.now }
     {
+        let scope = Scope {
+            unit: self.unit,
+            names: self.names,
+            view: state,
+        };
         for role in roles {
-            if is_member_of(self.unit, self.names, state, role, person, steps) {
+            if scope.is_member_of(person, role, steps) {
                 return true;
             }
         }

@@ -1,9 +1,12 @@
 -- What a person who joins leaves as it was: the cells of the run and of the others, who is a member of which role,
 -- and so all that the others are shown.
 use mathlib.Core.Path.{fun_ext}
-use Rattle.std.proofs.Common.{◌≡◌, refl, ap, ap₂, subst, ◌∙◌, ℕ, ◌+◌, ◌<◌, ℤ, List, [], ◌∷◌, ◌++◌, map, flat_map, filter, length, Option, Some, None, Ok, Bool, true, false, cond, codes, decimal, is_some, option_map, length-append}
+use Rattle.std.proofs.Common.{◌≡◌, refl, ap, ap₂, subst, ◌∙◌, ℕ, ◌+◌, ◌<◌, ℤ, List, [], ◌∷◌, ◌++◌, map, flat_map, filter, length, Option, Some, None, Ok, Bool, true, false, cond, codes, decimal, is_some, option_map, length-append, sym, nat_lt, ◌&&◌}
 use Rattle.std.specs.Prelude.{⊤}
-use Rattle.ld_base.specs.Maybe.{◌>>=◌}
+use Rattle.std.proofs.lemmas.Bool.{ltb-false}
+use Rattle.std.proofs.lemmas.Option.{slice_get_past}
+use Rattle.ld_base.specs.Maybe.{◌>>=◌, provided}
+use Rattle.ld_value.specs.Datum.{truth_datum}
 use Rattle.ld_base.specs.Numbers.{numbers_below}
 use Rattle.ld_model.specs.Counting.{each_numbered_from}
 use Rattle.ld_model.specs.RoleRows.{RoleRow}
@@ -18,13 +21,13 @@ use Rattle.ld_model.specs.declared.unit.Unit.{Unit}
 use Rattle.ld_names.specs.Names.{role_number, thing_number}
 use Rattle.ld_lines.specs.declared.command.RunCommand.TheVariants.{Enrol}
 use Rattle.ld_expr.specs.Done.{is_done, mark_for}
-use Rattle.ld_expr.specs.Lookup.{completing_number}
+use Rattle.ld_expr.specs.Lookup.{completing_number, is_some_and}
 use Rattle.ld_expr.specs.Membership.{is_member, members}
 use Rattle.ld_expr.specs.Owners.{of_person, owner_of, is_person_rule}
 use Rattle.ld_expr.specs.Seen.{Seen, everyone, says_yes, visibility_cell, act_opened_cell, mark_cell}
-use Rattle.ld_roles.specs.Membership.{is_member_among}
+use Rattle.ld_roles.specs.Membership.{is_member_among, is_member_by}
 use Rattle.ld_roles.specs.RoleBounds.{role_bounds}
-use Rattle.ld_roles.specs.Roster.{Persons, newcomer}
+use Rattle.ld_roles.specs.Roster.{Persons, newcomer, is_member_in}
 use Rattle.ld_state.specs.GlobalValues.{GlobalValues}
 use Rattle.ld_state.specs.RunState.{RunState, seen_in, cell_of, is_cell_of, joined}
 use Rattle.ld_state.proofs.Memberships.{below_more}
@@ -52,18 +55,41 @@ module _ (unit : Unit) (store : GlobalValues) (s : RunState) (moment : ℤ) (nam
   abbrev after : Seen
   after = seen_in unit (joined unit store s moment name)
 
-  seen_member : (role p : ℕ) → is_member after role p ≡ is_member before role p
+  -- Who is seen as a member: of a role that there is, who is one by what is held.
+  member_in : (t : RunState) (role p : ℕ) → is_member (seen_in unit t) role p
+      ≡ (nat_lt role (length (role_bounds unit)) && is_member_in unit t.persons role p)
   unfolding cell_of
-  seen_member role p = joining_leaves_member unit store s moment name role p
+  member_in t role p = by (nat_lt role (length (role_bounds unit))) (nat_lt p (length t.persons)) refl
+    where
+      by : (a b : Bool) → nat_lt p (length t.persons) ≡ b
+          → says_yes (provided (a && b) (truth_datum (is_member_in unit t.persons role p)))
+          ≡ (a && is_member_in unit t.persons role p)
+      by false b is = refl
+      by true true is = refl
+      by true false past =
+          sym (ap (is_some_and (λ person. is_member_by (role_bounds unit) person role))
+          (slice_get_past t.persons p (ltb-false p (length t.persons) past)))
+
+  seen_member : (role p : ℕ) → is_member after role p ≡ is_member before role p
+  seen_member role p =
+      member_in (joined unit store s moment name) role p
+      ∙ ap (λ b. nat_lt role (length (role_bounds unit)) && b) (joining_leaves_member unit store s moment name role p)
+      ∙ sym (member_in s role p)
 
   -- The newcomer is none of the members.
   not_new : (role : ℕ) → is_member before role (length s.persons) ≡ false
-  unfolding cell_of
-  not_new role = past s.persons
+  not_new role =
+      member_in s role (length s.persons)
+      ∙ ap (λ b. nat_lt role (length (role_bounds unit)) && b) (past s.persons)
+      ∙ none (nat_lt role (length (role_bounds unit)))
     where
       past : (persons : Persons) → is_member_among (role_bounds unit) persons role (length persons) ≡ false
       past [] = refl
       past (one ∷ persons) = past persons
+
+      none : (a : Bool) → (a && false) ≡ false
+      none true = refl
+      none false = refl
 
   filter_same : (test other : ℕ → Bool) (xs : List ℕ) → ((x : ℕ) → test x ≡ other x) → filter test xs ≡ filter other xs
   filter_same test other [] same = refl

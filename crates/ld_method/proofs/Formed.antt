@@ -1,5 +1,5 @@
 -- Units are well-formed as they are read.
-use Rattle.std.proofs.Common.{◌≡◌, List, [], ◌∷◌, Option, Some, None, Bool, true, ◌&&◌, Result, Ok, Err, IfOk, refl, ap, sym, ◌∙◌}
+use Rattle.std.proofs.Common.{◌≡◌, List, [], ◌∷◌, Option, Some, None, Bool, true, Result, Ok, Err, IfOk, refl, ap, sym, ◌∙◌}
 use Rattle.ld_formats.specs.Units.{Head, parts, method_documents, method_with, unit, unit_from, declared_parts, head_and_conditions, is_well_formed}
 use Rattle.ld_json.specs.Fault.{Told}
 use Rattle.ld_json.specs.declared.fault.ReadFault.{ReadFault}
@@ -9,7 +9,6 @@ use Rattle.ld_model.specs.declared.unit.Parts.{Parts}
 use Rattle.ld_model.specs.declared.unit.Unit.{Unit}
 use Rattle.ld_shape.specs.Keeping.{Keeps}
 use Rattle.ld_shape.specs.Reading.{ValueOrFaults, option_mapped, GivesOrSays}
-use Rattle.ld_shape.specs.Shapes.{Described}
 use Rattle.ld_value.proofs.Choices.{both}
 
 kept : {A : Type 0} (form : A → Bool) (o : Option A) (x : A) → Keeps form o → o ≡ Some x → form x ≡ true

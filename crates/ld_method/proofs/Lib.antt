@@ -1,2 +1,1 @@
-pub mod AnswersFormed
 pub mod Formed

@@ -5,12 +5,12 @@ ghost use Rattle.ld_formats.specs.Completions.{act_completion, play_completion, 
 ghost use Rattle.ld_json.specs.Access.{IsObject};
 ghost use Rattle.ld_shape.specs.Reading.{GivesOrSays};
 
-use ld_conditions::changes::Follows;
-use ld_conditions::completions::read_common;
-use ld_conditions::test_forms::MembersTest;
+use crate::test_forms::MembersTest;
 use ld_json::fault::ReadFault;
 use ld_json::node::Node;
 use ld_model::completion::{Completion, OnCompletion};
+use ld_reader::changes::Follows;
+use ld_reader::completions::read_common;
 use ld_shape::lists::ListOf;
 use ld_shape::members::{needed_at, optional_at};
 use ld_shape::reads::Reads;

@@ -9,13 +9,13 @@ ghost use Rattle.ld_shape.specs.Words.{one_of};
 use crate::method::MethodShape;
 use ld_base::id::Id;
 use ld_base::plain_text::PlainText;
-use ld_conditions::items::ItemShape;
 use ld_json::code::Code;
 use ld_json::fault::ReadFault;
 use ld_json::node::Node;
 use ld_model::item::ItemList;
 use ld_model::method::Method;
 use ld_model::unit::Level;
+use ld_reader::items::ItemShape;
 use ld_shape::lists::list_at;
 use ld_shape::members::{default_at, needed_at, optional_at};
 use ld_shape::reads::Reads;
@@ -27,7 +27,7 @@ use std::marker::Model;
 /// The number of sweeps of a settling that may fire, where the document says none.
 const USUAL_TURNS: u32 = 64;
 
-/// What the unit's own document tells.
+/// What the unit's own document holds.
 #[derive(Drop)]
 pub struct Head {
     /// The number of the format of the documents.
@@ -142,7 +142,7 @@ impl Reads for HeadShape {
     }
 }
 
-/// What stands in the document behind the level.
+/// What stands in the document after the level.
 fn content_at(
     alloc: Global,
     node: &Node<'_, '_>,

@@ -6,9 +6,9 @@ ghost use Rattle.ld_formats.specs.Units.{parts as parts_shape, method_with, unit
 ghost use Rattle.ld_model.specs.declared.unit.Unit.{Unit};
 ghost use Rattle.ld_shape.specs.Reading.{GivesOrSays};
 
+use crate::conditions::ConditionsDocument;
 use crate::unit::{Head, HeadShape};
 use ld_base::items::Items;
-use ld_conditions::conditions::ConditionsDocument;
 use ld_json::docs::Docs;
 use ld_json::fault::ReadFault;
 use ld_json::file::FileNo;

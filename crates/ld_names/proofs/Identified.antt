@@ -1,5 +1,5 @@
--- The identifiers of a unit, told from the list of its parts.
-use Rattle.std.proofs.Common.{◌≡◌, ℕ, ◌+◌, List, [], ◌∷◌, ◌++◌, map, Bool, true, false, ◌&&◌, Option, Some, None, refl, sym, ap, ◌∙◌, arith, codes}
+-- The identifiers of a unit, found in the list of its parts.
+use Rattle.std.proofs.Common.{◌≡◌, ℕ, ◌+◌, List, [], ◌∷◌, ◌++◌, map, true, false, Option, Some, None, refl, sym, ap, ◌∙◌, arith, codes}
 use Rattle.std.proofs.lemmas.Grind.{common_steps, flat_map-append}
 use Rattle.std.proofs.lemmas.List.{append-nil, append_assoc, map-append}
 use Rattle.std.proofs.lemmas.List.Folds.{list_any-append}
@@ -18,68 +18,41 @@ use Rattle.ld_names.specs.Identifiers.{identified_by, identifiers_in, role_ident
 use Rattle.ld_parts.specs.Listing.{shared_parts, role_part, property_parts, property_parts_at, environment_parts, activity_parts, structure_parts, method_parts, unit_parts, condition_parts, middle_parts, parts_of}
 use Rattle.ld_walk.specs.CommonParts.{items_parts, optional_reference_parts}
 use Rattle.ld_walk.specs.Parts.{Declared}
-use Rattle.ld_walk.specs.Parts.{What, Declares, Refers, Lists, Shares, Completes, Follows, Judges, Leaf, LeftOut, Types, Other, Part}
+use Rattle.ld_walk.specs.Parts.{What, Declares, Types, Part}
 use Rattle.ld_walk.specs.Places.{At, root, nth}
 use Rattle.ld_names.specs.Things.{Entry, thing_in, things_in, things_of}
 use Rattle.ld_names.proofs.Differing.{bytes_eq-turned}
-use Rattle.ld_names.proofs.OnlyThings.{declares_thing, OnlyThings, both, environments_only, activities_only, structures_only, unit_only, conditions_only}
+use Rattle.ld_parts.proofs.EachPart.{Each, HoldsOfThings, is_declared, both, first_of, rest_of, environments_each, activities_each, structures_each, unit_each, conditions_each}
 
 abbrev ids : List Entry → List (List ℕ)
 ids entries = map (λ entry. entry.identifier) entries
 
-first_of : (a b : Bool) → (a && b) ≡ true → a ≡ true
-first_of true b both = refl
-first_of false b both = cc
-
-second_of : (a b : Bool) → (a && b) ≡ true → b ≡ true
-second_of true b both = both
-second_of false b both = cc
-
 -- ---- parts that declare only things
 
-no_role : (what : What) → declares_thing what ≡ true → role_identified_by what ≡ []
-no_role (Declares (kind.Thing _) id visible) only = refl
-no_role (Declares kind.Unit id visible) only = cc
-no_role (Declares kind.Role id visible) only = cc
-no_role (Declares kind.Property id visible) only = cc
-no_role (Refers _ _) only = refl
-no_role (Lists _ _) only = refl
-no_role (Shares _) only = refl
-no_role (Completes _) only = refl
-no_role (Follows _) only = refl
-no_role (Judges _) only = refl
-no_role (Leaf _) only = refl
-no_role LeftOut only = refl
-no_role (Types _) only = refl
-no_role Other only = refl
+-- What is declared here is no role, and its identifiers are those of the things.
+abbrev NamesThings : What → Type 0
+NamesThings what = (role_identified_by what ≡ []) × (identified_by what ≡ ids (thing_in what))
 
-is_thing : (what : What) → declares_thing what ≡ true → identified_by what ≡ ids (thing_in what)
-is_thing (Declares (kind.Thing _) id visible) only = refl
-is_thing (Declares kind.Unit id visible) only = cc
-is_thing (Declares kind.Role id visible) only = cc
-is_thing (Declares kind.Property id visible) only = cc
-is_thing (Refers _ _) only = refl
-is_thing (Lists _ _) only = refl
-is_thing (Shares _) only = refl
-is_thing (Completes _) only = refl
-is_thing (Follows _) only = refl
-is_thing (Judges _) only = refl
-is_thing (Leaf _) only = refl
-is_thing LeftOut only = refl
-is_thing (Types _) only = refl
-is_thing Other only = refl
+names_things : HoldsOfThings NamesThings
+names_things = record {
+  other = other;
+  shown = λ place id visible is. (refl, refl);
+  unshown = λ place id is. (refl, refl);
+}
+  where
+    other : (what : What) → is_declared what ≡ false → NamesThings what
+    other (Declares _ _ _) plain = cc
+    other _ plain = (refl, refl)
 
-no_roles : (parts : List Part) → OnlyThings parts → role_identifiers_in parts ≡ []
+no_roles : (parts : List Part) → Each NamesThings parts → role_identifiers_in parts ≡ []
 no_roles [] only = refl
-no_roles (part ∷ parts) only =
-    rw (no_role part.what (first_of (declares_thing part.what) _ only)) (no_roles parts (second_of (declares_thing part.what) _ only))
+no_roles (part ∷ parts) only = rw (first_of NamesThings only).0 (no_roles parts (rest_of NamesThings only))
 
-are_things : (parts : List Part) → OnlyThings parts → identifiers_in parts ≡ ids (things_in parts)
+are_things : (parts : List Part) → Each NamesThings parts → identifiers_in parts ≡ ids (things_in parts)
 are_things [] only = refl
 are_things (part ∷ parts) only =
-    let here = is_thing part.what (first_of (declares_thing part.what) _ only) in
-    let rest = are_things parts (second_of (declares_thing part.what) _ only) in
-    rw (here, rest) (sym (map-append (λ (entry : Entry). entry.identifier) (thing_in part.what) (things_in parts)))
+    rw ((first_of NamesThings only).1, are_things parts (rest_of NamesThings only))
+    (sym (map-append (λ (entry : Entry). entry.identifier) (thing_in part.what) (things_in parts)))
 
 -- ---- roles and properties
 
@@ -161,19 +134,18 @@ own_parts unit =
 abbrev last_parts : Unit → List Part
 last_parts unit = each_numbered (condition_parts (root file.Conditions)) unit.conditions
 
-inner_only : (unit : Unit) → OnlyThings (inner_parts unit)
+inner_only : (unit : Unit) → Each NamesThings (inner_parts unit)
 inner_only unit =
-    let environments = each_numbered (environment_parts (root file.Environments)) unit.environments in
-    let activities = each_numbered (activity_parts (root file.Activities)) unit.activities in
-    let structures = each_numbered (structure_parts (root file.Activities)) unit.structures in
-    let second = both activities structures (activities_only (root file.Activities) unit.activities) (structures_only (root file.Activities) unit.structures) in
-    both environments (activities ++ structures) (environments_only (root file.Environments) unit.environments) second
+    both NamesThings (environments_each NamesThings names_things (root file.Environments) unit.environments)
+    (both NamesThings (activities_each NamesThings names_things (root file.Activities) unit.activities)
+    (structures_each NamesThings names_things (root file.Activities) unit.structures))
 
-own_only : (unit : Unit) → OnlyThings (own_parts unit)
-own_only unit = unit_only (root file.Unit) unit.learning_objectives unit.prerequisites unit.method
+own_only : (unit : Unit) → Each NamesThings (own_parts unit)
+own_only unit =
+    unit_each NamesThings names_things (root file.Unit) unit.learning_objectives unit.prerequisites unit.method
 
-last_only : (unit : Unit) → OnlyThings (last_parts unit)
-last_only unit = conditions_only (root file.Conditions) unit.conditions
+last_only : (unit : Unit) → Each NamesThings (last_parts unit)
+last_only unit = conditions_each NamesThings names_things (root file.Conditions) unit.conditions
 
 abbrev role_list : Unit → List (List ℕ)
 role_list unit = map (λ role. role.identifier) (roles_of unit)

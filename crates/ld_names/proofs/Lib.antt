@@ -6,8 +6,7 @@ pub mod InRows
 pub mod Kept
 pub mod NameLaws
 pub mod Numbered
-pub mod OnlyThings
 pub mod Rows
 pub mod SameRules
-pub mod Seen
+pub mod Shown
 pub mod Split

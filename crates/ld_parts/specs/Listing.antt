@@ -4,7 +4,6 @@ use Rattle.std.specs.Prelude.{ℕ, List, [], ◌∷◌, ◌++◌, map, Bool, tru
 use Rattle.ld_json.specs.declared.file.FileNo.TheVariants as file
 use Rattle.ld_model.specs.declared.activity.Activity.{Activity as ActivityOf}
 use Rattle.ld_model.specs.declared.activity.Structure.{Structure as StructureOf}
-use Rattle.ld_model.specs.declared.completion.Change.{Change}
 use Rattle.ld_model.specs.declared.completion.Completion.{Completion}
 use Rattle.ld_model.specs.declared.completion.Completion.TheVariants.{UserChoice, TimeLimit, WhenPropertyValueIsSet, WhenRolePartCompleted, WhenConditionTrue, WhenLastActCompleted, WhenPlayCompleted}
 use Rattle.ld_model.specs.declared.completion.OnCompletion.{OnCompletion}

@@ -1,1 +1,2 @@
+pub mod AnswersFormed
 pub mod StructureNames

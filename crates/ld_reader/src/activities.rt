@@ -8,11 +8,11 @@ ghost use Rattle.ld_shape.specs.Objects.{only_members};
 ghost use Rattle.ld_shape.specs.Reading.{GivesOrSays};
 ghost use Rattle.ld_shape.specs.Words.{one_of};
 
+use crate::changes::Follows;
+use crate::completions::ActivityCompletion;
+use crate::items::ItemShape;
 use ld_base::items::Items;
 use ld_base::memory::NoMemory;
-use ld_conditions::changes::Follows;
-use ld_conditions::completions::ActivityCompletion;
-use ld_conditions::items::ItemShape;
 use ld_json::code::Code;
 use ld_json::fault::ReadFault;
 use ld_json::node::Node;
@@ -169,7 +169,7 @@ type Content = (
     (ItemList, (ReferenceList, (ReferenceList, Doing))),
 );
 
-/// What stands behind the members that say what is shown of an activity of this kind.
+/// The members of an activity of this kind that follow those which say how it is shown.
 fn content_at(alloc: Global, node: &Node<'_, '_>, kind: ActivityKind) -> Result<Content, ReadFault>
     requires { IsObject node.now }
     ensures { GivesOrSays ((content_by kind).shape.reading node.now) result }

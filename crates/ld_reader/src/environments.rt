@@ -4,7 +4,7 @@
 ghost use Rattle.ld_formats.specs.Environments.{learning_object, service_words, service, environment};
 ghost use Rattle.ld_shape.specs.Words.{one_of};
 
-use ld_conditions::items::ItemShape;
+use crate::items::ItemShape;
 use ld_json::code::Code;
 use ld_json::fault::ReadFault;
 use ld_json::node::Node;

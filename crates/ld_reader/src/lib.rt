@@ -1,11 +1,21 @@
-//! Readers of roles, properties, environments, activities and structures, by the descriptions of
-//! these objects (crate `ld_formats`): what a node stands for, or its first fault.
-//! (docs/FORMATS.md, "Documents")
+//! Readers of the documents of roles, properties, environments and activities, by the descriptions
+//! of their objects (crate `ld_formats`): what a node stands for, or its first fault. So
+//! `read_parts` reads all four, and `read_term` and `read_on_completion` read what the method and
+//! the conditions hold, too. (docs/FORMATS.md, "Documents")
 #![tactic(auto, using(ld_json::proofs::First::says_more))]
 
 pub mod activities;
+pub mod changes;
+pub mod completions;
 pub mod environments;
+pub mod items;
+pub mod parts;
 pub mod properties;
 pub mod restrictions;
 pub mod roles;
 pub mod structures;
+pub mod terms;
+
+pub use changes::read_on_completion;
+pub use parts::read_parts;
+pub use terms::read_term;

@@ -9,11 +9,11 @@ ghost use Rattle.ld_shape.specs.Objects.{only_members, present};
 ghost use Rattle.ld_shape.specs.Reading.{GivesOrSays};
 ghost use Rattle.ld_shape.specs.Words.{one_of};
 
+use crate::completions::ValueText;
 use crate::restrictions::RestrictionsShape;
 use ld_base::id::Id;
 use ld_base::memory::NoMemory;
 use ld_base::plain_text::PlainText;
-use ld_conditions::completions::ValueText;
 use ld_json::code::Code;
 use ld_json::fault::ReadFault;
 use ld_json::node::Node;

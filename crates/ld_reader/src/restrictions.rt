@@ -3,8 +3,8 @@
 
 ghost use Rattle.ld_formats.specs.Properties.{restrictions};
 
+use crate::completions::ValueText;
 use ld_base::items::Items;
-use ld_conditions::completions::ValueText;
 use ld_json::fault::ReadFault;
 use ld_json::node::Node;
 use ld_model::property::Restrictions;

@@ -220,11 +220,10 @@ fn read_roles(alloc: Global, node: &Node<'_, '_>, kind: RoleKind) -> Result<Vec<
         (SaysFirst ((list_of 0 (shape_of (inner_role kind))).reading node.now).faults) }
 {
     let count = count_from(alloc, node, 0)?;
-    let roles = read_each(alloc, node, count, kind)?;
-    Ok(roles)
+    read_each(alloc, node, count, kind)
 }
 
-/// The roles of this kind that are the elements of an array, which are so many.
+/// The roles of this kind that are the `count` elements of an array.
 #[cycle(roles)]
 fn read_each(
     alloc: Global,

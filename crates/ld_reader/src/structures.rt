@@ -92,7 +92,7 @@ fn count_if_list(alloc: Global, node: &Node<'_, '_>) -> Result<Option<usize>, No
     }
 }
 
-/// A structure of this kind, with so many children.
+/// A structure of this kind, with this number of children.
 fn read_of_key(alloc: Global, node: &Node<'_, '_>, key: Key) -> Result<Structure, ReadFault>
     ensures { GivesOrSays ((structure_by key).reading node.now) result }
 {
@@ -140,8 +140,8 @@ fn only_structure(alloc: Global, node: &Node<'_, '_>, key: Key) -> Result<(), Re
 /// are left out.
 type Content = (Option<u32>, (ReferenceList, (ReferenceList, ((), ()))));
 
-/// What stands behind the members that say what is shown of a structure of this kind, with so many
-/// children.
+/// The members of a structure that follow those which say how it is shown, for this kind and number
+/// of children.
 fn content_at(alloc: Global, node: &Node<'_, '_>, key: Key) -> Result<Content, ReadFault>
     requires { IsObject node.now }
     ensures { GivesOrSays ((content_by key).shape.reading node.now) result }
@@ -173,7 +173,7 @@ fn selected_at(alloc: Global, node: &Node<'_, '_>, key: Key) -> Result<Option<u3
     }
 }
 
-/// The number of children to be done, of so many.
+/// The number of children to be done, of `count`.
 fn selected_among(
     alloc: Global,
     node: &Node<'_, '_>,
@@ -189,8 +189,8 @@ fn selected_among(
     Ok(Some(number))
 }
 
-/// The whole number from 1 to `most` that the node is. One that doesn't fit 32 bits is want of
-/// memory: no machine holds so long a list.
+/// The whole number from 1 to `most` that the node is. One that doesn't fit 32 bits is answered as
+/// out of memory, since no machine holds so long a list.
 fn number_up_to(alloc: Global, node: &Node<'_, '_>, most: usize) -> Result<u32, ReadFault>
     ensures { GivesOrSays ((number 1 most).reading node.now) result }
 {

@@ -7,16 +7,15 @@ use Rattle.ld_names.specs.declared.rule.Rule.{Rule}
 use Rattle.ld_names.specs.Rules.{Site, rules_of}
 use Rattle.ld_expr.specs.Seen.{Seen, says_yes}
 use Rattle.ld_state.specs.RunState.{RunState, cell_of, seen_in}
-use Rattle.ld_state.specs.StateView.{StateView, cells_seen, run_of}
+use Rattle.ld_state.specs.StateView.{StateView, run_of, seen_of}
 use Rattle.ld_rules.specs.SiteLooks.{looks_by, open_looks, rule_looks, site_looks}
 use Rattle.ld_rules.specs.SiteTests.{rule_of, says_for_good, site_mark}
-use Rattle.ld_rules.specs.SiteView.{looks_until_latched}
-use Rattle.ld_reads.specs.Gathering.{FallsShort, Gathers, with_cells}
+use Rattle.ld_reads.specs.Gathering.{FallsShort, Gathers, looks_until_latched, with_cells}
 use Rattle.ld_reads.proofs.Gathered.{short_first}
 
 -- A view of a state shows the mark of a site as it is seen of the run.
 pub mark_seen : (unit : Unit) (state : StateView) (site : Site)
-    → cells_seen state (site_mark site) ≡ cell_of unit (run_of state) (site_mark site)
+    → (seen_of state).value (site_mark site) ≡ cell_of unit (run_of state) (site_mark site)
 unfolding cell_of
 mark_seen unit state site = refl
 

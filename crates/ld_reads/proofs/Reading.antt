@@ -1,11 +1,9 @@
 -- What a reader sees of a run: the slots of its cells, its persons, and who is a member of a role.
-use Rattle.std.proofs.Common.{◌≡◌, ℕ, ◌+◌, ◌<◌, ◌≤◌, List, [], ◌∷◌, ◌++◌, drop, flat_map, fold, get_or, length, length-append, map, Option, Some, None, IfSome, option_map, Result, Ok, Err, OnErr, OnOk, true, sym, ap, subst, ◌∙◌, arith}
+use Rattle.std.proofs.Common.{◌≡◌, ℕ, ◌+◌, ◌<◌, ◌≤◌, List, [], ◌∷◌, ◌++◌, drop, flat_map, fold, get_or, length, length-append, map, Option, Some, None, Result, Ok, Err, OnErr, OnOk, sym, ap, subst, ◌∙◌, arith}
 use Rattle.std.proofs.lemmas.List.{length-map}
 use Rattle.std.specs.List.{cons_option}
-use Rattle.ld_base.specs.declared.numbers.RoleNo.{RoleNo}
 use Rattle.ld_graph.specs.Slots.{Slots}
 use Rattle.ld_model.specs.Expressions.{TestOf, tests_from}
-use Rattle.ld_model.specs.Roles.{roles_of}
 use Rattle.ld_model.specs.declared.cell.CellName.{CellName}
 use Rattle.ld_model.specs.declared.cell.CellName.TheVariants.{Roster}
 use Rattle.ld_model.specs.declared.cell.Owner.{Owner}
@@ -19,18 +17,10 @@ use Rattle.ld_expr.specs.Seen.{Seen, everyone, member_cell, says_yes}
 use Rattle.ld_state.specs.Layout.{slot_in}
 use Rattle.ld_state.specs.RunCells.{slot_of}
 use Rattle.ld_state.specs.RunState.{seen_in}
-use Rattle.ld_state.specs.StateView.{StateView, IsStateOf, cells_seen, has_cell, run_of}
-use Rattle.ld_rules.proofs.RoleNumbers.{role_below}
-use Rattle.ld_firing.proofs.CellsThere.{member_there}
-use Rattle.ld_firing.proofs.SeenInStates.{cell_there, persons_counted, seen_same, slot_same, slot_there}
+use Rattle.ld_state.specs.StateView.{StateView, IsStateOf, run_of, seen_of}
+use Rattle.ld_state.proofs.SeenSame.{persons_counted, seen_same}
+use Rattle.ld_firing.proofs.SlotsThere.{slot_same}
 use Rattle.ld_reads.specs.Gathering.{FallsShort, Gathers, with_cells, with_slot}
-
--- The number of a role is one of the unit's.
-pub role_within : (unit : Unit) (id : List ℕ) (found : Option RoleNo)
-    → option_map (λ role. role.0) found ≡ role_number unit id
-    → IfSome found (λ role. role.0 < length (roles_of unit))
-role_within unit id None is = tt
-role_within unit id (Some role) is = role_below unit id role.0 (sym is)
 
 pub on_ok : {T E P Q : Type 0} → (result : Result T E) → (P → Q) → OnOk result P → OnOk result Q
 on_ok (Ok value) gives told = gives told
@@ -89,14 +79,6 @@ module _ (unit : Unit) (state : StateView) (own : IsStateOf unit state) where
         → old.room < length (with_slot old.items slot) → FallsShort unit (run_of state) (cell ∷ []) old
     short_one slot is old short = omega (arith, short, ap length (cells_are (Some slot) is old.items))
 
-  -- Whether the person is a member of the role is one of the cells.
-  pub member_has : (r p : ℕ) → r < length (roles_of unit) → p < length (run_of state).persons
-      → has_cell state (member_cell r p) ≡ true
-  member_has r p role below =
-      let inside : p < length state.rows = omega (arith, below, persons_counted state) in
-      cell_there unit state own (member_cell r p)
-      (slot_there unit (length state.rows) (member_cell r p) (member_there unit (length state.rows) r p role inside))
-
   pub member_seen : (r p : ℕ)
-      → says_yes (cells_seen state (member_cell r p)) ≡ is_member (seen_in unit (run_of state)) r p
+      → says_yes ((seen_of state).value (member_cell r p)) ≡ is_member (seen_in unit (run_of state)) r p
   member_seen r p = ap (λ (seen : Seen). is_member seen r p) (seen_same unit state own)

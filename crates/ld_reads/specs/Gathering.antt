@@ -4,6 +4,11 @@ use Rattle.std.specs.List.{list_any}
 use Rattle.ld_graph.specs.Slots.{Slots}
 use Rattle.ld_model.specs.declared.cell.CellName.{CellName}
 use Rattle.ld_model.specs.declared.unit.Unit.{Unit}
+use Rattle.ld_names.specs.declared.rule.Rule.{Rule}
+use Rattle.ld_names.specs.Rules.{Site}
+use Rattle.ld_expr.specs.Seen.{Seen}
+use Rattle.ld_rules.specs.SiteLooks.{looks_by}
+use Rattle.ld_rules.specs.SiteTests.{is_latched, site_mark}
 use Rattle.ld_firing.specs.RunSystem.{slots_named}
 use Rattle.ld_state.specs.RunState.{RunState}
 
@@ -23,6 +28,11 @@ pub record Gathers (unit : Unit) (s : RunState) (cells : List CellName) (old new
 -- The list has no room for the slots of the cells.
 abbrev pub FallsShort : Unit → RunState → List CellName → Slots → Type 0
 FallsShort unit s cells old = old.room < length (with_cells unit s old.items cells)
+
+-- What the test of a site looks at whose rule this is: the mark alone, where the rule has said yes for good.
+abbrev pub looks_until_latched : Unit → Seen → Site → Rule → List CellName
+looks_until_latched unit seen site rule =
+    if is_latched seen site rule then site_mark site ∷ [] else looks_by unit seen site rule
 
 -- The cells, if so.
 abbrev pub cells_if : Bool → List CellName → List CellName

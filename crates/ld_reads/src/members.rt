@@ -1,6 +1,5 @@
 //! Which cells are read to know who is a member of a role, and what members have done.
-ghost use Rattle.std.specs.Prelude.{◌≡◌, ◌+◌, ◌<◌, ◌≤◌, flat_map, length, map, OnErr, OnOk};
-ghost use Rattle.ld_model.specs.Roles.{roles_of};
+ghost use Rattle.std.specs.Prelude.{◌≡◌, ◌+◌, ◌≤◌, flat_map, length, map, OnErr, OnOk};
 ghost use Rattle.ld_expr.specs.Looks.{done_looks, member_looks, members_looks};
 ghost use Rattle.ld_expr.specs.Membership.{is_member, members, members_of};
 ghost use Rattle.ld_expr.specs.Owners.{of_person};
@@ -119,7 +118,6 @@ fn read_marks_of_members<L: Ledger>(
     list: &mut SlotList,
     steps: &mut Steps<L>,
 ) -> Result<(), NoMemory>
-    requires role { role.0 < length (roles_of reader.now.unit.now) }
     ensures gathers { OnOk result (Gathers reader.now.unit.now (run_of reader.now.state.now)
         (flat_map (λ p. done_looks reader.now.unit.now (of_person p) target.now)
         (members (seen_in reader.now.unit.now (run_of reader.now.state.now)) role.0))
@@ -148,8 +146,6 @@ fn read_mark_of<L: Ledger>(
     list: &mut SlotList,
     steps: &mut Steps<L>,
 ) -> Result<(), NoMemory>
-    requires role { role.0 < length (roles_of reader.now.unit.now) }
-    requires person { person.0 < length (run_of reader.now.state.now).persons }
     ensures gathers { OnOk result (Gathers reader.now.unit.now (run_of reader.now.state.now)
         (cells_if (is_member (seen_in reader.now.unit.now (run_of reader.now.state.now))
         role.0 person.0) (done_looks reader.now.unit.now (of_person person.0) target.now))

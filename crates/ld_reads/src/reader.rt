@@ -1,8 +1,6 @@
 //! Gathering the slots of cells.
-ghost use Rattle.std.specs.Prelude.{◌≡◌, ◌+◌, ◌∷◌, ◌≤◌, ◌<◌, ◌⊎◌, [], length, Contains, IfOk, IfSome, OnErr, OnOk, option_map};
+ghost use Rattle.std.specs.Prelude.{◌≡◌, ◌+◌, ◌∷◌, ◌≤◌, ◌<◌, ◌⊎◌, [], length, Contains, IfOk, OnErr, OnOk, option_map};
 ghost use Rattle.ld_expr.specs.Membership.{is_member};
-ghost use Rattle.ld_firing.specs.RunSystem.{IsSoundRun};
-ghost use Rattle.ld_model.specs.Roles.{roles_of};
 ghost use Rattle.ld_names.specs.Names.{role_number};
 ghost use Rattle.ld_rules.specs.SiteLooks.{cell_list};
 ghost use Rattle.ld_state.specs.RunState.{seen_in};
@@ -29,7 +27,6 @@ pub(crate) struct Reader<'a> {
     pub(crate) unit: &'a PreparedUnit,
     pub(crate) state: &'a State,
     ghost own: { IsStateOf unit.now state.now },
-    ghost sound: { IsSoundRun unit.now (run_of state.now) },
 }
 
 impl<'a> Reader<'a> {
@@ -73,7 +70,6 @@ impl<'a> Reader<'a> {
     /// no memory.
     pub(crate) fn role(&self, id: &Id) -> Option<RoleNo>
         ensures number { option_map (λ role. role.0) result ≡ role_number self.now.unit.now id.now }
-        ensures below { IfSome result (λ role. role.0 < length (roles_of self.now.unit.now)) }
     {
         role_number(self.unit.unit(), self.unit.names(), id)
     }
@@ -85,8 +81,6 @@ impl<'a> Reader<'a> {
         person: PersonNo,
         steps: &mut Steps<L>,
     ) -> bool
-        requires role { role.0 < length (roles_of self.now.unit.now) }
-        requires person { person.0 < length (run_of self.now.state.now).persons }
         ensures value { result ≡ is_member (seen_in self.now.unit.now (run_of self.now.state.now))
             role.0 person.0 }
         ensures cost { steps.new ≡ steps.old + 1 }

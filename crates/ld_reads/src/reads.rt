@@ -1,13 +1,10 @@
 //! The reads of a site.
-ghost use Rattle.std.specs.Prelude.{◌≡◌, ◌+◌, ◌≤◌, ◌<◌, [], Contains, OnErr, OnOk, length, true};
-ghost use Rattle.ld_names.specs.Rules.{sites_of};
+ghost use Rattle.std.specs.Prelude.{◌≡◌, ◌+◌, ◌≤◌, ◌<◌, [], OnErr, OnOk, length};
 ghost use Rattle.ld_rules.specs.SiteLooks.{looks_by, open_looks, rule_looks, site_looks};
-ghost use Rattle.ld_rules.specs.SiteTests.{site_mark};
-ghost use Rattle.ld_rules.specs.SiteView.{looks_until_latched, site_of};
+ghost use Rattle.ld_rules.specs.SiteView.{site_of};
 ghost use Rattle.ld_state.specs.RunState.{seen_in};
-ghost use Rattle.ld_state.specs.StateView.{IsStateOf, has_cell, run_of};
-ghost use Rattle.ld_firing.specs.RunSystem.{IsSoundRun};
-ghost use Rattle.ld_reads.specs.Gathering.{FallsShort, Gathers, with_cells};
+ghost use Rattle.ld_state.specs.StateView.{IsStateOf, run_of};
+ghost use Rattle.ld_reads.specs.Gathering.{FallsShort, Gathers, looks_until_latched, with_cells};
 
 use crate::method_rules::read_for_run;
 use crate::person_rules::read_for_person;
@@ -37,9 +34,7 @@ pub fn site_reads<L: Ledger>(
     list: &mut SlotList,
     steps: &mut Steps<L>,
 ) -> Result<(), NoMemory>
-    requires own { IsStateOf unit.now state.now }
-    requires sound { IsSoundRun unit.now (run_of state.now) }
-    requires there { Contains (sites_of unit.now (length state.now.rows)) (site_of site) }
+    requires { IsStateOf unit.now state.now }
     ensures reads { OnOk result (list.new.items ≡ with_cells unit.now (run_of state.now) []
         (site_looks unit.now (seen_in unit.now (run_of state.now)) (site_of site))) }
     ensures short { OnErr result (list.old.room < length (with_cells unit.now (run_of state.now) []
@@ -55,7 +50,7 @@ pub fn site_reads<L: Ledger>(
     read_site(&Reader { alloc, unit, state }, site, *rule, list, steps)
 }
 
-/// Gathers the mark of the site, unless its rule is judged anew each time, and where the mark has
+/// Gathers the mark of the site, unless its rule is judged again each time, and where the mark has
 /// not said yes, what is read to know what the rule asks.
 fn read_site<L: Ledger>(
     reader: &Reader<'_>,
@@ -64,7 +59,6 @@ fn read_site<L: Ledger>(
     list: &mut SlotList,
     steps: &mut Steps<L>,
 ) -> Result<(), NoMemory>
-    requires mark { has_cell reader.now.state.now (site_mark (site_of site)) ≡ true }
     ensures gathers { OnOk result (Gathers reader.now.unit.now (run_of reader.now.state.now)
         (looks_until_latched reader.now.unit.now
         (seen_in reader.now.unit.now (run_of reader.now.state.now))

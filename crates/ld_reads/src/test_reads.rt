@@ -1,7 +1,6 @@
 //! Which cells a test reads.
-ghost use Rattle.std.specs.Prelude.{◌+◌, ◌<◌, ◌≤◌, ◌++◌, flat_map, length, OnErr, OnOk};
+ghost use Rattle.std.specs.Prelude.{◌+◌, ◌≤◌, ◌++◌, flat_map, length, OnErr, OnOk};
 ghost use Rattle.ld_model.specs.Expressions.{tests_from};
-ghost use Rattle.ld_model.specs.Roles.{roles_of};
 ghost use Rattle.ld_expr.specs.Looks.{members_looks, test_looks, tests_looks};
 ghost use Rattle.ld_expr.specs.Membership.{is_member, members, members_of};
 ghost use Rattle.ld_expr.specs.Owners.{of_person};
@@ -138,7 +137,6 @@ fn read_for_members<L: Ledger>(
     list: &mut SlotList,
     steps: &mut Steps<L>,
 ) -> Result<(), NoMemory>
-    requires role { role.0 < length (roles_of reader.now.unit.now) }
     ensures gathers { OnOk result (Gathers reader.now.unit.now (run_of reader.now.state.now)
         (flat_map (λ p. test_looks reader.now.unit.now
         (seen_in reader.now.unit.now (run_of reader.now.state.now)) (of_person p) test.now)
@@ -172,8 +170,6 @@ fn read_for_member<L: Ledger>(
     list: &mut SlotList,
     steps: &mut Steps<L>,
 ) -> Result<(), NoMemory>
-    requires role { role.0 < length (roles_of reader.now.unit.now) }
-    requires person { person.0 < length (run_of reader.now.state.now).persons }
     ensures gathers { OnOk result (Gathers reader.now.unit.now (run_of reader.now.state.now)
         (cells_if (is_member (seen_in reader.now.unit.now (run_of reader.now.state.now))
         role.0 person.0) (test_looks reader.now.unit.now

@@ -12,7 +12,7 @@ use Rattle.ld_walk.specs.Parts.{What, Declares, Refers, Lists, Shares, Completes
 use Rattle.ld_walk.specs.Places.{At}
 use Rattle.ld_refs.specs.declared.checks.repeats.Texts.TheVariants.{Identifiers}
 use Rattle.ld_refs.specs.Repeats.{repeated_at, repeated_faults, repeated_if, repeated_in, text_in, texts_in}
-use Rattle.ld_names.proofs.Seen.{differ_further}
+use Rattle.ld_names.proofs.Differing.{differ_further}
 
 pub none_before : {A : Type 0} (xs ys : List A) → xs ++ ys ≡ [] → xs ≡ []
 none_before [] ys none = refl

@@ -1,12 +1,8 @@
-pub mod CellsOfStates
 pub mod Listed
-pub mod PartsShown
 pub mod Placed
 pub mod PlainValues
 pub mod Printable
 pub mod RefusalTexts
-pub mod ReportThere
 pub mod SeenInRuns
 pub mod ShortNames
 pub mod Told
-pub mod TreeThere

@@ -1,14 +1,14 @@
 -- That the identifier of each role of a well-formed unit has at most 64 bytes.
-use Rattle.std.proofs.Common.{◌≡◌, refl, ap, ◌∙◌, ℕ, zero, suc, ◌+◌, ◌≤◌, List, [], ◌∷◌, length, map, slice_get, Option, Some, None, Bool, true, ◌&&◌, nat_le, unwrap_or, arith}
+use Rattle.std.proofs.Common.{◌≡◌, refl, ◌∙◌, ℕ, zero, suc, ◌+◌, ◌≤◌, List, [], ◌∷◌, length, slice_get, Bool, true, nat_le, unwrap_or, arith}
 use Rattle.std.proofs.lemmas.Bool.{leb-true}
 use Rattle.std.proofs.lemmas.List.Folds.{list_all-append, list_all-map}
 use Rattle.std.specs.List.{list_all}
 use Rattle.std.specs.Option.{option_map}
 use Rattle.ld_base.specs.Identifier.{begins_well, continues_identifier, has_identifier_form}
-use Rattle.ld_formats.specs.Roles.{is_formed_row, is_formed_role, kind_of_rows, role, role_of, roles_document, same_kind}
-use Rattle.ld_formats.specs.Units.{is_well_formed, unit as unit_shape, parts, declared_parts, head_and_conditions}
+use Rattle.ld_formats.specs.Roles.{is_formed_row, is_formed_role, kind_of_rows, role, role_of, roles_document}
+use Rattle.ld_formats.specs.Units.{is_well_formed, unit as unit_shape, parts, declared_parts}
 use Rattle.ld_model.specs.Counting.{each_numbered_from}
-use Rattle.ld_model.specs.RoleRows.{RoleRow, from_above, rows_of_one, rows_within}
+use Rattle.ld_model.specs.RoleRows.{RoleRow, from_above, rows_of_one}
 use Rattle.ld_model.specs.Roles.{roles_of}
 use Rattle.ld_model.specs.declared.unit.Unit.{Unit}
 use Rattle.ld_value.proofs.Choices.{and_left, and_right, both}

@@ -1,5 +1,5 @@
 -- What has to be so for what is told to have a text.
-use Rattle.std.specs.Prelude.{◌≡◌, ◌≤◌, ◌<◌, List, length, Bool, true, IfSome, ⊤}
+use Rattle.std.specs.Prelude.{◌≤◌, ◌<◌, List, length, IfSome, ⊤}
 use Rattle.std.specs.List.{All}
 use Rattle.std.specs.Option.{ForSome}
 use Rattle.ld_value.specs.Calendar.{IsMoment}
@@ -19,9 +19,9 @@ IsPrintable (MomentBack last) = IsMoment last
 IsPrintable (RoleShort role _ _) = length role ≤ 64
 IsPrintable _ = ⊤
 
--- A moment in a cell that there is lies in the years 1 to 9999.
-abbrev pub HasMoments : (CellName → Bool) → CellMap → Type 0
-HasMoments has cells = (name : CellName) → has name ≡ true → ForSome (moment_of_value (cells name)) IsMoment
+-- A moment in a cell lies in the years 1 to 9999.
+abbrev pub HasMoments : CellMap → Type 0
+HasMoments cells = (name : CellName) → ForSome (moment_of_value (cells name)) IsMoment
 
 -- The moment of the notice lies in those years, and its activity, if it has one, is a thing of the unit.
 pub record IsNoticeOf (unit : Unit) (notice : NoticeState) : Type 0 where

@@ -1,22 +1,15 @@
 //! The lines of a report that tell what is done of the method, and what is opened.
-#![tactic(auto, unfolding(crate::specs::ReportLooks::report_act_looks, crate::specs::ReportLooks::report_play_looks))]
-
-ghost use Rattle.std.specs.Prelude.{◌≡◌, ◌∷◌, [], codes, fold, flat_map, is_some, true, OnOk, option_copied, option_map};
+ghost use Rattle.std.specs.Prelude.{◌≡◌, ◌∷◌, [], codes, fold, flat_map, is_some, OnOk, option_copied, option_map};
 ghost use Rattle.std.specs.Option.{ForSome};
 ghost use Rattle.ld_model.specs.declared.cell.CellName.TheVariants.{Started};
 ghost use Rattle.ld_model.specs.declared.cell.Owner.TheVariants.{Run};
-ghost use Rattle.ld_names.specs.Names.{names_of};
 ghost use Rattle.ld_expr.specs.Done.{is_done};
-ghost use Rattle.ld_expr.specs.Looks.{done_looks};
 ghost use Rattle.ld_expr.specs.Seen.{moment_of_value};
-ghost use Rattle.ld_expr.specs.Viewing.{HasCells, seen_by};
-ghost use Rattle.ld_rules.specs.SiteLooks.{cell_list};
-ghost use Rattle.ld_rules.specs.SiteTests.{is_opened, opening_cell, opening_of};
+ghost use Rattle.ld_rules.specs.SiteTests.{is_opened, opening_of};
 ghost use Rattle.ld_value.specs.Calendar.{IsMoment};
 ghost use Rattle.ld_value.specs.Datum.{datum_of};
 ghost use Rattle.ld_replies.specs.Printed.{printed_after, worded};
 ghost use Rattle.ld_replies.specs.Printing.{HasMoments};
-ghost use Rattle.ld_replies.specs.ReportLooks.{report_act_looks, report_part_looks, report_play_looks};
 ghost use Rattle.ld_replies.specs.Reports.{done_or_open, moment_word, progress_word, report_of_act, report_of_part, report_of_play};
 
 use crate::printed::Lines;
@@ -24,24 +17,18 @@ use ld_base::id::Id;
 use ld_base::memory::NoMemory;
 use ld_base::steps::Steps;
 use ld_expr::cells::thing_number;
-use ld_expr::done::is_done;
+use ld_expr::scope::Scope;
 use ld_model::cell::{CellName, Owner};
 use ld_model::method::{Act, Play, RolePart};
-use ld_model::unit::Unit;
 use ld_model::view::View;
-use ld_names::names::Names;
 use ld_value::value::Value;
 use std::sync::ledger::Ledger;
 
 /// What a report of the method is made from. (docs/COMMANDS.md, "Replies")
 #[derive(Drop)]
 pub(crate) struct Reporter<'a, V: View> {
-    pub(crate) unit: &'a Unit,
-    /// The names of the unit.
-    pub(crate) names: &'a Names,
-    pub(crate) view: &'a V,
-    ghost named: { names.now ≡ names_of unit.now },
-    ghost dated: { HasMoments (V.has_cell view.now) (V.cells_of view.now) },
+    pub(crate) scope: Scope<'a, V>,
+    ghost dated: { HasMoments (V.seen scope.view.now).value },
 }
 
 impl<'a, V: View> Reporter<'a, V> {
@@ -51,9 +38,8 @@ impl<'a, V: View> Reporter<'a, V> {
         lines: &mut Lines,
         steps: &mut Steps<L>,
     ) -> Result<(), NoMemory>
-        requires { V.has_cell self.now.view.now Started ≡ true }
         ensures { OnOk result (lines.new ≡ printed_after lines.old
-            (codes "started" ∷ moment_word (V.cells_of self.now.view.now Started))) }
+            (codes "started" ∷ moment_word ((V.seen self.now.scope.view.now).value Started))) }
     {
         lines.begin("started")?;
         add_moment_of(self.look(CellName::Started, steps), lines)?;
@@ -67,11 +53,9 @@ impl<'a, V: View> Reporter<'a, V> {
         lines: &mut Lines,
         steps: &mut Steps<L>,
     ) -> Result<(), NoMemory>
-        requires { HasCells (V.has_cell self.now.view.now)
-            (flat_map (report_play_looks self.now.unit.now) plays.now) }
         ensures { OnOk result (lines.new ≡ fold printed_after lines.old
-            (flat_map (report_of_play self.now.unit.now
-            (seen_by (V.persons_of self.now.view.now) (V.cells_of self.now.view.now))) plays.now)) }
+            (flat_map (report_of_play self.now.scope.unit.now
+            (V.seen self.now.scope.view.now)) plays.now)) }
     {
         for play in plays {
             self.put_play(play, lines, steps)?;
@@ -85,16 +69,14 @@ impl<'a, V: View> Reporter<'a, V> {
         lines: &mut Lines,
         steps: &mut Steps<L>,
     ) -> Result<(), NoMemory>
-        requires { HasCells (V.has_cell self.now.view.now)
-            (done_looks self.now.unit.now Run self.now.unit.now.identifier) }
         ensures { OnOk result (lines.new ≡ printed_after lines.old
-            (codes "unit" ∷ self.now.unit.now.identifier ∷ done_or_open (is_done self.now.unit.now
-            (seen_by (V.persons_of self.now.view.now) (V.cells_of self.now.view.now)) Run
-            self.now.unit.now.identifier) ∷ [])) }
+            (codes "unit" ∷ self.now.scope.unit.now.identifier ∷ done_or_open (is_done self.now.scope.unit.now
+            (V.seen self.now.scope.view.now) Run
+            self.now.scope.unit.now.identifier) ∷ [])) }
     {
-        let done = self.is_done(&self.unit.identifier, steps);
+        let done = self.is_done(&self.scope.unit.identifier, steps);
         lines.begin("unit")?;
-        lines.add(self.unit.identifier.as_str())?;
+        lines.add(self.scope.unit.identifier.as_str())?;
         lines.add(done_or_open(done))?;
         Ok(())
     }
@@ -106,11 +88,9 @@ impl<'a, V: View> Reporter<'a, V> {
         lines: &mut Lines,
         steps: &mut Steps<L>,
     ) -> Result<(), NoMemory>
-        requires { HasCells (V.has_cell self.now.view.now)
-            (report_play_looks self.now.unit.now play.now) }
         ensures { OnOk result (lines.new ≡ fold printed_after lines.old
-            (report_of_play self.now.unit.now
-            (seen_by (V.persons_of self.now.view.now) (V.cells_of self.now.view.now)) play.now)) }
+            (report_of_play self.now.scope.unit.now
+            (V.seen self.now.scope.view.now) play.now)) }
     {
         let done = self.is_done(&play.identifier, steps);
         lines.begin("play")?;
@@ -127,11 +107,9 @@ impl<'a, V: View> Reporter<'a, V> {
         lines: &mut Lines,
         steps: &mut Steps<L>,
     ) -> Result<(), NoMemory>
-        requires { HasCells (V.has_cell self.now.view.now)
-            (flat_map (report_act_looks self.now.unit.now) acts.now) }
         ensures { OnOk result (lines.new ≡ fold printed_after lines.old
-            (flat_map (report_of_act self.now.unit.now
-            (seen_by (V.persons_of self.now.view.now) (V.cells_of self.now.view.now))) acts.now)) }
+            (flat_map (report_of_act self.now.scope.unit.now
+            (V.seen self.now.scope.view.now)) acts.now)) }
     {
         for act in acts {
             self.put_act(act, lines, steps)?;
@@ -146,11 +124,9 @@ impl<'a, V: View> Reporter<'a, V> {
         lines: &mut Lines,
         steps: &mut Steps<L>,
     ) -> Result<(), NoMemory>
-        requires { HasCells (V.has_cell self.now.view.now)
-            (report_act_looks self.now.unit.now act.now) }
         ensures { OnOk result (lines.new ≡ fold printed_after lines.old
-            (report_of_act self.now.unit.now
-            (seen_by (V.persons_of self.now.view.now) (V.cells_of self.now.view.now)) act.now)) }
+            (report_of_act self.now.scope.unit.now
+            (V.seen self.now.scope.view.now) act.now)) }
     {
         let opening = self.opening(act, steps);
         let opened = opening.is_some();
@@ -171,13 +147,11 @@ impl<'a, V: View> Reporter<'a, V> {
         lines: &mut Lines,
         steps: &mut Steps<L>,
     ) -> Result<(), NoMemory>
-        requires cells { HasCells (V.has_cell self.now.view.now)
-            (flat_map (report_part_looks self.now.unit.now) act.now.role_parts) }
-        requires opened { opened ≡ is_opened self.now.unit.now
-            (seen_by (V.persons_of self.now.view.now) (V.cells_of self.now.view.now)) act.now }
+        requires { opened ≡ is_opened self.now.scope.unit.now
+            (V.seen self.now.scope.view.now) act.now }
         ensures { OnOk result (lines.new ≡ fold printed_after lines.old
-            (flat_map (λ part. report_of_part self.now.unit.now
-            (seen_by (V.persons_of self.now.view.now) (V.cells_of self.now.view.now)) act.now part ∷ [])
+            (flat_map (λ part. report_of_part self.now.scope.unit.now
+            (V.seen self.now.scope.view.now) act.now part ∷ [])
             act.now.role_parts)) }
     {
         for part in act.role_parts.as_slice() {
@@ -194,11 +168,9 @@ impl<'a, V: View> Reporter<'a, V> {
         lines: &mut Lines,
         steps: &mut Steps<L>,
     ) -> Result<(), NoMemory>
-        requires { HasCells (V.has_cell self.now.view.now)
-            (report_part_looks self.now.unit.now part.now) }
         ensures { OnOk result (lines.new ≡ printed_after lines.old
-            (codes "part" ∷ part.now.identifier ∷ progress_word (is_done self.now.unit.now
-            (seen_by (V.persons_of self.now.view.now) (V.cells_of self.now.view.now)) Run
+            (codes "part" ∷ part.now.identifier ∷ progress_word (is_done self.now.scope.unit.now
+            (V.seen self.now.scope.view.now) Run
             part.now.identifier) opened ∷ [])) }
     {
         let done = self.is_done(&part.identifier, steps);
@@ -210,36 +182,31 @@ impl<'a, V: View> Reporter<'a, V> {
 
     /// Whether what the identifier names is done for the run.
     fn is_done<L: Ledger>(&self, id: &Id, steps: &mut Steps<L>) -> bool
-        requires { HasCells (V.has_cell self.now.view.now)
-            (done_looks self.now.unit.now Run id.now) }
-        ensures { result ≡ is_done self.now.unit.now
-            (seen_by (V.persons_of self.now.view.now) (V.cells_of self.now.view.now)) Run id.now }
+        ensures { result ≡ is_done self.now.scope.unit.now
+            (V.seen self.now.scope.view.now) Run id.now }
     {
-        is_done(self.unit, self.names, self.view, Owner::Run, id, steps)
+        self.scope.is_done(Owner::Run, id, steps)
     }
 
     /// The value that tells when the act was opened.
     fn opening<L: Ledger>(&self, act: &Act, steps: &mut Steps<L>) -> Option<&'a Value>
-        requires { HasCells (V.has_cell self.now.view.now)
-            (cell_list (opening_cell self.now.unit.now act.now)) }
-        ensures value { option_map datum_of (option_copied result) ≡ opening_of self.now.unit.now
-            (seen_by (V.persons_of self.now.view.now) (V.cells_of self.now.view.now)) act.now }
+        ensures value { option_map datum_of (option_copied result) ≡ opening_of self.now.scope.unit.now
+            (V.seen self.now.scope.view.now) act.now }
         ensures dated { ForSome (moment_of_value (option_map datum_of (option_copied result)))
             IsMoment }
     {
-        let thing = thing_number(self.unit, self.names, &act.identifier)?;
+        let thing = thing_number(self.scope.unit, self.scope.names, &act.identifier)?;
         self.look(CellName::ActOpened(thing), steps)
     }
 
     /// The value of the cell.
     fn look<L: Ledger>(&self, cell: CellName, steps: &mut Steps<L>) -> Option<&'a Value>
-        requires { V.has_cell self.now.view.now cell ≡ true }
         ensures value { option_map datum_of (option_copied result)
-            ≡ V.cells_of self.now.view.now cell }
+            ≡ (V.seen self.now.scope.view.now).value cell }
         ensures dated { ForSome (moment_of_value (option_map datum_of (option_copied result)))
             IsMoment }
     {
-        self.view.get(cell, steps)
+        self.scope.view.get(cell, steps)
     }
 }
 

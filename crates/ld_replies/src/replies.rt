@@ -1,5 +1,5 @@
 //! The replies to the commands of a run.
-ghost use Rattle.std.specs.Prelude.{◌≡◌, ◌+◌, ◌<◌, ◌≤◌, ◌++◌, codes, decimal, length, map, IsOk, OnOk};
+ghost use Rattle.std.specs.Prelude.{◌≡◌, ◌+◌, ◌≤◌, ◌++◌, codes, decimal, length, map, IsOk, OnOk};
 ghost use Rattle.ld_base.specs.Roomy.{KeepsRoom};
 ghost use Rattle.ld_state.specs.RunState.{seen_in};
 ghost use Rattle.ld_state.specs.StateView.{IsStateOf, run_of};
@@ -172,9 +172,7 @@ fn push_tree<L: Ledger>(
     out: &mut Text,
     steps: &mut Steps<L>,
 ) -> Result<(), NoMemory>
-    requires own { IsStateOf unit.now state.now }
-    requires sound { IsSoundRun unit.now (run_of state.now) }
-    requires person { person.0 < length (run_of state.now).persons }
+    requires { IsStateOf unit.now state.now }
     ensures text { OnOk result (out.new.bytes ≡ out.old.bytes ++ counted_lines (map line_text
         (tree_lines unit.now (seen_in unit.now (run_of state.now)) person.0))) }
     ensures room { KeepsRoom out.old out.new }
@@ -183,15 +181,7 @@ fn push_tree<L: Ledger>(
     text.push_str(" lines=")?;
     let at = text.as_str().len();
     text.push_str(PLACE_OF_COUNT)?;
-    let (mut text, count) = tree_text(
-        alloc,
-        unit.unit(),
-        unit.names(),
-        state,
-        person,
-        text,
-        steps,
-    )?;
+    let (mut text, count) = tree_text(alloc, unit.scope(state), person, text, steps)?;
     text.replace_range(at..at + PLACE_OF_COUNT.len(), Buffer::new().format(count))?;
     out.clear();
     out.append(text)?;

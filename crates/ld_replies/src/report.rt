@@ -29,9 +29,7 @@ pub(crate) fn put_report<L: Ledger>(
         ≡ fold printed_after lines.old (report_lines unit.now (run_of state.now))) }
 {
     let reporter = Reporter {
-        unit: unit.unit(),
-        names: unit.names(),
-        view: state,
+        scope: unit.scope(state),
     };
     reporter.put_start(lines, steps)?;
     put_roles(alloc, unit.unit().roles.as_slice(), state.roster(), lines)?;

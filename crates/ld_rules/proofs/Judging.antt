@@ -1,19 +1,15 @@
 -- What is judged in parts.
-use Rattle.std.proofs.Common.{◌≡◌, ℕ, List, [], ◌∷◌, length, Bool, true, false, ◌&&◌, ◌||◌, Some, slice_get, ◌<◌, if◌then◌else◌, refl, sym, ap, ◌∙◌, arith}
+use Rattle.std.proofs.Common.{◌≡◌, ℕ, List, [], ◌∷◌, length, Bool, true, false, ◌&&◌, ◌||◌, Some, slice_get, ◌<◌, refl, sym, ap, ◌∙◌, arith}
 use Rattle.std.proofs.lemmas.List.{length-map}
 use Rattle.std.proofs.lemmas.Option.{slice_get_within, slice_get-map}
 use Rattle.std.specs.List.{list_all}
 use Rattle.std.specs.Option.{option_map}
 use Rattle.ld_model.specs.declared.activity.Activity.{Activity}
-use Rattle.ld_model.specs.declared.cell.CellName.{CellName}
 use Rattle.ld_model.specs.declared.unit.Unit.{Unit}
 use Rattle.ld_expr.specs.Membership.{some_and_each}
-use Rattle.ld_expr.specs.Viewing.{HasCells}
-use Rattle.ld_expr.proofs.Having.{has_more}
 use Rattle.ld_rules.specs.MembersDoing.{some_of}
 use Rattle.ld_rules.specs.ReachTable.{reach_of}
 use Rattle.ld_rules.specs.SiteLooks.{reaching_roles}
-use Rattle.ld_rules.proofs.Asked.{has_first}
 use Rattle.ld_state.proofs.Elements.{some_same}
 
 -- ---- role-parts
@@ -41,12 +37,3 @@ row_is unit reach n activity row is at found =
 pub row_there : (unit : Unit) (reach : List (List ℕ)) (n : ℕ) (activity : Activity) → reach ≡ reach_of unit → slice_get unit.activities n ≡ Some activity → n < length reach
 row_there unit reach n activity is at =
     omega (arith, slice_get_within unit.activities n activity at, length-map unit.activities (λ (one : Activity). reaching_roles unit one.identifier), ap length is)
-
--- ---- marks
-
-pub mark_looked : (has : CellName → Bool) (latched : Bool) (mark : CellName) (rest : List CellName) → HasCells has (if latched then mark ∷ [] else (mark ∷ rest)) → has mark ≡ true
-mark_looked has true mark rest all = has_first mark [] all
-mark_looked has false mark rest all = has_first mark rest all
-
-pub rest_looked : (has : CellName → Bool) (latched : Bool) (mark : CellName) (rest : List CellName) → latched ≡ false → HasCells has (if latched then mark ∷ [] else (mark ∷ rest)) → HasCells has rest
-rest_looked has latched mark rest is all = has_more mark rest (rw is at all)

@@ -2,12 +2,10 @@
 ghost use Rattle.std.specs.Prelude.{◌≡◌, ◌+◌, ◌+ℤ◌, ◌++◌, ◌∷◌, [], ◌≤◌, int_le, length, pos, option_copied, option_map, true};
 ghost use Rattle.std.specs.List.{list_all};
 ghost use Rattle.ld_model.specs.declared.cell.CellName.TheVariants.{Now};
-ghost use Rattle.ld_names.specs.Names.{names_of};
 ghost use Rattle.ld_expr.specs.Done.{is_done};
 ghost use Rattle.ld_expr.specs.Looks.{done_looks};
 ghost use Rattle.ld_expr.specs.Lookup.{is_some_and, list_from};
 ghost use Rattle.ld_expr.specs.Seen.{moment_of_value, says_yes};
-ghost use Rattle.ld_expr.specs.Viewing.{HasCells, seen_by};
 ghost use Rattle.ld_rules.specs.SiteLooks.{all_done_looks, cell_list, completion_looks, completion_looks_if};
 ghost use Rattle.ld_rules.specs.SiteTests.{completion_holds, has_passed, rule_holds};
 ghost use Rattle.ld_rules.specs.SiteView.{completing_of, shown_in};
@@ -15,14 +13,10 @@ ghost use Rattle.ld_rules.specs.SiteView.{completing_of, shown_in};
 use ld_base::id::Id;
 use ld_base::steps::Steps;
 use ld_expr::cells::says_yes;
-use ld_expr::done::is_done;
-use ld_expr::holding::holds_for_users;
-use ld_expr::property::has_value;
+use ld_expr::scope::Scope;
 use ld_model::cell::{CellName, Owner};
 use ld_model::completion::Completion;
-use ld_model::unit::Unit;
 use ld_model::view::View;
-use ld_names::names::Names;
 use ld_value::moment::Moment;
 use ld_value::value::Value;
 use std::sync::ledger::Ledger;
@@ -40,73 +34,50 @@ pub struct Completing<'a> {
 
 /// Whether there is a completion rule, and it holds.
 pub(crate) fn rule_holds<V: View, L: Ledger>(
-    unit: &Unit,
-    names: &Names,
+    scope: &Scope<'_, V>,
     about: Completing<'_>,
     completion: &Option<Completion>,
-    view: &V,
     steps: &mut Steps<L>,
 ) -> bool
-    requires names { names.now ≡ names_of unit.now }
-    requires cells { HasCells (V.has_cell view.now) (completion_looks_if unit.now
-        (seen_by (V.persons_of view.now) (V.cells_of view.now))
-        (completing_of about) completion.now) }
-    ensures value { result ≡ rule_holds unit.now
-        (seen_by (V.persons_of view.now) (V.cells_of view.now))
+    ensures value { result ≡ rule_holds scope.now.unit.now (V.seen scope.now.view.now)
         (completing_of about.entry) completion.now }
-    ensures cost { steps.new ≤ steps.old + length (completion_looks_if unit.now
-        (seen_by (V.persons_of view.now) (V.cells_of view.now))
-        (completing_of about.entry) completion.now) }
+    ensures cost { steps.new ≤ steps.old + length (completion_looks_if scope.now.unit.now
+        (V.seen scope.now.view.now) (completing_of about.entry) completion.now) }
 {
     match completion {
-        Some(completion) => completion_holds(unit, names, about, completion, view, steps),
+        Some(completion) => completion_holds(scope, about, completion, steps),
         None => false,
     }
 }
 
 /// Whether the completion rule holds. (docs/MEANING.md, "Rules and sites")
 pub(crate) fn completion_holds<V: View, L: Ledger>(
-    unit: &Unit,
-    names: &Names,
+    scope: &Scope<'_, V>,
     about: Completing<'_>,
     completion: &Completion,
-    view: &V,
     steps: &mut Steps<L>,
 ) -> bool
-    requires names { names.now ≡ names_of unit.now }
-    requires cells { HasCells (V.has_cell view.now) (completion_looks unit.now
-        (seen_by (V.persons_of view.now) (V.cells_of view.now))
-        (completing_of about) completion.now) }
-    ensures value { result ≡ completion_holds unit.now
-        (seen_by (V.persons_of view.now) (V.cells_of view.now))
+    ensures value { result ≡ completion_holds scope.now.unit.now (V.seen scope.now.view.now)
         (completing_of about.entry) completion.now }
-    ensures cost { steps.new ≤ steps.old + length (completion_looks unit.now
-        (seen_by (V.persons_of view.now) (V.cells_of view.now))
-        (completing_of about.entry) completion.now) }
+    ensures cost { steps.new ≤ steps.old + length (completion_looks scope.now.unit.now
+        (V.seen scope.now.view.now) (completing_of about.entry) completion.now) }
 {
     match completion {
-        Completion::UserChoice => is_chosen(view, about.chosen, steps),
-        Completion::TimeLimit(seconds) => has_passed(view, *seconds, about.start, steps),
+        Completion::UserChoice => is_chosen(scope.view, about.chosen, steps),
+        Completion::TimeLimit(seconds) => has_passed(scope.view, *seconds, about.start, steps),
         Completion::WhenPropertyValueIsSet(property, text) => {
-            has_value(unit, names, view, about.owner, property, text, steps)
+            scope.has_value(about.owner, property, text, steps)
         }
-        Completion::WhenRolePartCompleted(parts) => {
-            are_done(unit, names, parts.as_slice(), view, steps)
-        }
-        Completion::WhenConditionTrue(role, test) => {
-            holds_for_users(unit, names, role, test, view, steps)
-        }
-        Completion::WhenLastActCompleted => is_act_done(unit, names, about.last_act, view, steps),
-        Completion::WhenPlayCompleted(plays) => {
-            are_done(unit, names, plays.as_slice(), view, steps)
-        }
+        Completion::WhenRolePartCompleted(parts) => { are_done(scope, parts.as_slice(), steps) }
+        Completion::WhenConditionTrue(role, test) => { scope.holds_for_users(role, test, steps) }
+        Completion::WhenLastActCompleted => is_act_done(scope, about.last_act, steps),
+        Completion::WhenPlayCompleted(plays) => { are_done(scope, plays.as_slice(), steps) }
     }
 }
 
 /// Whether the cell that says so, if there is one, says yes.
 fn is_chosen<V: View, L: Ledger>(view: &V, cell: Option<CellName>, steps: &mut Steps<L>) -> bool
-    requires { HasCells (V.has_cell view.now) (cell_list cell) }
-    ensures value { result ≡ is_some_and (λ cell. says_yes (V.cells_of view.now cell)) cell }
+    ensures value { result ≡ is_some_and (λ cell. says_yes ((V.seen view.now).value cell)) cell }
     ensures cost { steps.new ≤ steps.old + length (cell_list cell) }
 {
     match cell {
@@ -122,9 +93,8 @@ fn has_passed<V: View, L: Ledger>(
     start: Option<CellName>,
     steps: &mut Steps<L>,
 ) -> bool
-    requires { HasCells (V.has_cell view.now) (cell_list start ++ Now ∷ []) }
-    ensures value { result ≡ has_passed (seen_by (V.persons_of view.now) (V.cells_of view.now))
-        seconds (shown_in (V.cells_of view.now) start) }
+    ensures value { result ≡ has_passed (V.seen view.now)
+        seconds (shown_in ((V.seen view.now).value) start) }
     ensures cost { steps.new ≤ steps.old + length (cell_list start ++ Now ∷ []) }
 {
     let Some(cell) = start else {
@@ -151,9 +121,8 @@ fn is_over(begun: Moment, seconds: u64, now: Moment) -> bool
 
 /// The moment that the cell shows, if it shows one.
 fn moment_in<V: View, L: Ledger>(view: &V, cell: CellName, steps: &mut Steps<L>) -> Option<Moment>
-    requires { V.has_cell view.now cell ≡ true }
     ensures value { option_map (λ moment. moment.0) result
-        ≡ moment_of_value (V.cells_of view.now cell) }
+        ≡ moment_of_value ((V.seen view.now).value cell) }
     ensures cost { steps.new ≡ steps.old + 1 }
 {
     match view.get(cell, steps) {
@@ -163,22 +132,14 @@ fn moment_in<V: View, L: Ledger>(view: &V, cell: CellName, steps: &mut Steps<L>)
 }
 
 /// Whether all that the identifiers name is done for the run.
-fn are_done<V: View, L: Ledger>(
-    unit: &Unit,
-    names: &Names,
-    ids: &[Id],
-    view: &V,
-    steps: &mut Steps<L>,
-) -> bool
-    requires names { names.now ≡ names_of unit.now }
-    requires cells { HasCells (V.has_cell view.now) (all_done_looks unit.now Owner.Run ids.now) }
-    ensures value { result ≡ list_all (is_done unit.now
-        (seen_by (V.persons_of view.now) (V.cells_of view.now)) Owner.Run) ids.now }
+fn are_done<V: View, L: Ledger>(scope: &Scope<'_, V>, ids: &[Id], steps: &mut Steps<L>) -> bool
+    ensures value { result ≡ list_all (is_done scope.now.unit.now
+        (V.seen scope.now.view.now) Owner.Run) ids.now }
     ensures cost { steps.new
-        ≤ steps.old + length (all_done_looks unit.now Owner.Run ids.now) }
+        ≤ steps.old + length (all_done_looks scope.now.unit.now Owner.Run ids.now) }
 {
     for id in ids {
-        if !is_done(unit, names, view, Owner::Run, id, steps) {
+        if !scope.is_done(Owner::Run, id, steps) {
             return false;
         }
     }
@@ -187,22 +148,17 @@ fn are_done<V: View, L: Ledger>(
 
 /// Whether the act, if there is one, is done.
 fn is_act_done<V: View, L: Ledger>(
-    unit: &Unit,
-    names: &Names,
+    scope: &Scope<'_, V>,
     act: Option<&Id>,
-    view: &V,
     steps: &mut Steps<L>,
 ) -> bool
-    requires names { names.now ≡ names_of unit.now }
-    requires cells { HasCells (V.has_cell view.now)
-        (list_from (done_looks unit.now Owner.Run) (option_copied act)) }
-    ensures value { result ≡ is_some_and (is_done unit.now
-        (seen_by (V.persons_of view.now) (V.cells_of view.now)) Owner.Run) (option_copied act.entry) }
+    ensures value { result ≡ is_some_and (is_done scope.now.unit.now
+        (V.seen scope.now.view.now) Owner.Run) (option_copied act.entry) }
     ensures cost { steps.new ≤ steps.old
-        + length (list_from (done_looks unit.now Owner.Run) (option_copied act.entry)) }
+        + length (list_from (done_looks scope.now.unit.now Owner.Run) (option_copied act.entry)) }
 {
     match act {
-        Some(act) => is_done(unit, names, view, Owner::Run, act, steps),
+        Some(act) => scope.is_done(Owner::Run, act, steps),
         None => false,
     }
 }

@@ -3,24 +3,21 @@
 
 ghost use Rattle.std.specs.Prelude.{◌≡◌, ◌+◌, ◌≤◌, ◌||◌, length, true};
 ghost use Rattle.ld_names.specs.Identifiers.{HasDistinctIdentifiers};
-ghost use Rattle.ld_names.specs.Names.{names_of};
-ghost use Rattle.ld_names.specs.Rules.{rules_of};
-ghost use Rattle.ld_expr.specs.Viewing.{HasCells, seen_by};
 ghost use Rattle.ld_rules.specs.ReachTable.{reach_of};
 ghost use Rattle.ld_rules.specs.SiteLooks.{looks_by, open_looks, rule_looks, site_looks};
 ghost use Rattle.ld_rules.specs.SiteTests.{is_latched, rule_test, says_for_good, site_test};
-ghost use Rattle.ld_rules.specs.SiteView.{looks_until_latched, site_of};
+ghost use Rattle.ld_rules.specs.SiteView.{site_of};
 
 use crate::method_rules::judge_for_run;
 use crate::person_rules::judge_for_person;
+use crate::prepared::PreparedUnit;
 use crate::reach::Reach;
 use crate::site::Site;
 use ld_base::steps::Steps;
 use ld_expr::cells::says_yes;
+use ld_expr::scope::Scope;
 use ld_model::cell::{CellName, Owner};
-use ld_model::unit::Unit;
 use ld_model::view::View;
-use ld_names::names::Names;
 use ld_names::rule::Rule;
 use std::sync::ledger::Ledger;
 
@@ -28,59 +25,43 @@ use std::sync::ledger::Ledger;
 /// person, or has once said yes to for good. It takes no memory, and at most a step for each cell
 /// at which the rule asks to look. (docs/MEANING.md, "Rules and sites")
 pub fn judge<V: View, L: Ledger>(
-    unit: &Unit,
-    names: &Names,
-    rules: &[Rule],
-    reach: &Reach,
+    unit: &PreparedUnit,
     site: Site,
     view: &V,
     steps: &mut Steps<L>,
 ) -> bool
-    requires distinct { HasDistinctIdentifiers unit.now }
-    requires names { names.now ≡ names_of unit.now }
-    requires rules { rules.now ≡ rules_of unit.now }
-    requires reach { reach.now ≡ reach_of unit.now }
-    requires cells { HasCells (V.has_cell view.now) (site_looks unit.now
-        (seen_by (V.persons_of view.now) (V.cells_of view.now)) (site_of site)) }
-    ensures value { result ≡ site_test unit.now
-        (seen_by (V.persons_of view.now) (V.cells_of view.now)) (site_of site) }
-    ensures cost { steps.new ≤ steps.old + length (open_looks unit.now
-        (seen_by (V.persons_of view.now) (V.cells_of view.now)) (site_of site)) }
+    ensures value { result ≡ site_test unit.now (V.seen view.now) (site_of site) }
+    ensures cost { steps.new
+        ≤ steps.old + length (open_looks unit.now (V.seen view.now) (site_of site)) }
 {
-    let Some(rule) = rules.get(site.rule.0 as usize) else {
+    let Some(rule) = unit.rules().get(site.rule.0 as usize) else {
         return false;
     };
-    judge_by(unit, names, reach, site, *rule, view, steps)
+    judge_by(&unit.scope(view), unit.reach(), site, *rule, steps)
 }
 
 /// Whether the site's test holds, whose rule this is.
 fn judge_by<V: View, L: Ledger>(
-    unit: &Unit,
-    names: &Names,
+    scope: &Scope<'_, V>,
     reach: &Reach,
     site: Site,
     rule: Rule,
-    view: &V,
     steps: &mut Steps<L>,
 ) -> bool
-    requires distinct { HasDistinctIdentifiers unit.now }
-    requires names { names.now ≡ names_of unit.now }
-    requires reach { reach.now ≡ reach_of unit.now }
-    requires cells { HasCells (V.has_cell view.now) (looks_until_latched unit.now
-        (seen_by (V.persons_of view.now) (V.cells_of view.now)) (site_of site) rule) }
-    ensures value { result ≡ is_latched
-        (seen_by (V.persons_of view.now) (V.cells_of view.now)) (site_of site) rule
-        || rule_test unit.now (seen_by (V.persons_of view.now) (V.cells_of view.now)) site.owner rule }
-    ensures cost { steps.new ≤ steps.old + length (looks_by unit.now
-        (seen_by (V.persons_of view.now) (V.cells_of view.now)) (site_of site) rule) }
+    requires distinct { HasDistinctIdentifiers scope.now.unit.now }
+    requires reach { reach.now ≡ reach_of scope.now.unit.now }
+    ensures value { result ≡ is_latched (V.seen scope.now.view.now) (site_of site) rule
+        || rule_test scope.now.unit.now (V.seen scope.now.view.now) site.owner rule }
+    ensures cost { steps.new ≤ steps.old + length (looks_by scope.now.unit.now
+        (V.seen scope.now.view.now) (site_of site) rule) }
 {
     if !says_for_good(rule) {
-        return judge_rule(unit, names, reach, rule, site.owner, view, steps);
+        return judge_rule(scope, reach, rule, site.owner, steps);
     }
-    if says_yes(view, CellName::Mark(site.rule, site.owner), steps) {
+    if says_yes(scope.view, CellName::Mark(site.rule, site.owner), steps) {
         return true;
     }
-    judge_rule(unit, names, reach, rule, site.owner, view, steps)
+    judge_rule(scope, reach, rule, site.owner, steps)
 }
 
 /// Whether what the rule says yes to stays so: all but a condition's does. It takes no memory.
@@ -95,26 +76,20 @@ pub fn says_for_good(rule: Rule) -> bool
 
 /// What the rule asks of the run or the person.
 fn judge_rule<V: View, L: Ledger>(
-    unit: &Unit,
-    names: &Names,
+    scope: &Scope<'_, V>,
     reach: &Reach,
     rule: Rule,
     owner: Owner,
-    view: &V,
     steps: &mut Steps<L>,
 ) -> bool
-    requires distinct { HasDistinctIdentifiers unit.now }
-    requires names { names.now ≡ names_of unit.now }
-    requires reach { reach.now ≡ reach_of unit.now }
-    requires cells { HasCells (V.has_cell view.now) (rule_looks unit.now
-        (seen_by (V.persons_of view.now) (V.cells_of view.now)) owner rule) }
-    ensures value { result ≡ rule_test unit.now
-        (seen_by (V.persons_of view.now) (V.cells_of view.now)) owner rule }
-    ensures cost { steps.new ≤ steps.old + length (rule_looks unit.now
-        (seen_by (V.persons_of view.now) (V.cells_of view.now)) owner rule) }
+    requires distinct { HasDistinctIdentifiers scope.now.unit.now }
+    requires reach { reach.now ≡ reach_of scope.now.unit.now }
+    ensures value { result ≡ rule_test scope.now.unit.now (V.seen scope.now.view.now) owner rule }
+    ensures cost { steps.new ≤ steps.old + length (rule_looks scope.now.unit.now
+        (V.seen scope.now.view.now) owner rule) }
 {
     match owner {
-        Owner::Run => judge_for_run(unit, names, rule, view, steps),
-        Owner::Person(person) => judge_for_person(unit, names, reach, rule, person, view, steps),
+        Owner::Run => judge_for_run(scope, rule, steps),
+        Owner::Person(person) => judge_for_person(scope, reach, rule, person, steps),
     }
 }

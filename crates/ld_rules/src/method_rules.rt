@@ -6,7 +6,6 @@ ghost use Rattle.std.specs.List.{last_or};
 ghost use Rattle.ld_names.specs.Names.{names_of};
 ghost use Rattle.ld_refs.specs.Extents.{act_at};
 ghost use Rattle.ld_expr.specs.Lookup.{environment_named};
-ghost use Rattle.ld_expr.specs.Viewing.{HasCells, seen_by};
 ghost use Rattle.ld_rules.specs.SiteLooks.{site_act_looks, cell_list, completion_looks_if, opening_looks, site_part_looks, run_looks};
 ghost use Rattle.ld_rules.specs.SiteTests.{act_test, is_opened, opening_cell, opening_test, part_test, play_completing, play_test, run_test, unit_completing, unit_test};
 ghost use Rattle.ld_rules.specs.SiteView.{completing_of};
@@ -17,7 +16,7 @@ use crate::place::place_named;
 use ld_base::id::Id;
 use ld_base::steps::Steps;
 use ld_expr::cells::thing_number;
-use ld_expr::done::is_done;
+use ld_expr::scope::Scope;
 use ld_model::cell::{CellName, Owner};
 use ld_model::method::{Act, Play, RolePart};
 use ld_model::unit::Unit;
@@ -30,42 +29,34 @@ use std::sync::ledger::Ledger;
 /// What the rule asks of the run; of a rule for persons, nothing holds. (docs/MEANING.md, "Rules
 /// and sites")
 pub(crate) fn judge_for_run<V: View, L: Ledger>(
-    unit: &Unit,
-    names: &Names,
+    scope: &Scope<'_, V>,
     rule: Rule,
-    view: &V,
     steps: &mut Steps<L>,
 ) -> bool
-    requires names { names.now ≡ names_of unit.now }
-    requires cells { HasCells (V.has_cell view.now) (run_looks unit.now
-        (seen_by (V.persons_of view.now) (V.cells_of view.now)) rule) }
-    ensures value { result ≡ run_test unit.now
-        (seen_by (V.persons_of view.now) (V.cells_of view.now)) rule }
-    ensures cost { steps.new ≤ steps.old + length (run_looks unit.now
-        (seen_by (V.persons_of view.now) (V.cells_of view.now)) rule) }
+    ensures value { result ≡ run_test scope.now.unit.now (V.seen scope.now.view.now) rule }
+    ensures cost { steps.new ≤ steps.old + length (run_looks scope.now.unit.now
+        (V.seen scope.now.view.now) rule) }
 {
     match rule {
-        Rule::OpensAct(play, act) => {
-            judge_opening(unit, names, play as usize, act as usize, view, steps)
-        }
+        Rule::OpensAct(play, act) => { judge_opening(scope, play as usize, act as usize, steps) }
         Rule::CompletesPart(play, act, part) => {
-            let Some(act) = act_at(unit, play as usize, act as usize) else {
+            let Some(act) = act_at(scope.unit, play as usize, act as usize) else {
                 return false;
             };
             match act.role_parts.get(part as usize) {
-                Some(part) => judge_part(unit, names, act, part, view, steps),
+                Some(part) => judge_part(scope, act, part, steps),
                 None => false,
             }
         }
-        Rule::CompletesAct(play, act) => match act_at(unit, play as usize, act as usize) {
-            Some(act) => judge_act(unit, names, act, view, steps),
+        Rule::CompletesAct(play, act) => match act_at(scope.unit, play as usize, act as usize) {
+            Some(act) => judge_act(scope, act, steps),
             None => false,
         },
-        Rule::CompletesPlay(play) => match unit.method.plays.get(play as usize) {
-            Some(play) => judge_play(unit, names, play, view, steps),
+        Rule::CompletesPlay(play) => match scope.unit.method.plays.get(play as usize) {
+            Some(play) => judge_play(scope, play, steps),
             None => false,
         },
-        Rule::CompletesUnit => judge_unit(unit, names, view, steps),
+        Rule::CompletesUnit => judge_unit(scope, steps),
         Rule::CompletesActivity(_) | Rule::CompletesStructure(_) | Rule::JudgesCondition(_) => {
             false
         }
@@ -74,24 +65,19 @@ pub(crate) fn judge_for_run<V: View, L: Ledger>(
 
 /// Whether the act is the first of its play, or the one before it is done.
 fn judge_opening<V: View, L: Ledger>(
-    unit: &Unit,
-    names: &Names,
+    scope: &Scope<'_, V>,
     play: usize,
     act: usize,
-    view: &V,
     steps: &mut Steps<L>,
 ) -> bool
-    requires names { names.now ≡ names_of unit.now }
-    requires cells { HasCells (V.has_cell view.now) (opening_looks unit.now play act) }
-    ensures value { result ≡ opening_test unit.now
-        (seen_by (V.persons_of view.now) (V.cells_of view.now)) play act }
-    ensures cost { steps.new ≤ steps.old + length (opening_looks unit.now play act) }
+    ensures value { result ≡ opening_test scope.now.unit.now (V.seen scope.now.view.now) play act }
+    ensures cost { steps.new ≤ steps.old + length (opening_looks scope.now.unit.now play act) }
 {
     if act == 0 {
         return true;
     }
-    match act_at(unit, play, act - 1) {
-        Some(before) => is_done(unit, names, view, Owner::Run, &before.identifier, steps),
+    match act_at(scope.unit, play, act - 1) {
+        Some(before) => scope.is_done(Owner::Run, &before.identifier, steps),
         None => false,
     }
 }
@@ -99,78 +85,51 @@ fn judge_opening<V: View, L: Ledger>(
 /// Whether the act is opened, the role has a member, and what the role-part refers to is done for
 /// each member. Of an environment there is nothing to do.
 fn judge_part<V: View, L: Ledger>(
-    unit: &Unit,
-    names: &Names,
+    scope: &Scope<'_, V>,
     act: &Act,
     part: &RolePart,
-    view: &V,
     steps: &mut Steps<L>,
 ) -> bool
-    requires names { names.now ≡ names_of unit.now }
-    requires cells { HasCells (V.has_cell view.now) (site_part_looks unit.now
-        (seen_by (V.persons_of view.now) (V.cells_of view.now)) act.now part.now) }
-    ensures value { result ≡ part_test unit.now
-        (seen_by (V.persons_of view.now) (V.cells_of view.now)) act.now part.now }
-    ensures cost { steps.new ≤ steps.old + length (site_part_looks unit.now
-        (seen_by (V.persons_of view.now) (V.cells_of view.now)) act.now part.now) }
+    ensures value { result ≡ part_test scope.now.unit.now
+        (V.seen scope.now.view.now) act.now part.now }
+    ensures cost { steps.new ≤ steps.old + length (site_part_looks scope.now.unit.now
+        (V.seen scope.now.view.now) act.now part.now) }
 {
-    if !is_opened(unit, names, act, view, steps) {
+    if !is_opened(scope, act, steps) {
         return false;
     }
-    if is_environment(unit, names, &part.target) {
-        return has_member(unit, names, &part.role, view, steps);
+    if is_environment(scope.unit, scope.names, &part.target) {
+        return has_member(scope, &part.role, steps);
     }
-    did_all(unit, names, &part.role, &part.target, view, steps)
+    did_all(scope, &part.role, &part.target, steps)
 }
 
 /// Whether the act is opened, and its completion rule holds.
-fn judge_act<V: View, L: Ledger>(
-    unit: &Unit,
-    names: &Names,
-    act: &Act,
-    view: &V,
-    steps: &mut Steps<L>,
-) -> bool
-    requires names { names.now ≡ names_of unit.now }
-    requires cells { HasCells (V.has_cell view.now) (site_act_looks unit.now
-        (seen_by (V.persons_of view.now) (V.cells_of view.now)) act.now) }
-    ensures value { result ≡ act_test unit.now
-        (seen_by (V.persons_of view.now) (V.cells_of view.now)) act.now }
-    ensures cost { steps.new ≤ steps.old + length (site_act_looks unit.now
-        (seen_by (V.persons_of view.now) (V.cells_of view.now)) act.now) }
+fn judge_act<V: View, L: Ledger>(scope: &Scope<'_, V>, act: &Act, steps: &mut Steps<L>) -> bool
+    ensures value { result ≡ act_test scope.now.unit.now (V.seen scope.now.view.now) act.now }
+    ensures cost { steps.new ≤ steps.old + length (site_act_looks scope.now.unit.now
+        (V.seen scope.now.view.now) act.now) }
 {
-    if !is_opened(unit, names, act, view, steps) {
+    if !is_opened(scope, act, steps) {
         return false;
     }
     let about = Completing {
         owner: Owner::Run,
         chosen: None,
-        start: opening_cell(unit, names, act),
+        start: opening_cell(scope.unit, scope.names, act),
         last_act: None,
     };
-    rule_holds(unit, names, about, &act.complete, view, steps)
+    rule_holds(scope, about, &act.complete, steps)
 }
 
 /// Whether the completion rule of the play holds.
-fn judge_play<V: View, L: Ledger>(
-    unit: &Unit,
-    names: &Names,
-    play: &Play,
-    view: &V,
-    steps: &mut Steps<L>,
-) -> bool
-    requires names { names.now ≡ names_of unit.now }
-    requires cells { HasCells (V.has_cell view.now) (completion_looks_if unit.now
-        (seen_by (V.persons_of view.now) (V.cells_of view.now))
-        (play_completing play.now) play.now.complete) }
-    ensures value { result ≡ play_test unit.now
-        (seen_by (V.persons_of view.now) (V.cells_of view.now)) play.now }
-    ensures cost { steps.new ≤ steps.old + length (completion_looks_if unit.now
-        (seen_by (V.persons_of view.now) (V.cells_of view.now))
-        (play_completing play.now) play.now.complete) }
+fn judge_play<V: View, L: Ledger>(scope: &Scope<'_, V>, play: &Play, steps: &mut Steps<L>) -> bool
+    ensures value { result ≡ play_test scope.now.unit.now (V.seen scope.now.view.now) play.now }
+    ensures cost { steps.new ≤ steps.old + length (completion_looks_if scope.now.unit.now
+        (V.seen scope.now.view.now) (play_completing play.now) play.now.complete) }
 {
     let about = completing_play(play);
-    rule_holds(unit, names, about, &play.complete, view, steps)
+    rule_holds(scope, about, &play.complete, steps)
 }
 
 /// What the completion rule of the play speaks of: it begins when the run is started. It takes no
@@ -196,21 +155,10 @@ fn last_act(play: &Play) -> Option<&Id>
 }
 
 /// Whether the completion rule of the unit holds.
-fn judge_unit<V: View, L: Ledger>(
-    unit: &Unit,
-    names: &Names,
-    view: &V,
-    steps: &mut Steps<L>,
-) -> bool
-    requires names { names.now ≡ names_of unit.now }
-    requires cells { HasCells (V.has_cell view.now) (completion_looks_if unit.now
-        (seen_by (V.persons_of view.now) (V.cells_of view.now))
-        unit_completing unit.now.method.complete) }
-    ensures value { result ≡ unit_test unit.now
-        (seen_by (V.persons_of view.now) (V.cells_of view.now)) }
-    ensures cost { steps.new ≤ steps.old + length (completion_looks_if unit.now
-        (seen_by (V.persons_of view.now) (V.cells_of view.now))
-        unit_completing unit.now.method.complete) }
+fn judge_unit<V: View, L: Ledger>(scope: &Scope<'_, V>, steps: &mut Steps<L>) -> bool
+    ensures value { result ≡ unit_test scope.now.unit.now (V.seen scope.now.view.now) }
+    ensures cost { steps.new ≤ steps.old + length (completion_looks_if scope.now.unit.now
+        (V.seen scope.now.view.now) unit_completing scope.now.unit.now.method.complete) }
 {
     let about = Completing {
         owner: Owner::Run,
@@ -218,25 +166,16 @@ fn judge_unit<V: View, L: Ledger>(
         start: Some(CellName::Started),
         last_act: None,
     };
-    rule_holds(unit, names, about, &unit.method.complete, view, steps)
+    rule_holds(scope, about, &scope.unit.method.complete, steps)
 }
 
 /// Whether the act is opened.
-fn is_opened<V: View, L: Ledger>(
-    unit: &Unit,
-    names: &Names,
-    act: &Act,
-    view: &V,
-    steps: &mut Steps<L>,
-) -> bool
-    requires names { names.now ≡ names_of unit.now }
-    requires cells { HasCells (V.has_cell view.now) (cell_list (opening_cell unit.now act.now)) }
-    ensures value { result ≡ is_opened unit.now
-        (seen_by (V.persons_of view.now) (V.cells_of view.now)) act.now }
-    ensures cost { steps.new ≤ steps.old + length (cell_list (opening_cell unit.now act.now)) }
+fn is_opened<V: View, L: Ledger>(scope: &Scope<'_, V>, act: &Act, steps: &mut Steps<L>) -> bool
+    ensures value { result ≡ is_opened scope.now.unit.now (V.seen scope.now.view.now) act.now }
+    ensures cost { steps.new ≤ steps.old + length (cell_list (opening_cell scope.now.unit.now act.now)) }
 {
-    match opening_cell(unit, names, act) {
-        Some(cell) => view.get(cell, steps).is_some(),
+    match opening_cell(scope.unit, scope.names, act) {
+        Some(cell) => scope.view.get(cell, steps).is_some(),
         None => false,
     }
 }

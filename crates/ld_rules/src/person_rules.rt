@@ -1,7 +1,7 @@
 //! What the rules for one person ask.
 #![tactic(auto, using(crate::proofs::Judging::row_is, crate::proofs::Judging::row_there, crate::proofs::Mine::mine_by_roles))]
 
-ghost use Rattle.std.specs.Prelude.{◌≡◌, ◌+◌, ◌≤◌, ◌<◌, count_by, length, map, slice_get, Some};
+ghost use Rattle.std.specs.Prelude.{◌≡◌, ◌+◌, ◌≤◌, ◌<◌, count_by, length, slice_get, Some};
 ghost use Rattle.std.specs.List.{list_any};
 ghost use Rattle.ld_names.specs.Identifiers.{HasDistinctIdentifiers};
 ghost use Rattle.ld_names.specs.Names.{names_of};
@@ -9,8 +9,6 @@ ghost use Rattle.ld_expr.specs.Done.{is_done};
 ghost use Rattle.ld_expr.specs.Lookup.{is_some_and, list_from};
 ghost use Rattle.ld_expr.specs.Membership.{is_member};
 ghost use Rattle.ld_expr.specs.Owners.{of_person};
-ghost use Rattle.ld_expr.specs.Seen.{member_cell};
-ghost use Rattle.ld_expr.specs.Viewing.{HasCells, seen_by};
 ghost use Rattle.ld_rules.specs.Reach.{is_mine};
 ghost use Rattle.ld_rules.specs.ReachTable.{reach_of};
 ghost use Rattle.ld_rules.specs.SiteLooks.{site_activity_looks, all_done_looks, completion_looks_if, person_looks, reaching_roles};
@@ -23,8 +21,7 @@ use ld_base::id::Id;
 use ld_base::numbers::{PersonNo, RoleNo};
 use ld_base::steps::Steps;
 use ld_expr::cells::{says_yes, thing_number};
-use ld_expr::done::is_done;
-use ld_expr::holding::holds;
+use ld_expr::scope::Scope;
 use ld_model::activity::{Activity, Structure, StructureKind};
 use ld_model::cell::{CellName, Owner};
 use ld_model::unit::Unit;
@@ -36,43 +33,29 @@ use std::sync::ledger::Ledger;
 /// What the rule asks of the person; of a rule for the run, nothing holds. (docs/MEANING.md, "Rules
 /// and sites")
 pub(crate) fn judge_for_person<V: View, L: Ledger>(
-    unit: &Unit,
-    names: &Names,
+    scope: &Scope<'_, V>,
     reach: &Reach,
     rule: Rule,
     person: PersonNo,
-    view: &V,
     steps: &mut Steps<L>,
 ) -> bool
-    requires distinct { HasDistinctIdentifiers unit.now }
-    requires names { names.now ≡ names_of unit.now }
-    requires reach { reach.now ≡ reach_of unit.now }
-    requires cells { HasCells (V.has_cell view.now) (person_looks unit.now
-        (seen_by (V.persons_of view.now) (V.cells_of view.now)) person.0 rule) }
-    ensures value { result ≡ person_test unit.now
-        (seen_by (V.persons_of view.now) (V.cells_of view.now)) person.0 rule }
-    ensures cost { steps.new ≤ steps.old + length (person_looks unit.now
-        (seen_by (V.persons_of view.now) (V.cells_of view.now)) person.0 rule) }
+    requires distinct { HasDistinctIdentifiers scope.now.unit.now }
+    requires reach { reach.now ≡ reach_of scope.now.unit.now }
+    ensures value { result ≡ person_test scope.now.unit.now
+        (V.seen scope.now.view.now) person.0 rule }
+    ensures cost { steps.new ≤ steps.old + length (person_looks scope.now.unit.now
+        (V.seen scope.now.view.now) person.0 rule) }
 {
     match rule {
         Rule::CompletesActivity(number) => {
-            judge_activity(unit, names, reach, number as usize, person, view, steps)
+            judge_activity(scope, reach, number as usize, person, steps)
         }
-        Rule::CompletesStructure(number) => match unit.structures.get(number as usize) {
-            Some(structure) => judge_structure(unit, names, structure, person, view, steps),
+        Rule::CompletesStructure(number) => match scope.unit.structures.get(number as usize) {
+            Some(structure) => judge_structure(scope, structure, person, steps),
             None => false,
         },
-        Rule::JudgesCondition(number) => match unit.conditions.get(number as usize) {
-            Some(condition) => {
-                holds(
-                    unit,
-                    names,
-                    &condition.test,
-                    view,
-                    Owner::Person(person),
-                    steps,
-                )
-            }
+        Rule::JudgesCondition(number) => match scope.unit.conditions.get(number as usize) {
+            Some(condition) => { scope.holds(Owner::Person(person), &condition.test, steps) }
             None => false,
         },
         Rule::OpensAct(_, _)
@@ -86,58 +69,46 @@ pub(crate) fn judge_for_person<V: View, L: Ledger>(
 /// Whether the activity of this number is the person's, and its completion rule holds, if there is
 /// one.
 fn judge_activity<V: View, L: Ledger>(
-    unit: &Unit,
-    names: &Names,
+    scope: &Scope<'_, V>,
     reach: &Reach,
     number: usize,
     person: PersonNo,
-    view: &V,
     steps: &mut Steps<L>,
 ) -> bool
-    requires distinct { HasDistinctIdentifiers unit.now }
-    requires names { names.now ≡ names_of unit.now }
-    requires reach { reach.now ≡ reach_of unit.now }
-    requires cells { HasCells (V.has_cell view.now) (list_from (site_activity_looks unit.now
-        (seen_by (V.persons_of view.now) (V.cells_of view.now)) person.0)
-        (slice_get unit.now.activities number)) }
-    ensures value { result ≡ is_some_and (activity_test unit.now
-        (seen_by (V.persons_of view.now) (V.cells_of view.now)) person.0)
-        (slice_get unit.now.activities number) }
-    ensures cost { steps.new ≤ steps.old + length (list_from (site_activity_looks unit.now
-        (seen_by (V.persons_of view.now) (V.cells_of view.now)) person.0)
-        (slice_get unit.now.activities number)) }
+    requires distinct { HasDistinctIdentifiers scope.now.unit.now }
+    requires reach { reach.now ≡ reach_of scope.now.unit.now }
+    ensures value { result ≡ is_some_and (activity_test scope.now.unit.now
+        (V.seen scope.now.view.now) person.0) (slice_get scope.now.unit.now.activities number) }
+    ensures cost { steps.new ≤ steps.old + length (list_from (site_activity_looks scope.now.unit.now
+        (V.seen scope.now.view.now) person.0) (slice_get scope.now.unit.now.activities number)) }
 {
-    let Some(activity) = unit.activities.get(number) else {
+    let Some(activity) = scope.unit.activities.get(number) else {
         return false;
     };
-    if !is_mine(unit, reach, number, activity, person, view, steps) {
+    if !is_mine(scope, reach, number, activity, person, steps) {
         return false;
     }
-    is_completed(unit, names, activity, person, view, steps)
+    is_completed(scope, activity, person, steps)
 }
 
 /// Whether the activity, which is the one of this number, is the person's.
 fn is_mine<V: View, L: Ledger>(
-    unit: &Unit,
+    scope: &Scope<'_, V>,
     reach: &Reach,
     number: usize,
     activity: &Activity,
     person: PersonNo,
-    view: &V,
     steps: &mut Steps<L>,
 ) -> bool
-    requires distinct { HasDistinctIdentifiers unit.now }
-    requires reach { reach.now ≡ reach_of unit.now }
-    requires number { slice_get unit.now.activities number ≡ Some activity.now }
-    requires cells { HasCells (V.has_cell view.now) (map (λ r. member_cell r person.0)
-        (reaching_roles unit.now activity.now.identifier)) }
-    ensures value { result ≡ is_mine unit.now
-        (seen_by (V.persons_of view.now) (V.cells_of view.now))
+    requires distinct { HasDistinctIdentifiers scope.now.unit.now }
+    requires reach { reach.now ≡ reach_of scope.now.unit.now }
+    requires number { slice_get scope.now.unit.now.activities number ≡ Some activity.now }
+    ensures value { result ≡ is_mine scope.now.unit.now (V.seen scope.now.view.now)
         activity.now.identifier person.0 }
     ensures cost { steps.new
-        ≤ steps.old + length (reaching_roles unit.now activity.now.identifier) }
+        ≤ steps.old + length (reaching_roles scope.now.unit.now activity.now.identifier) }
 {
-    is_in_one(reach.roles(number), person, view, steps)
+    is_in_one(reach.roles(number), person, scope.view, steps)
 }
 
 /// Whether the person is a member of one of the roles, which are given by their numbers.
@@ -147,9 +118,7 @@ fn is_in_one<V: View, L: Ledger>(
     view: &V,
     steps: &mut Steps<L>,
 ) -> bool
-    requires { HasCells (V.has_cell view.now) (map (λ r. member_cell r person.0) roles.now) }
-    ensures value { result ≡ list_any (λ r. is_member
-        (seen_by (V.persons_of view.now) (V.cells_of view.now)) r person.0) roles.now }
+    ensures value { result ≡ list_any (λ r. is_member (V.seen view.now) r person.0) roles.now }
     ensures cost { steps.new ≤ steps.old + length roles.now }
 {
     for role in roles {
@@ -162,28 +131,22 @@ fn is_in_one<V: View, L: Ledger>(
 
 /// Whether the completion rule of the activity holds for the person, if there is one.
 fn is_completed<V: View, L: Ledger>(
-    unit: &Unit,
-    names: &Names,
+    scope: &Scope<'_, V>,
     activity: &Activity,
     person: PersonNo,
-    view: &V,
     steps: &mut Steps<L>,
 ) -> bool
-    requires names { names.now ≡ names_of unit.now }
-    requires cells { HasCells (V.has_cell view.now) (completion_looks_if unit.now
-        (seen_by (V.persons_of view.now) (V.cells_of view.now))
-        (activity_completing unit.now person.0 activity.now) activity.now.complete) }
-    ensures value { result ≡ holds_or_absent (completion_holds unit.now
-        (seen_by (V.persons_of view.now) (V.cells_of view.now))
-        (activity_completing unit.now person.0 activity.now)) activity.now.complete }
-    ensures cost { steps.new ≤ steps.old + length (completion_looks_if unit.now
-        (seen_by (V.persons_of view.now) (V.cells_of view.now))
-        (activity_completing unit.now person.0 activity.now) activity.now.complete) }
+    ensures value { result ≡ holds_or_absent (completion_holds scope.now.unit.now
+        (V.seen scope.now.view.now)
+        (activity_completing scope.now.unit.now person.0 activity.now)) activity.now.complete }
+    ensures cost { steps.new ≤ steps.old + length (completion_looks_if scope.now.unit.now
+        (V.seen scope.now.view.now)
+        (activity_completing scope.now.unit.now person.0 activity.now) activity.now.complete) }
 {
     match &activity.complete {
         Some(completion) => {
-            let about = completing_activity(unit, names, activity, person);
-            completion_holds(unit, names, about, completion, view, steps)
+            let about = completing_activity(scope.unit, scope.names, activity, person);
+            completion_holds(scope, about, completion, steps)
         }
         None => true,
     }
@@ -219,23 +182,18 @@ pub fn completing_activity<'a>(
 
 /// Whether so many of the structure's children are done for the person as it needs.
 fn judge_structure<V: View, L: Ledger>(
-    unit: &Unit,
-    names: &Names,
+    scope: &Scope<'_, V>,
     structure: &Structure,
     person: PersonNo,
-    view: &V,
     steps: &mut Steps<L>,
 ) -> bool
-    requires names { names.now ≡ names_of unit.now }
-    requires cells { HasCells (V.has_cell view.now)
-        (all_done_looks unit.now (of_person person.0) structure.now.children) }
-    ensures value { result ≡ structure_test unit.now
-        (seen_by (V.persons_of view.now) (V.cells_of view.now)) person.0 structure.now }
+    ensures value { result ≡ structure_test scope.now.unit.now
+        (V.seen scope.now.view.now) person.0 structure.now }
     ensures cost { steps.new ≤ steps.old
-        + length (all_done_looks unit.now (of_person person.0) structure.now.children) }
+        + length (all_done_looks scope.now.unit.now (of_person person.0) structure.now.children) }
 {
     let children = structure.children.as_slice();
-    number_needed(structure) <= count_done(unit, names, children, person, view, steps)
+    number_needed(structure) <= count_done(scope, children, person, steps)
 }
 
 /// How many of the structure's children are to be done.
@@ -255,24 +213,19 @@ fn number_needed(structure: &Structure) -> usize
 
 /// How many of what the identifiers name is done for the person.
 fn count_done<V: View, L: Ledger>(
-    unit: &Unit,
-    names: &Names,
+    scope: &Scope<'_, V>,
     ids: &[Id],
     person: PersonNo,
-    view: &V,
     steps: &mut Steps<L>,
 ) -> usize
-    requires names { names.now ≡ names_of unit.now }
-    requires cells { HasCells (V.has_cell view.now)
-        (all_done_looks unit.now (of_person person.0) ids.now) }
-    ensures value { result ≡ count_by (is_done unit.now
-        (seen_by (V.persons_of view.now) (V.cells_of view.now)) (of_person person.0)) ids.now }
+    ensures value { result ≡ count_by (is_done scope.now.unit.now
+        (V.seen scope.now.view.now) (of_person person.0)) ids.now }
     ensures cost { steps.new ≤ steps.old
-        + length (all_done_looks unit.now (of_person person.0) ids.now) }
+        + length (all_done_looks scope.now.unit.now (of_person person.0) ids.now) }
 {
     let mut count = 0;
     for id in ids {
-        count += usize::from(is_done(unit, names, view, Owner::Person(person), id, steps));
+        count += usize::from(scope.is_done(Owner::Person(person), id, steps));
     }
     count
 }

@@ -17,8 +17,10 @@ use crate::reach::Reach;
 use ld_base::memory::NoMemory;
 use ld_base::numbers::PropNo;
 use ld_base::text::Text;
+use ld_expr::scope::Scope;
 use ld_model::property::Property;
 use ld_model::unit::Unit;
+use ld_model::view::View;
 use ld_names::names::Names;
 use ld_names::rule::Rule;
 use ld_names::thing::{ThingEntry, list_things};
@@ -115,6 +117,19 @@ impl PreparedUnit {
         ensures { result.now ≡ names_of self.now }
     {
         &self.made.names
+    }
+
+    /// The view of a run of the unit, with the unit and its names beside it. It takes no memory.
+    pub fn scope<'a, V: View>(&'a self, view: &'a V) -> Scope<'a, V>
+        ensures unit { result.unit.now ≡ self.now }
+        ensures view { result.view.now ≡ view.now }
+        ensures distinct { HasDistinctIdentifiers self.now }
+    {
+        Scope {
+            unit: &self.unit,
+            names: &self.made.names,
+            view,
+        }
     }
 
     /// The rules of the unit, in their order. It takes no memory.

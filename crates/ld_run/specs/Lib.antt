@@ -1,7 +1,9 @@
 pub mod Changes
+pub mod CommandWork
 pub mod FittingCommands
 pub mod Linked
 pub mod Reached
+pub mod Running
 pub mod RunStep
 pub mod RunView
 pub mod SameSteps

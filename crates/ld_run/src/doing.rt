@@ -2,20 +2,22 @@
 ghost use Rattle.std.specs.Prelude.{◌≡◌, Err, IfErr, IfOk, Ok, OnOk, false, true};
 ghost use Rattle.ld_state.specs.StateView.{HasMarkedPersons, IsStateOf, run_of};
 ghost use Rattle.ld_firing.specs.RunSystem.{IsSoundRun};
+ghost use Rattle.ld_firing.specs.SettledView.{settlement_of};
 ghost use Rattle.ld_firing.specs.Telling.{Tells};
-ghost use Rattle.ld_cascade.specs.Wiring.{LinksFollow};
+ghost use Rattle.ld_settling.specs.RunLinking.{RunLinksFollow};
 ghost use Rattle.ld_value.specs.Calendar.{IsMoment};
-ghost use Rattle.ld_sharing.specs.Fitting.{HasFittingGlobals, TakesFitting};
+ghost use Rattle.ld_sharing.specs.Fitting.{TakesFitting};
 ghost use Rattle.ld_sharing.specs.Globals.{taking_in};
 ghost use Rattle.ld_sharing.specs.StoreView.{Serves, values_of};
+ghost use Rattle.ld_checks.specs.Checks.{is_started};
+ghost use Rattle.ld_checks.specs.Commands.{Admitted as Command};
 ghost use Rattle.ld_checks.specs.AdmittedView.{HasPersonAndActivity, IsPossible, admitted_of};
-ghost use Rattle.ld_replies.specs.Printing.{AreNoticesOf, IsPrintable, IsTellable};
-ghost use Rattle.ld_run.specs.FittingCommands.{WritesFitting};
+ghost use Rattle.ld_replies.specs.Printing.{IsPrintable, IsTellable};
 ghost use Rattle.ld_run.specs.Changes.{renews_sites};
-ghost use Rattle.ld_run.specs.Linked.{HasLinks};
+ghost use Rattle.ld_run.specs.Running.{IsRunning, MayBeDone};
 ghost use Rattle.ld_checks.specs.RefusalView.{RefusesWith, refusal_of};
 ghost use Rattle.ld_checks.specs.Refusals.{NotOpen};
-ghost use Rattle.ld_run.specs.RunStep.{at_moment, done_by, is_thing_open, open_for_it};
+ghost use Rattle.ld_run.specs.RunStep.{at_moment, done_by, is_thing_open, open_for_it, settled, settled_after};
 ghost use Rattle.ld_run.specs.StageView.{done_with};
 
 use crate::changes::change_directly;
@@ -54,14 +56,9 @@ pub(crate) fn do_admitted<L: Ledger>(
     steps: &mut Steps<L>,
 ) -> Result<Settled, Refusal<'static>>
     requires own { IsStateOf unit.now state.old }
-    requires sound { IsSoundRun unit.now (run_of state.old) }
-    requires linked { HasLinks unit.now (run_of state.old) links.old }
-    requires fitting { HasFittingGlobals unit.now (run_of state.old) }
+    requires running { IsRunning unit.now (run_of state.old) links.old }
     requires serves { Serves globals.now unit.now }
-    requires notices { AreNoticesOf unit.now state.old.outbox }
-    requires moment { IsMoment moment.0 }
-    requires possible { IsPossible unit.now (run_of state.old) (admitted_of command.now) }
-    requires writes { WritesFitting unit.now (admitted_of command.now) }
+    requires may { MayBeDone unit.now (run_of state.old) moment.0 (admitted_of command.now) }
     requires persons { HasMarkedPersons state.old }
     ensures done { IfOk result (λ totals. done_by unit.now (run_of state.old)
         (values_of globals.now) moment.0 (admitted_of command.now)
@@ -69,17 +66,63 @@ pub(crate) fn do_admitted<L: Ledger>(
         (run_of state.new))) }
     ensures refused { IfErr result (RefusesWith (done_by unit.now (run_of state.old)
         (values_of globals.now) moment.0 (admitted_of command.now))) }
-    ensures sound { OnOk result (IsSoundRun unit.now (run_of state.new)) }
-    ensures fitting { OnOk result (HasFittingGlobals unit.now (run_of state.new)) }
-    ensures notices { OnOk result (AreNoticesOf unit.now state.new.outbox) }
+    ensures running { OnOk result (IsRunning unit.now (run_of state.new) links.new) }
     ensures printable { IfErr result (λ refusal. IsPrintable (refusal_of refusal)) }
     ensures tellable { OnOk result
         (IsTellable unit.now (run_of state.new) (admitted_of command.now)) }
     ensures own { IsStateOf unit.now state.new }
     ensures kept { state.new.kept ≡ state.old.kept }
-    ensures linked { OnOk result (HasLinks unit.now (run_of state.new) links.new) }
     ensures follows { renews_sites (admitted_of command.now) ≡ false
-        → LinksFollow links.old links.new }
+        → RunLinksFollow links.old links.new }
+{
+    let first = match settle_first(alloc, unit, state, links, globals, scratch, moment, steps) {
+        Ok(settled) => settled,
+        Err(refusal) => return Err(refusal),
+    };
+    if !is_open_for(unit, state, command, steps) {
+        return Err(Refusal::NotOpen);
+    }
+    let second = match settle_changed(
+        alloc, unit, state, links, globals, scratch, moment, command, steps,
+    ) {
+        Ok(settled) => settled,
+        Err(refusal) => return Err(refusal),
+    };
+    match both(first, second) {
+        Ok(totals) => Ok(totals),
+        Err(_) => Err(Refusal::NoMemory),
+    }
+}
+
+/// Keeps the moment as the run's last one, takes in the store's values, and settles a run that is
+/// started. What was possible stays possible.
+fn settle_first<L: Ledger>(
+    alloc: Global,
+    unit: &PreparedUnit,
+    state: &mut State,
+    links: &mut RunLinks,
+    globals: &Globals,
+    scratch: &mut Scratch,
+    moment: Moment,
+    steps: &mut Steps<L>,
+) -> Result<Settled, Refusal<'static>>
+    requires own { IsStateOf unit.now state.old }
+    requires running { IsRunning unit.now (run_of state.old) links.old }
+    requires serves { Serves globals.now unit.now }
+    requires moment { IsMoment moment.0 }
+    ensures settled { IfOk result (λ totals. settled (is_started (run_of state.old)) unit.now
+        (taking_in unit.now (values_of globals.now) (at_moment (run_of state.old) moment.0))
+        ≡ Ok (settlement_of totals (run_of state.new))) }
+    ensures refused { IfErr result (RefusesWith (settled (is_started (run_of state.old)) unit.now
+        (taking_in unit.now (values_of globals.now) (at_moment (run_of state.old) moment.0)))) }
+    ensures running { OnOk result (IsRunning unit.now (run_of state.new) links.new) }
+    ensures stays { (command : Command) → OnOk result (IsPossible unit.now (run_of state.old) command
+        → IsPossible unit.now (run_of state.new) command) }
+    ensures printable { IfErr result (λ refusal. IsPrintable (refusal_of refusal)) }
+    ensures own { IsStateOf unit.now state.new }
+    ensures rows { state.new.rows ≡ state.old.rows }
+    ensures kept { state.new.kept ≡ state.old.kept }
+    ensures follows { RunLinksFollow links.old links.new }
 {
     scratch.changed.clear();
     let refreshed = &mut scratch.changed;
@@ -87,14 +130,50 @@ pub(crate) fn do_admitted<L: Ledger>(
         return Err(Refusal::NoMemory);
     }
     let started = is_started(unit, state, steps);
-    let told = Relinking::Told;
-    let first = match settle_if(alloc, started, told, unit, state, links, scratch, steps) {
-        Ok(settled) => settled,
-        Err(refusal) => return Err(refusal),
-    };
-    if !is_open_for(unit, state, command, steps) {
-        return Err(Refusal::NotOpen);
-    }
+    settle_if(
+        alloc,
+        started,
+        Relinking::Told,
+        unit,
+        state,
+        links,
+        scratch,
+        steps,
+    )
+}
+
+/// Makes the command's direct change, and settles the run after it, where there was one and the run
+/// is started.
+fn settle_changed<L: Ledger>(
+    alloc: Global,
+    unit: &PreparedUnit,
+    state: &mut State,
+    links: &mut RunLinks,
+    globals: &Globals,
+    scratch: &mut Scratch,
+    moment: Moment,
+    command: &Admitted<'_>,
+    steps: &mut Steps<L>,
+) -> Result<Settled, Refusal<'static>>
+    requires own { IsStateOf unit.now state.old }
+    requires running { IsRunning unit.now (run_of state.old) links.old }
+    requires serves { Serves globals.now unit.now }
+    requires may { MayBeDone unit.now (run_of state.old) moment.0 (admitted_of command.now) }
+    requires persons { HasMarkedPersons state.old }
+    ensures settled { IfOk result (λ totals. settled_after unit.now (values_of globals.now)
+        (run_of state.old) moment.0 (admitted_of command.now)
+        ≡ Ok (settlement_of totals (run_of state.new))) }
+    ensures refused { IfErr result (RefusesWith (settled_after unit.now (values_of globals.now)
+        (run_of state.old) moment.0 (admitted_of command.now))) }
+    ensures running { OnOk result (IsRunning unit.now (run_of state.new) links.new) }
+    ensures tellable { OnOk result
+        (IsTellable unit.now (run_of state.new) (admitted_of command.now)) }
+    ensures printable { IfErr result (λ refusal. IsPrintable (refusal_of refusal)) }
+    ensures own { IsStateOf unit.now state.new }
+    ensures kept { state.new.kept ≡ state.old.kept }
+    ensures follows { renews_sites (admitted_of command.now) ≡ false
+        → RunLinksFollow links.old links.new }
+{
     let before = state.persons();
     scratch.changed.clear();
     let changed = &mut scratch.changed;
@@ -103,14 +182,7 @@ pub(crate) fn do_admitted<L: Ledger>(
     }
     let settles = settles_after(unit, state, command, steps);
     let how = how_to_relink(command, before);
-    let second = match settle_if(alloc, settles, how, unit, state, links, scratch, steps) {
-        Ok(settled) => settled,
-        Err(refusal) => return Err(refusal),
-    };
-    match both(first, second) {
-        Ok(totals) => Ok(totals),
-        Err(_) => Err(Refusal::NoMemory),
-    }
+    settle_if(alloc, settles, how, unit, state, links, scratch, steps)
 }
 
 /// Keeps the moment as the run's last one, and takes in the store's values.
@@ -199,5 +271,5 @@ fn is_thing_open<L: Ledger>(
     ensures { result ≡ is_thing_open unit.now (run_of state.now) person.0 thing.0 }
 {
     let id = unit.names().id(Named::Thing(thing));
-    is_open(unit.unit(), unit.names(), state, person, id, steps)
+    is_open(unit.scope(state), person, id, steps)
 }

@@ -1,14 +1,14 @@
 //! A run of a unit.
-ghost use Rattle.std.specs.Prelude.{◌≡◌, ◌≤◌, [], IfOk, None};
+ghost use Rattle.std.specs.Prelude.{◌≡◌, ◌≤◌, IfOk, None};
 ghost use Rattle.ld_base.specs.Roomy.{room_of};
 ghost use Rattle.ld_roles.specs.declared.limit.TheConstants.{SEATS};
 ghost use Rattle.ld_state.specs.RunState.{made_at};
 ghost use Rattle.ld_state.specs.StateView.{IsStateOf, run_of};
-ghost use Rattle.ld_firing.specs.RunSystem.{IsSoundRun};
 ghost use Rattle.ld_value.specs.Calendar.{IsMoment};
-ghost use Rattle.ld_sharing.specs.Fitting.{HasFittingGlobals};
 ghost use Rattle.ld_sharing.specs.StoreView.{Serves, values_of};
+ghost use Rattle.ld_run.specs.Linked.{HasLinks as AreLinked};
 ghost use Rattle.ld_run.specs.Reached.{IsReached};
+ghost use Rattle.ld_run.specs.Running.{IsInOrder};
 ghost use Rattle.ld_run.specs.RunView.{AnswersCommand};
 
 use crate::command_room::{CommandRoom, Scratch};
@@ -30,8 +30,8 @@ use std::marker::Model;
 use std::rc::Rc;
 use std::sync::ledger::Ledger;
 
-/// A run of a unit. Contracts see it as the unit and the state of the run. (docs/MEANING.md, "A
-/// command")
+/// A run of a unit. Contracts see it as the unit, the state of the run and the links of its sites.
+/// (docs/MEANING.md, "A command")
 pub struct Run {
     unit: Rc<PreparedUnit>,
     state: State,
@@ -60,21 +60,15 @@ impl Model for Run {
     ghost coded = { Prim.hlevel (codes, coded_term, coded_test) };
 
     ghost use Rattle.std.specs.Prelude.{◌≡◌, None};
-    ghost use Rattle.ld_firing.specs.RunSystem.{IsSoundRun};
     ghost use Rattle.ld_state.specs.StateView.{IsStateOf, run_of as state_of};
-    ghost use Rattle.ld_run.specs.Linked.{HasLinks};
-    ghost use Rattle.ld_replies.specs.Printing.{AreNoticesOf};
     ghost use Rattle.ld_run.specs.Reached.{IsReached as HasCome};
-    ghost use Rattle.ld_sharing.specs.Fitting.{HasFittingGlobals as AreFitting};
+    ghost use Rattle.ld_run.specs.Running.{IsRunning};
 
-    ghost view = { λ s. record { unit = s.unit.value; state = s.state } };
+    ghost view = { λ s. record { unit = s.unit.value; state = s.state; links = s.links } };
 
     ghost invariant = { λ s. IsStateOf s.unit.value s.state
-        × IsSoundRun s.unit.value (state_of s.state)
-        × AreFitting s.unit.value (state_of s.state) × (s.state.kept ≡ None)
-        × AreNoticesOf s.unit.value s.state.outbox
-        × HasCome s.unit.value (state_of s.state)
-        × HasLinks s.unit.value (state_of s.state) s.links };
+        × IsRunning s.unit.value (state_of s.state) s.links × (s.state.kept ≡ None)
+        × HasCome s.unit.value (state_of s.state) };
 }
 
 impl Run {
@@ -93,6 +87,7 @@ impl Run {
         ensures state { IfOk result (λ run. run_of run.state
             ≡ made_at SEATS unit.value (values_of globals.now) moment.0) }
         ensures reached { IfOk result (λ run. IsReached run.unit (run_of run.state)) }
+        ensures linked { IfOk result (λ run. AreLinked run.unit (run_of run.state) run.links) }
     {
         let links = RunLinks::new(alloc);
         let state = begin(alloc, &unit, globals, moment, steps)?;
@@ -122,6 +117,7 @@ impl Run {
             (values_of globals.new) }
         ensures declared { globals.new.declared ≡ globals.old.declared }
         ensures reached { IsReached self.new.unit (run_of self.new.state) }
+        ensures linked { AreLinked self.new.unit (run_of self.new.state) self.new.links }
         ensures room { 128 ≤ room_of out.new }
         ensures own { self.new.state.spare ≡ self.old.state.spare }
     {
@@ -136,6 +132,7 @@ impl Run {
         ensures unit { self.new.unit ≡ self.old.unit }
         ensures state { self.new.state ≡ record self.old.state { spare = undo_log.old } }
         ensures log { undo_log.new ≡ self.old.state.spare }
+        ensures links { self.new.links ≡ self.old.links }
     {
         self.state.exchange(undo_log);
     }
@@ -160,6 +157,7 @@ impl Run {
             (values_of globals.new) }
         ensures declared { globals.new.declared ≡ globals.old.declared }
         ensures reached { IsReached self.new.unit (run_of self.new.state) }
+        ensures linked { AreLinked self.new.unit (run_of self.new.state) self.new.links }
         ensures room { 128 ≤ room_of out.new }
     {
         let Err(refusal) = step(
@@ -191,10 +189,8 @@ fn begin<L: Ledger>(
     requires serves { Serves globals.now unit.now }
     requires moment { IsMoment moment.0 }
     ensures own { IfOk result (IsStateOf unit.now) }
-    ensures sound { IfOk result (λ state. IsSoundRun unit.now (run_of state)) }
-    ensures fitting { IfOk result (λ state. HasFittingGlobals unit.now (run_of state)) }
+    ensures order { IfOk result (λ state. IsInOrder unit.now (run_of state)) }
     ensures unmarked { IfOk result (λ state. state.kept ≡ None) }
-    ensures silent { IfOk result (λ state. state.outbox ≡ []) }
     ensures state { IfOk result (λ state. run_of state
         ≡ made_at SEATS unit.now (values_of globals.now) moment.0) }
 {

@@ -1,18 +1,22 @@
 //! The settlings of a command.
-ghost use Rattle.std.specs.Prelude.{◌≡◌, ◌+◌, ◌&&◌, ◌==◌, not, IfErr, IfOk, Ok, OnOk, false, true};
+ghost use Rattle.std.specs.Prelude.{◌≡◌, ◌+◌, ◌≤◌, ◌&&◌, ◌==◌, ℕ, not, IfErr, IfOk, Ok, OnOk, false, true};
+ghost use Rattle.ld_graph.specs.Table.{has};
 ghost use Rattle.ld_state.specs.StateView.{IsStateOf, run_of};
-ghost use Rattle.ld_firing.specs.RunSystem.{IsSoundRun};
+ghost use Rattle.ld_firing.specs.RunSystem.{IsSoundRun, run_system};
+ghost use Rattle.ld_roles.specs.declared.limit.TheConstants.{SEATS};
+ghost use Rattle.ld_state.specs.RunState.{RunState};
+ghost use Rattle.ld_cascade.specs.SettlingWork.{relinked_weight};
+ghost use Rattle.ld_run.specs.CommandWork.{MayCount, judged_first, steps_settling};
 ghost use Rattle.ld_firing.specs.SettledView.{settlement_of, sums_in};
 ghost use Rattle.ld_cascade.specs.Settling.{plus};
-ghost use Rattle.ld_cascade.specs.Wiring.{LinksFollow, IsEmpty};
-ghost use Rattle.ld_settling.specs.RunLinking.{AreLinksOf};
-ghost use Rattle.ld_sharing.specs.Fitting.{HasFittingGlobals};
+ghost use Rattle.ld_settling.specs.RunLinking.{AreCleanLinks, AreLinksOf, RunLinksFollow, RunWiring};
 ghost use Rattle.ld_checks.specs.AdmittedView.{admitted_of};
 ghost use Rattle.ld_checks.specs.Checks.{is_started};
 ghost use Rattle.ld_run.specs.Changes.{has_change};
 ghost use Rattle.ld_run.specs.Linked.{HasLinks, MayRelink, relinking_of, relinks_all};
-ghost use Rattle.ld_replies.specs.Printing.{AreNoticesOf, IsPrintable};
+ghost use Rattle.ld_replies.specs.Printing.{IsPrintable};
 ghost use Rattle.ld_checks.specs.RefusalView.{RefusesWith, refusal_of};
+ghost use Rattle.ld_run.specs.Running.{IsInOrder, IsRunning};
 ghost use Rattle.ld_run.specs.RunStep.{settled};
 
 use crate::command_room::Scratch;
@@ -25,7 +29,7 @@ use ld_model::cell::CellName;
 use ld_model::view::View;
 use ld_rules::prepared::PreparedUnit;
 use ld_settling::links::RunLinks;
-use ld_settling::settling::settle;
+use ld_settling::settling::{restore, settle};
 use ld_state::state::State;
 use std::alloc::Global;
 use std::sync::ledger::Ledger;
@@ -53,25 +57,26 @@ pub(crate) fn settle_if<L: Ledger>(
     steps: &mut Steps<L>,
 ) -> Result<Settled, Refusal<'static>>
     requires own { IsStateOf unit.now state.old }
-    requires sound { IsSoundRun unit.now (run_of state.old) }
-    requires fitting { HasFittingGlobals unit.now (run_of state.old) }
-    requires notices { AreNoticesOf unit.now state.old.outbox }
+    requires order { IsInOrder unit.now (run_of state.old) }
+    requires started { settles ≡ true → is_started (run_of state.old) ≡ true }
     requires told { settles ≡ true
         → MayRelink how unit.now (run_of state.old) scratch.old.changed.items links.old }
     requires linked { settles ≡ false → HasLinks unit.now (run_of state.old) links.old }
     ensures settled { IfOk result (λ totals. settled settles unit.now (run_of state.old)
         ≡ Ok (settlement_of totals (run_of state.new))) }
     ensures refused { IfErr result (RefusesWith (settled settles unit.now (run_of state.old))) }
-    ensures sound { OnOk result (IsSoundRun unit.now (run_of state.new)) }
-    ensures fitting { OnOk result (HasFittingGlobals unit.now (run_of state.new)) }
-    ensures notices { OnOk result (AreNoticesOf unit.now state.new.outbox) }
+    ensures running { OnOk result (IsRunning unit.now (run_of state.new) links.new) }
     ensures printable { IfErr result (λ refusal. IsPrintable (refusal_of refusal)) }
     ensures own { IsStateOf unit.now state.new }
     ensures rows { state.new.rows ≡ state.old.rows }
     ensures kept { state.new.kept ≡ state.old.kept }
-    ensures linked { OnOk result (HasLinks unit.now (run_of state.new) links.new) }
-    ensures clean { OnOk result (settles ≡ true → IsEmpty links.new.dirty) }
-    ensures follows { relinks_all how ≡ false → LinksFollow links.old links.new }
+    ensures follows { relinks_all how ≡ false → RunLinksFollow links.old links.new }
+    ensures idle { settles ≡ false → steps.new ≡ steps.old }
+    ensures cost { (begun before : RunState) → begun.seats ≡ SEATS
+        → MayCount how unit.now before links.old
+        → steps.new + relinked_weight (run_system unit.now) begun links.new.wiring.relinked
+        ≤ steps.old + relinked_weight (run_system unit.now) begun links.old.wiring.relinked
+        + steps_settling how unit.now begun before (run_of state.old) scratch.old.changed.items }
 {
     if !settles {
         return Ok(NO_SETTLING);
@@ -79,7 +84,7 @@ pub(crate) fn settle_if<L: Ledger>(
     if let Err(_) = relink(how, unit, state, links, &scratch.changed) {
         return Err(Refusal::NoMemory);
     }
-    match settle(alloc, unit, state, links, &mut scratch.reads, steps) {
+    match settle(alloc, unit, state, links, steps) {
         Ok(totals) => Ok(totals),
         Err(Stop::TurnBudget) => Err(Refusal::TurnBudget),
         Err(Stop::NoMemory) => Err(Refusal::NoMemory),
@@ -100,7 +105,12 @@ fn relink(
     requires sound { IsSoundRun unit.now (run_of state.now) }
     requires told { MayRelink how unit.now (run_of state.now) changed.now links.old }
     ensures linked { OnOk result (AreLinksOf unit.now (run_of state.now) links.new) }
-    ensures follows { relinks_all how ≡ false → LinksFollow links.old links.new }
+    ensures follows { relinks_all how ≡ false → RunLinksFollow links.old links.new }
+    ensures dirties { (before : RunState) → MayCount how unit.now before links.old → (i : ℕ)
+        → has links.new.wiring.dirty i ≡ true
+        → judged_first how unit.now before changed.now i ≡ true }
+    ensures relinked { (i : ℕ) → has links.new.wiring.relinked i ≡ true
+        → has links.old.wiring.relinked i ≡ true }
 {
     match how {
         Relinking::Told => {
@@ -110,6 +120,34 @@ fn relink(
         Relinking::ToldPersons(before) => links.tell_persons(unit, state, before, changed),
         Relinking::Renewed => links.renew(unit, state),
     }
+}
+
+/// Makes the links those of the run as it was where they began, once its state was rolled back: a
+/// started run's are restored, and one that is not started keeps no edge. It takes no memory.
+pub(crate) fn take_back<L: Ledger>(
+    alloc: Global,
+    unit: &PreparedUnit,
+    state: &mut State,
+    links: &mut RunLinks,
+    steps: &mut Steps<L>,
+)
+    requires own { IsStateOf unit.now state.old }
+    requires sound { IsSoundRun unit.now (run_of state.old) }
+    requires begun { is_started (run_of state.old) ≡ true
+        → (begun : RunWiring) × AreCleanLinks unit.now (run_of state.old) begun
+        × RunLinksFollow begun links.old }
+    ensures run { run_of state.new ≡ run_of state.old }
+    ensures own { IsStateOf unit.now state.new }
+    ensures kept { state.new.kept ≡ state.old.kept }
+    ensures linked { HasLinks unit.now (run_of state.new) links.new }
+    ensures cost { steps.new ≤ steps.old + 1
+        + relinked_weight (run_system unit.now) (run_of state.old) links.old.wiring.relinked }
+{
+    if is_started(unit, state, steps) {
+        restore(alloc, unit, state, links, steps);
+        return;
+    }
+    links.clear();
 }
 
 /// The numbers of a settling of which there was none.
@@ -177,7 +215,8 @@ pub(crate) fn is_started<L: Ledger>(
     steps: &mut Steps<L>,
 ) -> bool
     requires { IsStateOf unit.now state.now }
-    ensures { result ≡ is_started (run_of state.now) }
+    ensures value { result ≡ is_started (run_of state.now) }
+    ensures cost { steps.new ≡ steps.old + 1 }
 {
     match state.get(CellName::Started, steps) {
         Some(_) => true,

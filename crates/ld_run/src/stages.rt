@@ -3,26 +3,23 @@ ghost use Rattle.std.specs.Prelude.{◌≡◌, ◌++◌, ◌∷◌, [], false, I
 ghost use Rattle.ld_base.specs.Roomy.{KeepsRoom};
 ghost use Rattle.ld_state.specs.GlobalValues.{GlobalValues};
 ghost use Rattle.ld_state.specs.StateView.{HasMarkedPersons, IsStateOf, run_of};
-ghost use Rattle.ld_firing.specs.RunSystem.{IsSoundRun};
-ghost use Rattle.ld_cascade.specs.Wiring.{LinksFollow};
+ghost use Rattle.ld_settling.specs.RunLinking.{RunLinksFollow};
 ghost use Rattle.ld_value.specs.Calendar.{IsMoment};
-ghost use Rattle.ld_sharing.specs.Fitting.{HasFittingGlobals};
 ghost use Rattle.ld_sharing.specs.Globals.{giving_back};
 ghost use Rattle.ld_sharing.specs.StoreView.{Serves, values_of};
 ghost use Rattle.ld_sharing.specs.Writes.{AreWritesOf};
-ghost use Rattle.ld_checks.specs.AdmittedView.{IsPossible, admitted_of};
-ghost use Rattle.ld_replies.specs.Printing.{AreNoticesOf, IsPrintable, IsTellable};
-ghost use Rattle.ld_run.specs.FittingCommands.{WritesFitting};
+ghost use Rattle.ld_checks.specs.AdmittedView.{admitted_of};
+ghost use Rattle.ld_replies.specs.Printing.{IsPrintable, IsTellable};
 ghost use Rattle.ld_run.specs.Changes.{renews_sites};
-ghost use Rattle.ld_run.specs.Linked.{HasLinks};
 ghost use Rattle.ld_checks.specs.RefusalView.{RefusesWith, refusal_of};
 ghost use Rattle.ld_run.specs.RunView.{done_text};
+ghost use Rattle.ld_run.specs.Running.{IsInOrder, IsRunning, MayBeDone};
 ghost use Rattle.ld_run.specs.RunStep.{DoneCommand, done_by, run_step};
 ghost use Rattle.ld_run.specs.StageView.{done_with};
 
 use crate::command_room::Scratch;
 use crate::doing::do_admitted;
-use crate::settling::leaves_unmoved;
+use crate::settling::{leaves_unmoved, take_back};
 use ld_base::memory::NoMemory;
 use ld_base::steps::Steps;
 use ld_base::text::Text;
@@ -57,11 +54,8 @@ pub(crate) fn step<'a, L: Ledger>(
     steps: &mut Steps<L>,
 ) -> Result<(), Refusal<'a>>
     requires own { IsStateOf unit.now state.old }
-    requires sound { IsSoundRun unit.now (run_of state.old) }
-    requires fitting { HasFittingGlobals unit.now (run_of state.old) }
+    requires running { IsRunning unit.now (run_of state.old) links.old }
     requires serves { Serves globals.old unit.now }
-    requires linked { HasLinks unit.now (run_of state.old) links.old }
-    requires notices { AreNoticesOf unit.now state.old.outbox }
     requires moment { IsMoment moment.0 }
     requires unmarked { state.old.kept ≡ None }
     ensures done { OnOk result ((d : DoneCommand) × (run_step unit.now (run_of state.old)
@@ -73,13 +67,10 @@ pub(crate) fn step<'a, L: Ledger>(
     ensures untouched { OnErr result (values_of globals.new ≡ values_of globals.old) }
     ensures declared { globals.new.declared ≡ globals.old.declared }
     ensures own { IsStateOf unit.now state.new }
-    ensures sound { IsSoundRun unit.now (run_of state.new) }
-    ensures fitting { HasFittingGlobals unit.now (run_of state.new) }
-    ensures notices { AreNoticesOf unit.now state.new.outbox }
+    ensures running { IsRunning unit.now (run_of state.new) links.new }
     ensures printable { IfErr result (λ refusal. IsPrintable (refusal_of refusal)) }
     ensures unmarked { state.new.kept ≡ None }
     ensures room { KeepsRoom out.old out.new }
-    ensures linked { HasLinks unit.now (run_of state.new) links.new }
 {
     match admit(alloc, unit, state, moment, command, steps) {
         Ok(admitted) => try_admitted(
@@ -89,7 +80,7 @@ pub(crate) fn step<'a, L: Ledger>(
     }
 }
 
-/// Does an admitted command and tells it, under a mark. A refusal leaves the run and the store's
+/// Does an admitted command and tells it, over a savepoint. A refusal leaves the run and the store's
 /// values as they were.
 fn try_admitted<'a, L: Ledger>(
     alloc: Global,
@@ -104,14 +95,9 @@ fn try_admitted<'a, L: Ledger>(
     steps: &mut Steps<L>,
 ) -> Result<(), Refusal<'a>>
     requires own { IsStateOf unit.now state.old }
-    requires sound { IsSoundRun unit.now (run_of state.old) }
-    requires fitting { HasFittingGlobals unit.now (run_of state.old) }
+    requires running { IsRunning unit.now (run_of state.old) links.old }
     requires serves { Serves globals.old unit.now }
-    requires linked { HasLinks unit.now (run_of state.old) links.old }
-    requires notices { AreNoticesOf unit.now state.old.outbox }
-    requires moment { IsMoment moment.0 }
-    requires possible { IsPossible unit.now (run_of state.old) (admitted_of command.now) }
-    requires writes { WritesFitting unit.now (admitted_of command.now) }
+    requires may { MayBeDone unit.now (run_of state.old) moment.0 (admitted_of command.now) }
     requires unmarked { state.old.kept ≡ None }
     ensures done { OnOk result ((d : DoneCommand) × (done_by unit.now (run_of state.old)
         (values_of globals.old) moment.0 (admitted_of command.now) ≡ Ok d)
@@ -123,13 +109,10 @@ fn try_admitted<'a, L: Ledger>(
     ensures untouched { OnErr result (values_of globals.new ≡ values_of globals.old) }
     ensures declared { globals.new.declared ≡ globals.old.declared }
     ensures own { IsStateOf unit.now state.new }
-    ensures sound { IsSoundRun unit.now (run_of state.new) }
-    ensures fitting { HasFittingGlobals unit.now (run_of state.new) }
-    ensures notices { AreNoticesOf unit.now state.new.outbox }
+    ensures running { IsRunning unit.now (run_of state.new) links.new }
     ensures printable { IfErr result (λ refusal. IsPrintable (refusal_of refusal)) }
     ensures unmarked { state.new.kept ≡ None }
     ensures room { KeepsRoom out.old out.new }
-    ensures linked { HasLinks unit.now (run_of state.new) links.new }
 {
     state.mark();
     links.begin();
@@ -143,14 +126,14 @@ fn try_admitted<'a, L: Ledger>(
         }
         Err(refusal) => {
             state.undo();
-            links.take_back();
+            take_back(alloc, unit, state, links, steps);
             Err(refusal)
         }
     }
 }
 
 /// Does an admitted command, tells it, and gives the writes by which the store is to take the run's
-/// values. After a refusal the state is another one with the same mark.
+/// values. After a refusal the state is another one with the same savepoint.
 fn do_and_tell<'u, L: Ledger>(
     alloc: Global,
     unit: &'u PreparedUnit,
@@ -164,14 +147,9 @@ fn do_and_tell<'u, L: Ledger>(
     steps: &mut Steps<L>,
 ) -> Result<Vec<Write<'u>>, Refusal<'static>>
     requires own { IsStateOf unit.now state.old }
-    requires sound { IsSoundRun unit.now (run_of state.old) }
-    requires fitting { HasFittingGlobals unit.now (run_of state.old) }
+    requires running { IsRunning unit.now (run_of state.old) links.old }
     requires serves { Serves globals.old unit.now }
-    requires linked { HasLinks unit.now (run_of state.old) links.old }
-    requires notices { AreNoticesOf unit.now state.old.outbox }
-    requires moment { IsMoment moment.0 }
-    requires possible { IsPossible unit.now (run_of state.old) (admitted_of command.now) }
-    requires writes { WritesFitting unit.now (admitted_of command.now) }
+    requires may { MayBeDone unit.now (run_of state.old) moment.0 (admitted_of command.now) }
     requires persons { HasMarkedPersons state.old }
     ensures done { OnOk result ((d : DoneCommand) × (done_by unit.now (run_of state.old)
         (values_of globals.old) moment.0 (admitted_of command.now) ≡ Ok d)
@@ -184,16 +162,13 @@ fn do_and_tell<'u, L: Ledger>(
         (values_of globals.old) moment.0 (admitted_of command.now))) }
     ensures values { values_of globals.new ≡ values_of globals.old }
     ensures declared { globals.new.declared ≡ globals.old.declared }
-    ensures sound { OnOk result (IsSoundRun unit.now (run_of state.new)) }
-    ensures fitting { OnOk result (HasFittingGlobals unit.now (run_of state.new)) }
-    ensures notices { OnOk result (AreNoticesOf unit.now state.new.outbox) }
+    ensures running { OnOk result (IsRunning unit.now (run_of state.new) links.new) }
     ensures printable { IfErr result (λ refusal. IsPrintable (refusal_of refusal)) }
     ensures own { IsStateOf unit.now state.new }
     ensures kept { state.new.kept ≡ state.old.kept }
     ensures room { KeepsRoom out.old out.new }
-    ensures linked { OnOk result (HasLinks unit.now (run_of state.new) links.new) }
     ensures follows { renews_sites (admitted_of command.now) ≡ false
-        → LinksFollow links.old links.new }
+        → RunLinksFollow links.old links.new }
 {
     let totals = match do_admitted(
         alloc, unit, state, links, globals, scratch, moment, command, steps,
@@ -225,8 +200,7 @@ fn tell<L: Ledger>(
     steps: &mut Steps<L>,
 ) -> Result<(), NoMemory>
     requires own { IsStateOf unit.now state.now }
-    requires sound { IsSoundRun unit.now (run_of state.now) }
-    requires notices { AreNoticesOf unit.now state.now.outbox }
+    requires order { IsInOrder unit.now (run_of state.now) }
     requires told { IsTellable unit.now (run_of state.now) (admitted_of command.now) }
     ensures text { (store : GlobalValues) → OnOk result (out.new.bytes ≡ done_text unit.now
         (done_with unit.now store (admitted_of command.now) totals (run_of state.now)) ++ 10 ∷ []) }

@@ -1,5 +1,5 @@
 //! Terms and tests in a run all of whose cells are alike.
-#![tactic(auto, using(crate::proofs::All::all_there))]
+#![tactic(auto)]
 
 ghost use Rattle.std.specs.Prelude.{◌≡◌, ◌<◌};
 
@@ -10,11 +10,6 @@ use ld_base::numbers::{PersonNo, PropNo, RoleNo, RuleNo, ThingNo};
 use ld_base::plain_text::PlainText;
 use ld_base::steps::Steps;
 use ld_expr::cells::{cell_of_mark, cell_of_property, role_number, says_yes, thing_number};
-use ld_expr::done::is_done;
-use ld_expr::holding::{holds, holds_for_users};
-use ld_expr::members::{is_member_of, is_owner_in_role};
-use ld_expr::property::has_value;
-use ld_expr::terms::value_of;
 use ld_model::cell::{CellName, Owner};
 use ld_model::expression::TestForm;
 use ld_rules::prepared::PreparedUnit;
@@ -69,14 +64,7 @@ fn is_score<L: Ledger>(unit: &PreparedUnit, score: i64, steps: &mut Steps<L>) ->
     let view = Alike {
         value: Some(Value::Int(score)),
     };
-    holds(
-        unit.unit(),
-        unit.names(),
-        &condition.test,
-        &view,
-        OWNER,
-        steps,
-    )
+    unit.scope(&view).holds(OWNER, &condition.test, steps)
 }
 
 /// Whether the score has the value of this text where it is 7.
@@ -95,15 +83,8 @@ fn has_score<L: Ledger>(
     let view = Alike {
         value: Some(Value::Int(7)),
     };
-    has_value(
-        unit.unit(),
-        unit.names(),
-        &view,
-        OWNER,
-        &score.identifier,
-        &Some(text),
-        steps,
-    )
+    unit.scope(&view)
+        .has_value(OWNER, &score.identifier, &Some(text), steps)
 }
 
 /// The value of the second term of the condition of this number.
@@ -120,7 +101,7 @@ fn value_in<L: Ledger>(
         return Ok(None);
     };
     let view = Alike { value: None };
-    value_of(alloc, unit.unit(), unit.names(), term, &view, OWNER, steps)
+    unit.scope(&view).value_of(alloc, OWNER, term, steps)
 }
 
 /// Whether the value is the number 7.
@@ -136,8 +117,7 @@ fn is_word(value: Result<Option<Value>, NoMemory>) -> bool {
 /// Whether this is said of the person, where every cell says it: to be a member, to have done what
 /// there is to do, and that all members have.
 fn says<L: Ledger>(unit: &PreparedUnit, truth: bool, steps: &mut Steps<L>) -> bool {
-    let (course, names) = (unit.unit(), unit.names());
-    let [_, condition, _] = course.conditions.as_slice() else {
+    let [_, condition, _] = unit.unit().conditions.as_slice() else {
         return false;
     };
     let TestForm::UsersInRole(role, done) = &*condition.test.form else {
@@ -149,11 +129,12 @@ fn says<L: Ledger>(unit: &PreparedUnit, truth: bool, steps: &mut Steps<L>) -> bo
     let view = Alike {
         value: Some(Value::Bool(truth)),
     };
-    is_member_of(course, names, &view, role, FIRST, steps) == truth
-        && is_owner_in_role(course, names, &view, role, OWNER, steps) == truth
-        && is_done(course, names, &view, OWNER, activity, steps) == truth
+    let scope = unit.scope(&view);
+    scope.is_member_of(FIRST, role, steps) == truth
+        && scope.is_owner_in_role(OWNER, role, steps) == truth
+        && scope.is_done(OWNER, activity, steps) == truth
         && says_yes(&view, CellName::Started, steps) == truth
-        && holds_for_users(course, names, role, done, &view, steps) == truth
+        && scope.holds_for_users(role, done, steps) == truth
 }
 
 /// Whether the parts of the unit have their numbers and cells.

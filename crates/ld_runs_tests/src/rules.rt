@@ -1,5 +1,5 @@
 //! A prepared unit, what its rules speak of and what they say.
-#![tactic(auto, using(crate::proofs::All::all_there, ld_rules::proofs::Judging::row_there))]
+#![tactic(auto, using(ld_rules::proofs::Judging::row_there))]
 
 ghost use Rattle.std.specs.Prelude.{◌≡◌, ◌<◌};
 
@@ -121,13 +121,5 @@ fn judged<L: Ledger>(unit: &PreparedUnit, rule: u32, value: Value, steps: &mut S
         rule: RuleNo(rule),
         owner: OWNER,
     };
-    judge(
-        unit.unit(),
-        unit.names(),
-        unit.rules(),
-        unit.reach(),
-        site,
-        &view,
-        steps,
-    )
+    judge(unit, site, &view, steps)
 }

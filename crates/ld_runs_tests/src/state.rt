@@ -204,7 +204,6 @@ fn starts(state: &mut State, changed: &mut Vec<u32>) -> bool
 
 /// When the run was started.
 fn started<L: Ledger>(state: &State, steps: &mut Steps<L>) -> Option<i64> {
-    let _slot = state.slot(CellName::Started)?;
     match state.get(CellName::Started, steps) {
         Some(Value::Moment(moment)) => Some(moment.0),
         _ => None,

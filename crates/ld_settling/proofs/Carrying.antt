@@ -1,8 +1,13 @@
 -- What settles in one system settles in another of whose situations some stand for its own.
-use Rattle.std.proofs.Common.{◌≡◌, refl, sym, ap, ap₂, ◌∙◌, ℕ, zero, suc, ◌+◌, List, [], ◌∷◌, ◌++◌, map, length, sum_by, Bool, true, false, cond}
+use Rattle.std.proofs.Common.{◌≡◌, refl, sym, ap, ap₂, subst, ◌∙◌, ℕ, zero, suc, ◌+◌, ◌*◌, inl, inr, List, [], ◌∷◌, ◌++◌, map, length, sum_by, Bool, true, false, cond, arith}
 use Rattle.std.proofs.lemmas.List.{map-append, length-map}
 use Rattle.std.proofs.lemmas.List.Sums.{sum_by-cons}
 use Rattle.ld_cascade.specs.System.{System, fires}
+use Rattle.ld_graph.specs.Table.{has}
+use Rattle.ld_cascade.specs.Wiring.{Wiring}
+use Rattle.ld_cascade.specs.Work.{IsStirred, Spends, meets, sum_below, visits, visits_weight, weight, weight_of, work}
+use Rattle.ld_cascade.proofs.Sums.{sum_same}
+use Rattle.ld_state.proofs.Elements.{contains_from_in, from_map, in_from_contains}
 use Rattle.ld_cascade.specs.Settling.{Firing, PassesBudget, Settles, all_firings, after_sweeps, counted, fired, fired_below, step, sums_of, swept, sweep_firings, visited}
 
 -- Each situation of the first system stands for one of the second: its sites fire alike, and their firings
@@ -13,6 +18,11 @@ pub record Carries (z y : System) (carry : z.Situation → y.Situation) : Type 0
   pub after : (t : z.Situation) (i : ℕ) → y.after (carry t) i ≡ carry (z.after t i)
   pub rejected : (t : z.Situation) (i : ℕ) → y.rejected (carry t) i ≡ z.rejected t i
   pub sent : (t : z.Situation) (i : ℕ) → y.sent (carry t) i ≡ z.sent t i
+  pub reads : (t : z.Situation) (i : ℕ) → y.reads (carry t) i ≡ z.reads t i
+  pub changed : (t : z.Situation) (i : ℕ) → y.changed (carry t) i ≡ z.changed t i
+  pub there : (t : z.Situation) (i : ℕ) → y.is_site (carry t) i ≡ z.is_site t i
+  pub size : (t : z.Situation) (i : ℕ) → y.size (carry t) i ≡ z.size t i
+  pub cost : (t : z.Situation) (i : ℕ) → y.cost (carry t) i ≡ z.cost t i
 
 -- A firing in the words of the other system.
 abbrev pub carried : (z y : System) → (z.Situation → y.Situation) → Firing z → Firing y
@@ -132,3 +142,55 @@ module _ {z y : System} {carry : z.Situation → y.Situation} (carries : Carries
 
   pub passes_back : (t : z.Situation) (budget : ℕ) → PassesBudget y (carry t) budget → PassesBudget z t budget
   passes_back t budget passes = λ k most none. passes k most (rests_carried t k none)
+
+  -- ---- what it spends
+
+  visits_same : (t : z.Situation) (i j : ℕ) → visits y (carry t) i j ≡ visits z t i j
+  visits_same t i j = ap₂ meets (carries.reads t j) (carries.changed t i)
+
+  weight_same : (t : z.Situation) (i : ℕ) → weight y (carry t) i ≡ weight z t i
+  weight_same t i = ap₂ (λ there size. cond there (size + 1) 0) (carries.there t i) (carries.size t i)
+
+  weights_same : (t : z.Situation) (n : ℕ) (table : List Bool) → weight_of y (carry t) n table ≡ weight_of z t n table
+  weights_same t n table =
+      sum_same n (λ i. cond (has table i) (weight y (carry t) i) 0) (λ i. cond (has table i) (weight z t i) 0)
+      (λ i. ap (λ n. cond (has table i) n 0) (weight_same t i))
+
+  visits_weight_same : (t : z.Situation) (i : ℕ) → visits_weight y (carry t) i ≡ visits_weight z t i
+  visits_weight_same t i =
+      ap (λ n. sum_below n (λ j. cond (visits y (carry t) i j) (weight y (carry t) j) 0)) (carries.count t)
+      ∙ sum_same (z.count t) (λ j. cond (visits y (carry t) i j) (weight y (carry t) j) 0) (λ j. cond (visits z t i j) (weight z t j) 0)
+      (λ j. ap₂ (λ b n. cond b n 0) (visits_same t i j) (weight_same t j))
+
+  pub work_carried : (fs : List (Firing z)) → work y (map (carried z y carry) fs) ≡ work z fs
+  work_carried fs =
+      sum_carried (carried z y carry) (λ f. 3 * visits_weight z f.before f.site + z.cost f.before f.site)
+      (λ f. 3 * visits_weight y f.before f.site + y.cost f.before f.site)
+      (λ f. ap₂ (λ weight cost. 3 * weight + cost) (visits_weight_same f.before f.site) (carries.cost f.before f.site)) fs
+
+  stirred_back : (fs : List (Firing z)) (dirty : List Bool) (i : ℕ) → IsStirred y (map (carried z y carry) fs) dirty i → IsStirred z fs dirty i
+  stirred_back fs dirty i stirred = elim stirred [
+    | inl was ↦ inl was
+    | inr v ↦
+        let from = from_map (carried z y carry) fs v.0 (in_from_contains (map (carried z y carry) fs) v.0 v.1) in
+        inr (
+          from.element,
+          contains_from_in fs from.element from.inside,
+          sym (visits_same from.element.before from.element.site i)
+              ∙ subst (λ (f : Firing y). visits y f.before f.site i ≡ true) (sym from.is) v.2,
+        )
+  ]
+
+  -- What a settling spends it spends in both.
+  pub spends_back : (t : z.Situation) (fs : List (Firing z)) (old now : Wiring) (before after : ℕ)
+      → Spends y (carry t) (map (carried z y carry) fs) old now before after → Spends z t fs old now before after
+  spends_back t fs old now before after spends = record {
+    ticks = omega (arith, spends.ticks, weights_same t old.sites old.dirty, work_carried fs);
+    stirs = record {
+      dirty = λ i is_in. stirred_back fs old.dirty i (spends.stirs.dirty i is_in);
+      relinked = λ i is_in. elim (spends.stirs.relinked i is_in) [
+        | inl was ↦ inl was
+        | inr stirred ↦ inr (stirred_back fs old.dirty i stirred)
+      ];
+    };
+  }

@@ -1,4 +1,5 @@
 pub mod Carrying
+pub mod CleanLinks
 pub mod Frames
 pub mod Outcomes
 pub mod PersonsTold

@@ -8,8 +8,7 @@ use Rattle.ld_graph.specs.Edges.{Edges, IsLinked}
 use Rattle.ld_graph.specs.Table.{has}
 use Rattle.ld_cascade.specs.Tidy.{Bound, ChangesOnly, Covers, IsTidy, Tidy, Touched}
 use Rattle.ld_cascade.specs.System.{Lawful, System}
-use Rattle.ld_cascade.specs.Wiring.{EdgesAre, LinksFollow, IsEmpty, IsSameTable, IsTakenBack, Wiring}
-use Rattle.ld_cascade.proofs.TakingBack.{bound_back, bound_begun, covers_back, covers_begun, rest_back, rest_begun, tidy_back, tidy_begun}
+use Rattle.ld_cascade.specs.Wiring.{EdgesAre, IsSameTable, Wiring}
 use Rattle.ld_cascade.proofs.Touching.{bound_touched, tidy_touched}
 use Rattle.ld_model.specs.declared.unit.Unit.{Unit}
 use Rattle.ld_names.specs.Names.{names_of}
@@ -32,22 +31,22 @@ use Rattle.ld_rules.specs.SiteTests.{site_mark}
 use Rattle.ld_firing.specs.RunSystem.{Enrolment, IsSoundRun, owner_number, run_system, site_at, verdict_in}
 use Rattle.ld_firing.specs.Telling.{Tells}
 use Rattle.ld_firing.proofs.Lawful.{run_is_lawful}
-use Rattle.ld_firing.proofs.SeenInStates.{persons_counted}
+use Rattle.ld_state.proofs.SeenSame.{persons_counted}
 use Rattle.ld_firing.proofs.Sites.{IsOwner, a_person, the_run, same_site_at, site_found, some_of}
-use Rattle.ld_settling.specs.RunLinking.{AreDirty, AreLinksOf, AreRestingLinks, IsPlaceCount}
+use Rattle.ld_settling.specs.RunLinking.{AreDirty, AreWired, IsPlaceCount}
 use Rattle.ld_settling.specs.UnitRuns.{UnitRun, unit_runs}
 
 -- ---- in the system of the runs of all units
 
-pub tidy_in_units : (s : UnitRun) (wiring : Wiring) → AreLinksOf s.unit s.run wiring → Tidy unit_runs s wiring
+pub tidy_in_units : (s : UnitRun) (wiring : Wiring) → AreWired s.unit s.run wiring → Tidy unit_runs s wiring
 tidy_in_units s wiring links = λ i clean.
     let tidy = links.tidy i clean in
     record { marked = tidy.marked; edges_are = tidy.edges_are }
 
-pub covers_in_units : (s : UnitRun) (wiring : Wiring) → AreLinksOf s.unit s.run wiring → Covers unit_runs s wiring
+pub covers_in_units : (s : UnitRun) (wiring : Wiring) → AreWired s.unit s.run wiring → Covers unit_runs s wiring
 covers_in_units s wiring links = record { sites = links.covers.sites; slots = links.covers.slots }
 
-pub bound_in_units : (s : UnitRun) (wiring : Wiring) → AreLinksOf s.unit s.run wiring → Bound unit_runs s wiring
+pub bound_in_units : (s : UnitRun) (wiring : Wiring) → AreWired s.unit s.run wiring → Bound unit_runs s wiring
 bound_in_units s wiring links = record {
   edges_are = λ i out.
       let are = links.bound.edges_are i out in
@@ -57,7 +56,7 @@ bound_in_units s wiring links = record {
 
 -- What is so with a frame are the links of the run.
 pub links_of_run : (s : UnitRun) (wiring : Wiring) → Tidy unit_runs s wiring → Bound unit_runs s wiring → Covers unit_runs s wiring
-    → AreLinksOf s.unit s.run wiring
+    → AreWired s.unit s.run wiring
 links_of_run s wiring tidy bound covers = record {
   tidy = λ i clean.
       let one = tidy i clean in
@@ -73,7 +72,7 @@ links_of_run s wiring tidy bound covers = record {
 
 -- So they are where no site is dirty.
 pub links_settled : (s : UnitRun) (wiring : Wiring) → ((i : ℕ) → IsTidy unit_runs s wiring.edges i) → Bound unit_runs s wiring
-    → Covers unit_runs s wiring → AreLinksOf s.unit s.run wiring
+    → Covers unit_runs s wiring → AreWired s.unit s.run wiring
 links_settled s wiring tidy bound covers = links_of_run s wiring (λ i clean. tidy i) bound covers
 
 -- ---- writes
@@ -102,7 +101,7 @@ changes_told unit s t told sound sound_after tells = record {
     by (Some site) = ap verdict_in (tells.marks site.rule site.owner)
 
 -- The slots that are told are in range.
-pub told_below : (unit : Unit) (s t : RunState) (told : List ℕ) (wiring : Wiring) → AreLinksOf unit s wiring → Tells unit s t [] told
+pub told_below : (unit : Unit) (s t : RunState) (told : List ℕ) (wiring : Wiring) → AreWired unit s wiring → Tells unit s t [] told
     → (k : ℕ) → Contains told k → k < wiring.edges.slots
 told_below unit s t told wiring links tells k there = by (tells.slots k there)
   where
@@ -111,7 +110,7 @@ told_below unit s t told wiring links tells k there = by (tells.slots k there)
     by (inr below) = omega (arith, below, links.covers.slots)
 
 -- Links that cover a run cover it after the writes.
-covers_told : (unit : Unit) (s t : RunState) (told : List ℕ) (old now : Wiring) → AreLinksOf unit s old → Tells unit s t [] told
+covers_told : (unit : Unit) (s t : RunState) (told : List ℕ) (old now : Wiring) → AreWired unit s old → Tells unit s t [] told
     → old.sites ≤ now.sites → old.edges.slots ≤ now.edges.slots → Covers (run_system unit) t now
 covers_told unit s t told old now links tells sites slots = record {
   sites = omega (arith, ap (λ n. length (rules_of unit) * n) tells.seats, links.covers.sites, sites);
@@ -120,8 +119,8 @@ covers_told unit s t told old now links tells sites slots = record {
 
 -- Where the slots that are told are touched, the links are those of the run after the writes.
 pub links_told : (unit : Unit) (s t : RunState) (told : List ℕ) (old now : Wiring) → IsSoundRun unit s → IsSoundRun unit t
-    → AreLinksOf unit s old → Tells unit s t [] told → Touched (run_system unit) s t told old now
-    → old.sites ≤ now.sites → old.edges.slots ≤ now.edges.slots → AreLinksOf unit t now
+    → AreWired unit s old → Tells unit s t [] told → Touched (run_system unit) s t told old now
+    → old.sites ≤ now.sites → old.edges.slots ≤ now.edges.slots → AreWired unit t now
 links_told unit s t told old now sound sound_after links tells touched sites slots = record {
   tidy = tidy_touched (run_system unit) (run_is_lawful unit) s t told old now links.tidy (changes_told unit s t told sound sound_after tells) touched;
   bound = bound_touched (run_system unit) (run_is_lawful unit) s t told old now links.bound (changes_told unit s t told sound sound_after tells) touched;
@@ -130,10 +129,10 @@ links_told unit s t told old now sound sound_after links tells touched sites slo
 
 -- No site is new where no person is; so the readers of the slots are all that has to be set dirty.
 pub links_touched : (unit : Unit) (s t : RunState) (told : List ℕ) (old now : Wiring) → IsSoundRun unit s → IsSoundRun unit t
-    → AreLinksOf unit s old → Tells unit s t [] told → now.edges ≡ old.edges → now.sites ≡ old.sites → now.loose ≡ old.loose
+    → AreWired unit s old → Tells unit s t [] told → now.edges ≡ old.edges → now.sites ≡ old.sites → now.loose ≡ old.loose
     → ((i : ℕ) → has old.dirty i ≡ true → has now.dirty i ≡ true)
     → ((k : ℕ) → Contains told k → (i : ℕ) → IsLinked old.edges k i → has now.dirty i ≡ true)
-    → AreLinksOf unit t now
+    → AreWired unit t now
 links_touched unit s t told old now sound sound_after links tells edges sites loose keeps readers =
     links_told unit s t told old now sound sound_after links tells
     (record {
@@ -165,7 +164,7 @@ edges_none edges i slots row none = record {
 -- Where no number has an edge and each site is dirty and loose, the links are those of the run.
 pub links_anew : (unit : Unit) (s : RunState) (wiring : Wiring) → IsSoundRun unit s → Covers (run_system unit) s wiring
     → ((i : ℕ) → (run_system unit).is_site s i ≡ true → has wiring.dirty i ≡ true) → IsSameTable wiring.dirty wiring.loose
-    → ((i : ℕ) → get_or wiring.edges.rows i [] ≡ []) → AreLinksOf unit s wiring
+    → ((i : ℕ) → get_or wiring.edges.rows i [] ≡ []) → AreWired unit s wiring
 links_anew unit s wiring sound covers dirty loose none = record {
   tidy = tidy;
   bound = record {
@@ -189,35 +188,6 @@ links_anew unit s wiring sound covers dirty loose none = record {
         edges_are = edges_none wiring.edges i ((run_system unit).reads s i) (none i) (law.no_reads s i sound out);
       }
     ]
-
--- Links are at rest where a settling is done.
-pub resting_settled : (unit : Unit) (s : RunState) (wiring : Wiring) → AreLinksOf unit s wiring → IsEmpty wiring.dirty
-    → AreRestingLinks unit s wiring
-resting_settled unit s wiring links clean = record { links = links; rest = λ i dirty. absurd (let none = clean i in cc) }
-
--- And where links only begin.
-pub resting_begun : (unit : Unit) (s : RunState) (old now : Wiring) → now.edges ≡ old.edges → now.dirty ≡ old.dirty → now.loose ≡ old.loose
-    → now.sites ≡ old.sites → AreRestingLinks unit s old → AreRestingLinks unit s now
-resting_begun unit s old now edges dirty loose sites resting = record {
-  links = record {
-    tidy = tidy_begun (run_system unit) s old now edges dirty loose sites resting.links.tidy;
-    bound = bound_begun (run_system unit) s old now edges dirty loose sites resting.links.bound;
-    covers = covers_begun (run_system unit) s old now edges dirty loose sites resting.links.covers;
-  };
-  rest = rest_begun (run_system unit) s old now edges dirty loose sites resting.rest;
-}
-
--- Where the state of a run and its links were taken back, the links are those of the run.
-pub resting_back : (unit : Unit) (s : RunState) (begun now back : Wiring) → AreRestingLinks unit s begun → LinksFollow begun now
-    → IsTakenBack now back → AreRestingLinks unit s back
-resting_back unit s begun now back resting follows taken = record {
-  links = record {
-    tidy = tidy_back (run_system unit) s begun now back resting.links.tidy resting.rest follows taken;
-    bound = bound_back (run_system unit) s begun now back resting.links.tidy resting.rest follows taken;
-    covers = covers_back (run_system unit) s begun now back resting.links.covers follows taken;
-  };
-  rest = rest_back taken;
-}
 
 -- The number of a site is one of its rule's, at the place of its owner.
 owner_within : (persons places : ℕ) (own : Bool) (owner : Owner) → IsOwner persons own owner → IsPlaceCount persons places

@@ -1,24 +1,60 @@
 -- The links of a run's sites.
-use Rattle.std.specs.Prelude.{◌≡◌, ℕ, ◌+◌, ◌*◌, ◌<◌, ◌≤◌, ◌⊎◌, Bool, true, List}
+use Rattle.std.specs.Prelude.{◌≡◌, ℕ, ◌+◌, ◌*◌, ◌<◌, ◌≤◌, ◌⊎◌, Bool, true, false, List, [], get_or}
 use Rattle.ld_graph.specs.Table.{has}
+use Rattle.ld_cascade.specs.Rooms.{HasRoom, HasRoomOutside}
+use Rattle.ld_cascade.specs.System.{fires}
 use Rattle.ld_cascade.specs.Tidy.{Bound, Covers, Tidy}
-use Rattle.ld_cascade.specs.Wiring.{IsAtRest, Wiring}
+use Rattle.ld_cascade.specs.Wiring.{EdgesAre, IsEmpty, LinksFollow, Wiring}
 use Rattle.ld_model.specs.declared.unit.Unit.{Unit}
+use Rattle.ld_expr.specs.Owners.{is_person_rule}
 use Rattle.ld_firing.specs.RunSystem.{run_system}
 use Rattle.ld_roles.specs.declared.limit.TheConstants.{SEATS}
 use Rattle.ld_state.specs.RunState.{RunState}
 
+-- The links of a run, and how many slots the list holds that lends a site's reads.
+pub record RunWiring : Type 0 where
+  pub wiring : Wiring
+  pub room : ℕ
+
+-- Those by their parts.
+abbrev pub linked_with : Wiring → ℕ → RunWiring
+linked_with wiring room = record { wiring = wiring; room = room }
+
 -- The links are those of the run: each site that is not dirty has the mark that its test gives; each that is
 -- not loose has edges equal to its reads, and a loose one is dirty; all sites and all slots are in range.
-pub record AreLinksOf (unit : Unit) (s : RunState) (wiring : Wiring) : Type 0 where
+pub record AreWired (unit : Unit) (s : RunState) (wiring : Wiring) : Type 0 where
   pub tidy : Tidy (run_system unit) s wiring
   pub bound : Bound (run_system unit) s wiring
   pub covers : Covers (run_system unit) s wiring
 
--- The links of a run between commands: every dirty site is loose, so that they can be taken back.
-pub record AreRestingLinks (unit : Unit) (s : RunState) (wiring : Wiring) : Type 0 where
-  pub links : AreLinksOf unit s wiring
-  pub rest : IsAtRest wiring
+-- And the list has room for the reads of each site that is not loose.
+pub record AreLinksOf (unit : Unit) (s : RunState) (links : RunWiring) : Type 0 where
+  pub wired : AreWired unit s links.wiring
+  pub rooms : HasRoomOutside (run_system unit) s links.wiring.loose links.room
+
+-- The links of a started run between commands: each site has the mark that its test gives, and edges equal to its
+-- reads; no site is dirty or loose; all sites and all slots are in range; and the list has room for the reads of each
+-- site.
+pub record AreCleanLinks (unit : Unit) (s : RunState) (links : RunWiring) : Type 0 where
+  pub marks : (i : ℕ) → fires (run_system unit) s i ≡ false
+  pub edges : (i : ℕ) → EdgesAre links.wiring.edges i ((run_system unit).reads s i)
+  pub none_dirty : IsEmpty links.wiring.dirty
+  pub none_loose : IsEmpty links.wiring.loose
+  pub covers : Covers (run_system unit) s links.wiring
+  pub room : HasRoom (run_system unit) s links.room
+
+-- The links of a run that is not started: no site has an edge, none is dirty or loose, and none was linked since they
+-- began.
+pub record AreBare (links : RunWiring) : Type 0 where
+  pub no_edges : (i : ℕ) → get_or links.wiring.edges.rows i [] ≡ []
+  pub none_dirty : IsEmpty links.wiring.dirty
+  pub none_loose : IsEmpty links.wiring.loose
+  pub none_relinked : IsEmpty links.wiring.relinked
+
+-- The later links follow the earlier ones, so that they can be made those again; and the list has no less room.
+pub record RunLinksFollow (old now : RunWiring) : Type 0 where
+  pub links : LinksFollow old.wiring now.wiring
+  pub room : old.room ≤ now.room
 
 -- So many places among the seats are enough for the run and for so many persons, and are seats.
 pub record IsPlaceCount (count places : ℕ) : Type 0 where
@@ -31,17 +67,19 @@ abbrev pub AreDirty : List Bool → ℕ → ℕ → Type 0
 AreDirty dirty rules places =
     (rule place : ℕ) → rule < rules → place < places → has dirty (rule * SEATS + place) ≡ true
 
--- Of so many rules the numbers of the sites at these places, from one on and below another, are in the table.
-abbrev pub AreAmong : List Bool → ℕ → ℕ → ℕ → Type 0
-AreAmong table rules from below =
-    (rule place : ℕ) → rule < rules → from ≤ place → place < below → has table (rule * SEATS + place) ≡ true
+-- Of the rules for persons among so many, the numbers of the sites of the persons from one on and below another are
+-- in the table.
+abbrev pub AreNewcomers : Unit → List Bool → ℕ → ℕ → ℕ → Type 0
+AreNewcomers unit table rules from below =
+    (rule place : ℕ) → rule < rules → is_person_rule unit rule ≡ true → from ≤ place → place < below
+    → has table (rule * SEATS + place) ≡ true
 
--- The number is that of a site of one of so many rules, at a place from one on and below another.
-pub record IsAmong (rules from below i : ℕ) : Type 0 where
+-- The number is that of the site of a rule for persons, of one of the persons from one on and below another.
+pub record IsNewcomer (unit : Unit) (from below i : ℕ) : Type 0 where
   pub rule : ℕ
   pub place : ℕ
   pub number : rule * SEATS + place ≡ i
-  pub has_rule : rule < rules
+  pub personal : is_person_rule unit rule ≡ true
   pub is_from : from ≤ place
   pub is_below : place < below
 

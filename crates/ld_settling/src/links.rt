@@ -2,53 +2,57 @@
 ghost use Rattle.std.specs.Prelude.{◌≡◌, ◌*◌, ◌+◌, ◌^◌, ◌<◌, ◌≤◌, ◌⊎◌, ℕ, true, [], get_or, length, Contains, OnOk};
 ghost use Rattle.ld_graph.specs.Edges.{IsLinked};
 ghost use Rattle.ld_graph.specs.Table.{has};
-ghost use Rattle.ld_cascade.specs.Wiring.{LinksFollow, IsEmpty, IsSameTable, Wiring};
+ghost use Rattle.ld_cascade.specs.Wiring.{IsEmpty, IsSameTable};
 ghost use Rattle.ld_names.specs.Rules.{rules_of};
 ghost use Rattle.ld_roles.specs.declared.limit.TheConstants.{SEATS};
 ghost use Rattle.ld_model.specs.declared.unit.Unit.{Unit};
 ghost use Rattle.ld_state.specs.RunState.{RunState};
 ghost use Rattle.ld_state.specs.StateView.{IsStateOf, run_of};
+ghost use Rattle.ld_expr.specs.Owners.{is_person_rule};
 ghost use Rattle.ld_firing.specs.RunSystem.{IsSoundRun};
 ghost use Rattle.ld_firing.specs.Telling.{Tells, TellsPersons};
-ghost use Rattle.ld_settling.specs.RunLinking.{AreAmong, AreDirty, AreLinksOf, AreRestingLinks, IsAmong, IsPlaceCount, Loosens};
+ghost use Rattle.ld_settling.specs.RunLinking.{AreBare, AreCleanLinks, AreDirty, AreLinksOf, AreNewcomers, IsNewcomer, IsPlaceCount, Loosens, RunLinksFollow};
 
 use ld_base::memory::NoMemory;
 use ld_cascade::links::Links;
+use ld_graph::slots::SlotList;
 use ld_model::view::View;
+use ld_names::rule::RuleKind;
 use ld_roles::limit::SEATS;
 use ld_rules::prepared::PreparedUnit;
 use ld_state::state::State;
 use std::alloc::Global;
 use std::marker::Model;
 
-/// Which of a run's sites read which slots, and which sites are dirty: to be judged at the next
-/// settling. A run that is not started has no use for it. (docs/MEANING.md, "Firing, sweeping,
+/// Which of a run's sites read which slots, and which are dirty: to be judged at the next settling.
+/// With them stands the list that lends a site's reads: its room is enough to restore the links
+/// without memory. A run that is not started keeps no edge. (docs/MEANING.md, "Firing, sweeping,
 /// settling")
 #[derive(Drop)]
 pub struct RunLinks {
     pub(crate) links: Links,
+    pub(crate) list: SlotList,
 }
 
 impl Model for RunLinks {
-    ghost use Rattle.ld_cascade.specs.Wiring.{Wiring};
+    ghost use Rattle.ld_settling.specs.RunLinking.{RunWiring};
 
-    ghost Value = { Wiring };
+    ghost Value = { RunWiring };
 
-    ghost view = { λ s. s.links };
+    ghost view = { λ s. record { wiring = s.links; room = s.list.room } };
 }
 
 impl RunLinks {
     /// The links of a run that is not started: no site and no slot is in range, which takes no
     /// memory.
     pub fn new(alloc: Global) -> RunLinks
-        ensures sites { result.sites ≡ 0 }
-        ensures slots { result.edges.slots ≡ 0 }
-        ensures dirty { IsEmpty result.dirty }
-        ensures loose { IsEmpty result.loose }
-        ensures relinked { IsEmpty result.relinked }
+        ensures bare { AreBare result }
+        ensures sites { result.wiring.sites ≡ 0 }
+        ensures slots { result.wiring.edges.slots ≡ 0 }
     {
         RunLinks {
             links: Links::new(alloc),
+            list: SlotList::new(alloc),
         }
     }
 
@@ -61,18 +65,21 @@ impl RunLinks {
         ensures linked { (unit : Unit) (s t : RunState) → IsSoundRun unit s → IsSoundRun unit t
             → AreLinksOf unit s self.old → Tells unit s t [] changed.now
             → AreLinksOf unit t self.new }
-        ensures only { (i : ℕ) → has self.new.dirty i ≡ true → (has self.old.dirty i ≡ true)
-            ⊎ ((k : ℕ) × Contains changed.now k × IsLinked self.old.edges k i) }
-        ensures follows { LinksFollow self.old self.new }
+        ensures only { (i : ℕ) → has self.new.wiring.dirty i ≡ true
+            → (has self.old.wiring.dirty i ≡ true)
+            ⊎ ((k : ℕ) × Contains changed.now k × IsLinked self.old.wiring.edges k i) }
+        ensures same_relinked { self.new.wiring.relinked ≡ self.old.wiring.relinked }
+        ensures sites { self.new.wiring.sites ≡ self.old.wiring.sites }
+        ensures follows { RunLinksFollow self.old self.new }
     {
         self.links.touch_all(changed);
     }
 
     /// Sets the sites dirty that read one of the slots, and those of the persons who joined, of
     /// which there were so many before, and no others; the reads of all these are asked again.
-    /// Where the slots are told of all that changed from one state of the run to this one, as
-    /// persons joined or got or lost roles, the links are those of this state then. After an error,
-    /// which is want of memory, no range is smaller.
+    /// Where the slots report all that changed from one state of the run to this one, as persons
+    /// joined or got or lost roles, the links are those of this state then. After an error, which
+    /// is out of memory, no range is smaller.
     pub fn tell_persons(
         &mut self,
         unit: &PreparedUnit,
@@ -86,48 +93,47 @@ impl RunLinks {
             × AreLinksOf unit.now s self.old
             × TellsPersons unit.now s (run_of state.now) changed.now }
         ensures linked { OnOk result (AreLinksOf unit.now (run_of state.now) self.new) }
-        ensures only { (i : ℕ) → has self.new.dirty i ≡ true → (has self.old.dirty i ≡ true)
-            ⊎ (((k : ℕ) × Contains changed.now k × IsLinked self.old.edges k i)
-            ⊎ IsAmong (length (rules_of unit.now)) before (length (run_of state.now).persons) i) }
-        ensures follows { LinksFollow self.old self.new }
+        ensures only { (i : ℕ) → has self.new.wiring.dirty i ≡ true
+            → (has self.old.wiring.dirty i ≡ true)
+            ⊎ (((k : ℕ) × Contains changed.now k × IsLinked self.old.wiring.edges k i)
+            ⊎ IsNewcomer unit.now before (length (run_of state.now).persons) i) }
+        ensures same_relinked { (i : ℕ) → has self.new.wiring.relinked i ≡ has self.old.wiring.relinked i }
+        ensures follows { RunLinksFollow self.old self.new }
     {
         let rules = rule_count(unit);
         self.links.grow(state.slot_count(), rules * SEATS as u32)?;
         self.links.loosen_readers(changed);
-        loosen_sites(&mut self.links, rules, before, state.persons());
+        loosen_newcomers(&mut self.links, unit, rules, before, state.persons());
         Ok(())
     }
 
-    /// Counts no site as linked anew, until the next settling: call it where the state is marked.
-    /// The links stay those of the run.
+    /// Empties the table of the sites that were linked: call it where the state keeps a savepoint.
+    /// Clean links stay clean, and bare ones bare.
     pub fn begin(&mut self)
-        ensures linked { (unit : Unit) (s : RunState) → AreRestingLinks unit s self.old
-            → AreRestingLinks unit s self.new }
-        ensures relinked { IsEmpty self.new.relinked }
-        ensures dirty { self.new.dirty ≡ self.old.dirty }
+        ensures clean { (unit : Unit) (s : RunState) → AreCleanLinks unit s self.old
+            → AreCleanLinks unit s self.new }
+        ensures bare { AreBare self.old → AreBare self.new }
+        ensures relinked { IsEmpty self.new.wiring.relinked }
+        ensures sites { self.new.wiring.sites ≡ self.old.wiring.sites }
     {
         self.links.begin();
     }
 
-    /// Makes the links those of the run as it was where they began, once its state was taken back:
-    /// only the sites that were linked anew since then are dirty, and those that were loose. It
-    /// takes no memory.
-    pub fn take_back(&mut self)
-        ensures linked { (unit : Unit) (s : RunState) (begun : Wiring)
-            → AreRestingLinks unit s begun → LinksFollow begun self.old
-            → AreRestingLinks unit s self.new }
-        ensures only { (i : ℕ) → has self.new.dirty i ≡ true → (has self.old.loose i ≡ true)
-            ⊎ (has self.old.relinked i ≡ true) }
+    /// Leaves no edge and no dirty site: a run that is not started keeps none. It takes no memory.
+    pub fn clear(&mut self)
+        ensures bare { AreBare self.new }
+        ensures room { self.new.room ≡ self.old.room }
     {
-        self.links.take_back();
+        self.links.clear();
     }
 
     /// Takes all edges away and sets all sites of the run dirty, however many it has got. After an
-    /// error, which is want of memory, nothing is said of the links.
+    /// error, which is out of memory, nothing is said of the links.
     pub fn renew(&mut self, unit: &PreparedUnit, state: &State) -> Result<(), NoMemory>
         requires own { IsStateOf unit.now state.now }
         requires sound { IsSoundRun unit.now (run_of state.now) }
         ensures linked { OnOk result (AreLinksOf unit.now (run_of state.now) self.new) }
+        ensures none_relinked { IsEmpty self.new.wiring.relinked }
     {
         let rules = rule_count(unit);
         // First, since a run that starts has no site in range yet.
@@ -166,27 +172,62 @@ fn set_all_dirty(links: &mut Links, rules: u32, places: u32)
     ensures edges { (i : ℕ) → get_or links.new.edges.rows i [] ≡ [] }
     ensures sites { links.new.sites ≡ links.old.sites }
     ensures slots { links.new.edges.slots ≡ links.old.edges.slots }
+    ensures relinked { links.new.relinked ≡ links.old.relinked }
 {
     for rule in 0..rules {
         set_dirty(links, rule * SEATS as u32, places);
     }
 }
 
-/// Sets the numbers of each rule's sites at these places, from one on and below another, dirty and
-/// loose.
-fn loosen_sites(links: &mut Links, rules: u32, from: u32, below: u32)
+/// Sets the sites of the persons from one on and below another dirty and loose: those of the first
+/// so many rules that are rules for persons.
+fn loosen_newcomers(links: &mut Links, unit: &PreparedUnit, rules: u32, from: u32, below: u32)
+    requires count { rules ≡ length (rules_of unit.now) }
     requires few { rules ≤ 600 }
     requires places { from ≤ below }
     requires seats { below ≤ SEATS }
     requires range { rules * SEATS ≤ links.old.sites }
-    ensures dirty { AreAmong links.new.dirty rules from below }
-    ensures loose { AreAmong links.new.loose rules from below }
+    ensures dirty { AreNewcomers unit.now links.new.dirty rules from below }
+    ensures loose { AreNewcomers unit.now links.new.loose rules from below }
     ensures only { (i : ℕ) → has links.new.dirty i ≡ true
-        → (has links.old.dirty i ≡ true) ⊎ IsAmong rules from below i }
+        → (has links.old.dirty i ≡ true) ⊎ IsNewcomer unit.now from below i }
     ensures rest { Loosens links.old links.new }
 {
     for rule in 0..rules {
-        set_dirty(links, rule * SEATS as u32 + from, below - from);
+        loosen_of_rule(links, unit, rule, from, below);
+    }
+}
+
+/// Sets the sites of these persons of one rule dirty and loose, if it is a rule for persons.
+fn loosen_of_rule(links: &mut Links, unit: &PreparedUnit, rule: u32, from: u32, below: u32)
+    requires few { rule < 600 }
+    requires places { from ≤ below }
+    requires seats { below ≤ SEATS }
+    requires range { (rule + 1) * SEATS ≤ links.old.sites }
+    ensures dirty { is_person_rule unit.now rule ≡ true → (place : ℕ) → from ≤ place
+        → place < below → has links.new.dirty (rule * SEATS + place) ≡ true }
+    ensures loose { is_person_rule unit.now rule ≡ true → (place : ℕ) → from ≤ place
+        → place < below → has links.new.loose (rule * SEATS + place) ≡ true }
+    ensures only { (i : ℕ) → has links.new.dirty i ≡ true
+        → (has links.old.dirty i ≡ true) ⊎ IsNewcomer unit.now from below i }
+    ensures rest { Loosens links.old links.new }
+{
+    if !is_for_persons(unit, rule) {
+        return;
+    }
+    set_dirty(links, rule * SEATS as u32 + from, below - from);
+}
+
+/// Whether the rule of this number is one for each person.
+fn is_for_persons(unit: &PreparedUnit, rule: u32) -> bool
+    ensures { result ≡ is_person_rule unit.now rule }
+{
+    let Some(found) = unit.rules().get(rule as usize) else {
+        return false;
+    };
+    match found.kind() {
+        RuleKind::Person => true,
+        RuleKind::Run => false,
     }
 }
 

@@ -1,19 +1,21 @@
-//! The settling of a run.
-ghost use Rattle.std.specs.Prelude.{◌≡◌, IfOk, OnOk, Some, None};
-ghost use Rattle.ld_cascade.specs.Wiring.{LinksFollow, IsEmpty};
+//! The settling of a run, and the restoring of its links.
+ghost use Rattle.std.specs.Prelude.{◌≡◌, ◌+◌, ◌≤◌, IfOk, IsOk, OnOk, Some, None};
+ghost use Rattle.ld_cascade.specs.Settling.{all_firings};
+ghost use Rattle.ld_cascade.specs.Wiring.{IsEmpty};
+ghost use Rattle.ld_cascade.specs.Work.{Spends, weight_of};
 ghost use Rattle.ld_state.specs.StateView.{IsStateOf, run_of};
 ghost use Rattle.ld_firing.specs.RunSettling.{run_settling};
-ghost use Rattle.ld_firing.specs.RunSystem.{IsSoundRun};
+ghost use Rattle.ld_firing.specs.RunSystem.{IsSoundRun, run_system};
 ghost use Rattle.ld_firing.specs.SettledView.{settlement_of};
-ghost use Rattle.ld_settling.specs.RunLinking.{AreLinksOf};
+ghost use Rattle.ld_settling.specs.RunLinking.{AreCleanLinks, AreLinksOf, RunLinksFollow, RunWiring, linked_with};
 
 use crate::links::RunLinks;
 use crate::run_sites::RunSites;
 use ld_base::steps::Steps;
 use ld_cascade::links::Links;
+use ld_cascade::restore::restore as restore_cascade;
 use ld_cascade::settle::settle as cascade;
 use ld_cascade::settled::{Settled, Stop};
-use ld_graph::slots::SlotList;
 use ld_rules::prepared::PreparedUnit;
 use ld_state::state::State;
 use std::alloc::Global;
@@ -22,15 +24,14 @@ use std::sync::ledger::Ledger;
 /// Settles the run: sweeps over its sites in their order, of which each fires those whose test and
 /// mark differ, until a sweep fires nothing. Only dirty sites are judged, and those that read what
 /// a firing changes. It answers `TurnBudget` exactly where one sweep more than the unit's turns
-/// fires. After either error the state is another one of the same persons, with the same mark: it
-/// has to be taken back, and then the links by `take_back`. The list, which may grow, is room for
-/// the reads of a site. (docs/MEANING.md, "Firing, sweeping, settling")
+/// fires. After either error the state is another one of the same persons, with the same savepoint:
+/// it has to be rolled back, and then the links by `restore`, or by `clear` where the run was not
+/// started before. (docs/MEANING.md, "Firing, sweeping, settling")
 pub fn settle<L: Ledger>(
     alloc: Global,
     unit: &PreparedUnit,
     state: &mut State,
     links: &mut RunLinks,
-    list: &mut SlotList,
     steps: &mut Steps<L>,
 ) -> Result<Settled, Stop>
     requires own { IsStateOf unit.now state.old }
@@ -41,18 +42,22 @@ pub fn settle<L: Ledger>(
     ensures budget { result ≡ Err Stop.TurnBudget
         → run_settling unit.now (run_of state.old) ≡ None }
     ensures sound { OnOk result (IsSoundRun unit.now (run_of state.new)) }
-    ensures linked { OnOk result (AreLinksOf unit.now (run_of state.new) links.new) }
-    ensures clean { OnOk result (IsEmpty links.new.dirty) }
+    ensures clean { OnOk result (AreCleanLinks unit.now (run_of state.new) links.new) }
+    ensures idle { IsEmpty links.old.wiring.dirty → IsOk result }
     ensures own { IsStateOf unit.now state.new }
     ensures rows { state.new.rows ≡ state.old.rows }
     ensures kept { state.new.kept ≡ state.old.kept }
-    ensures follows { LinksFollow links.old links.new }
+    ensures follows { RunLinksFollow links.old links.new }
+    ensures sites { links.new.wiring.sites ≡ links.old.wiring.sites }
+    ensures spends { Spends (run_system unit.now) (run_of state.old)
+        (all_firings (run_system unit.now) (run_of state.old) unit.now.turns)
+        links.old.wiring links.new.wiring steps.old steps.new }
 {
     let mut sites = RunSites {
         alloc,
         unit,
         state,
-        list,
+        list: &mut links.list,
     };
     settle_sites(alloc, &mut sites, &mut links.links, steps)
 }
@@ -66,23 +71,80 @@ fn settle_sites<L: Ledger>(
 ) -> Result<Settled, Stop>
     requires own { IsStateOf sites.old.unit.now sites.old.state.now }
     requires sound { IsSoundRun sites.old.unit.now (run_of sites.old.state.now) }
-    requires linked { AreLinksOf sites.old.unit.now (run_of sites.old.state.now) links.old }
+    requires linked { AreLinksOf sites.old.unit.now (run_of sites.old.state.now)
+        (linked_with links.old sites.old.list.now.room) }
     ensures settled { IfOk result (λ settled.
         run_settling sites.old.unit.now (run_of sites.old.state.now)
         ≡ Some (settlement_of settled (run_of sites.new.state.now))) }
     ensures budget { result ≡ Err Stop.TurnBudget
         → run_settling sites.old.unit.now (run_of sites.old.state.now) ≡ None }
     ensures sound { OnOk result (IsSoundRun sites.old.unit.now (run_of sites.new.state.now)) }
-    ensures linked { OnOk result (AreLinksOf sites.old.unit.now (run_of sites.new.state.now)
-        links.new) }
-    ensures clean { OnOk result (IsEmpty links.new.dirty) }
+    ensures clean { OnOk result (AreCleanLinks sites.old.unit.now (run_of sites.new.state.now)
+        (linked_with links.new sites.new.list.now.room)) }
+    ensures idle { IsEmpty links.old.dirty → IsOk result }
     ensures own { IsStateOf sites.old.unit.now sites.new.state.now }
     ensures rows { sites.new.state.now.rows ≡ sites.old.state.now.rows }
     ensures kept { sites.new.state.now.kept ≡ sites.old.state.now.kept }
     ensures state { sites.new.state.ghost_name ≡ sites.old.state.ghost_name }
     ensures list { sites.new.list.ghost_name ≡ sites.old.list.ghost_name }
-    ensures follows { LinksFollow links.old links.new }
+    ensures follows { RunLinksFollow (linked_with links.old sites.old.list.now.room)
+        (linked_with links.new sites.new.list.now.room) }
+    ensures sites { links.new.sites ≡ links.old.sites }
+    ensures spends { Spends (run_system sites.old.unit.now) (run_of sites.old.state.now)
+        (all_firings (run_system sites.old.unit.now) (run_of sites.old.state.now)
+        sites.old.unit.now.turns) links.old links.new steps.old steps.new }
 {
     let turns = sites.unit.unit().turns;
     cascade(alloc, sites, links, turns, steps)
+}
+
+/// Makes the links those of the run as it was where they began, once its state was rolled back:
+/// only the sites that were linked since then are asked for their reads. It takes no memory.
+pub fn restore<L: Ledger>(
+    alloc: Global,
+    unit: &PreparedUnit,
+    state: &mut State,
+    links: &mut RunLinks,
+    steps: &mut Steps<L>,
+)
+    requires own { IsStateOf unit.now state.old }
+    requires sound { IsSoundRun unit.now (run_of state.old) }
+    requires begun { (begun : RunWiring) × AreCleanLinks unit.now (run_of state.old) begun
+        × RunLinksFollow begun links.old }
+    ensures run { run_of state.new ≡ run_of state.old }
+    ensures clean { AreCleanLinks unit.now (run_of state.new) links.new }
+    ensures own { IsStateOf unit.now state.new }
+    ensures rows { state.new.rows ≡ state.old.rows }
+    ensures kept { state.new.kept ≡ state.old.kept }
+    ensures ticks { steps.new ≤ steps.old + weight_of (run_system unit.now) (run_of state.old)
+        links.old.wiring.sites links.old.wiring.relinked }
+{
+    let mut sites = RunSites {
+        alloc,
+        unit,
+        state,
+        list: &mut links.list,
+    };
+    restore_sites(&mut sites, &mut links.links, steps);
+}
+
+/// Makes the links those of the run of these sites. What they are lent stays so.
+fn restore_sites<L: Ledger>(sites: &mut RunSites<'_>, links: &mut Links, steps: &mut Steps<L>)
+    requires own { IsStateOf sites.old.unit.now sites.old.state.now }
+    requires sound { IsSoundRun sites.old.unit.now (run_of sites.old.state.now) }
+    requires begun { (begun : RunWiring)
+        × AreCleanLinks sites.old.unit.now (run_of sites.old.state.now) begun
+        × RunLinksFollow begun (linked_with links.old sites.old.list.now.room) }
+    ensures run { run_of sites.new.state.now ≡ run_of sites.old.state.now }
+    ensures clean { AreCleanLinks sites.old.unit.now (run_of sites.new.state.now)
+        (linked_with links.new sites.new.list.now.room) }
+    ensures own { IsStateOf sites.old.unit.now sites.new.state.now }
+    ensures rows { sites.new.state.now.rows ≡ sites.old.state.now.rows }
+    ensures kept { sites.new.state.now.kept ≡ sites.old.state.now.kept }
+    ensures state { sites.new.state.ghost_name ≡ sites.old.state.ghost_name }
+    ensures list { sites.new.list.ghost_name ≡ sites.old.list.ghost_name }
+    ensures ticks { steps.new ≤ steps.old + weight_of (run_system sites.old.unit.now)
+        (run_of sites.old.state.now) links.old.sites links.old.relinked }
+{
+    restore_cascade(sites, links, steps)
 }

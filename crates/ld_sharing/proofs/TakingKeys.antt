@@ -24,8 +24,8 @@ use Rattle.ld_rules.specs.PreparedView.{uri_at}
 use Rattle.ld_state.specs.StateView.{IsStateOf, StateView, has_cell}
 use Rattle.ld_state.proofs.Elements.{some_same}
 use Rattle.ld_firing.proofs.CellsThere.{value_there}
-use Rattle.ld_firing.proofs.SeenInStates.{cell_there, slot_there}
 use Rattle.ld_firing.proofs.Sites.{IsOwner, a_person, the_run}
+use Rattle.ld_firing.proofs.SlotsThere.{cell_there, slot_there}
 use Rattle.ld_sharing.specs.Fitting.{fits_cell, fits_if_any}
 use Rattle.ld_sharing.specs.Globals.{store_person, store_says}
 use Rattle.ld_sharing.specs.Readable.{IsOwnerAmong, IsReadable, IsShared, is_person, name_of}

@@ -21,8 +21,7 @@ use Rattle.ld_walk.specs.Places.{At, nth, root}
 use Rattle.ld_walk.specs.declared.kind.Kind.TheVariants as kind
 use Rattle.ld_walk.specs.declared.kind.Wanted.TheVariants as wanted
 use Rattle.ld_names.specs.Identifiers.{all_differ}
-use Rattle.ld_names.proofs.Differing.{differ_first, differ_second}
-use Rattle.ld_names.proofs.Seen.{differ_further}
+use Rattle.ld_names.proofs.Differing.{differ_first, differ_further, differ_second}
 use Rattle.ld_parts.specs.Listing.{middle_parts, parts_of, property_parts, property_parts_at, role_part, shared_parts}
 use Rattle.ld_refs.specs.Checks.{IsValid, text_faults, check_faults}
 use Rattle.ld_refs.specs.Repeats.{repeated_if}

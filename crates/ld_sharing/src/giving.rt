@@ -4,11 +4,9 @@ ghost use Rattle.ld_globals.specs.Answers.{key_given, meaning};
 ghost use Rattle.ld_globals.specs.Store.{KeepsWrites, key_at};
 ghost use Rattle.ld_model.specs.declared.unit.Unit.{Unit};
 ghost use Rattle.ld_expr.specs.Lookup.{list_from};
-ghost use Rattle.ld_expr.specs.Owners.{of_person};
-ghost use Rattle.ld_expr.specs.Seen.{property_cell};
 ghost use Rattle.ld_firing.specs.RunSystem.{IsSoundRun};
 ghost use Rattle.ld_state.specs.RunState.{RunState};
-ghost use Rattle.ld_state.specs.StateView.{IsStateOf, cells_seen, has_cell, run_of};
+ghost use Rattle.ld_state.specs.StateView.{run_of, seen_of};
 ghost use Rattle.ld_sharing.specs.Fitting.{HasFittingGlobals};
 ghost use Rattle.ld_sharing.specs.GivenValues.{given_by, other_values, others_of_property, others_of_uri, where_other};
 ghost use Rattle.ld_sharing.specs.Globals.{giving_back};
@@ -40,8 +38,8 @@ pub struct Write<'u> {
 }
 
 /// The writes by which the store takes the run's values, in room that is reserved in the store: one
-/// for each key whose value is another. The store keeps its values and declarations, also where
-/// memory is wanting, which is the only error.
+/// for each key whose value is another. The only error is out of memory. The store keeps its values
+/// and declarations in any case.
 pub fn prepare<'u, L: Ledger>(
     alloc: Global,
     unit: &'u PreparedUnit,
@@ -49,7 +47,6 @@ pub fn prepare<'u, L: Ledger>(
     globals: &mut Globals,
     steps: &mut Steps<L>,
 ) -> Result<Vec<Write<'u>>, NoMemory>
-    requires own { IsStateOf unit.now state.now }
     requires sound { IsSoundRun unit.now (run_of state.now) }
     requires serves { Serves globals.old unit.now }
     requires fitting { HasFittingGlobals unit.now (run_of state.now) }
@@ -88,7 +85,6 @@ fn list_writes<'u, L: Ledger>(
     globals: &Globals,
     steps: &mut Steps<L>,
 ) -> Result<Vec<Write<'u>>, NoMemory>
-    requires own { IsStateOf unit.now state.now }
     requires serves { Serves globals.now unit.now }
     ensures { IfOk result (λ writes. map given_by writes.items
         ≡ other_values (values_of globals.now) unit.now (run_of state.now)) }
@@ -111,7 +107,6 @@ fn push_property<'u, L: Ledger>(
     writes: &mut Vec<Write<'u>>,
     steps: &mut Steps<L>,
 ) -> Result<(), NoMemory>
-    requires own { IsStateOf unit.now state.now }
     requires serves { Serves globals.now unit.now }
     requires there { property.0 < length unit.now.properties }
     ensures { OnOk result (map given_by writes.new.items ≡ map given_by writes.old.items
@@ -141,8 +136,7 @@ fn push_shared<'u, L: Ledger>(
     writes: &mut Vec<Write<'u>>,
     steps: &mut Steps<L>,
 ) -> Result<(), NoMemory>
-    requires own { IsStateOf unit.now state.now }
-    requires shared { IsShared unit.now globals.now property.0 uri.now.bytes personal }
+    requires { IsShared unit.now globals.now property.0 uri.now.bytes personal }
     ensures { OnOk result (map given_by writes.new.items ≡ map given_by writes.old.items
         ++ list_from (others_of_property (values_of globals.now) (run_of state.now) property.0)
         (slice_get unit.now.properties property.0)) }
@@ -164,9 +158,7 @@ fn push_for_persons<'u, L: Ledger>(
     writes: &mut Vec<Write<'u>>,
     steps: &mut Steps<L>,
 ) -> Result<(), NoMemory>
-    requires cells { (p : ℕ) → p < length state.now.rows
-        → has_cell state.now (property_cell property.0 (of_person p)) ≡ true }
-    requires readable { (name : List ℕ)
+    requires { (name : List ℕ)
         → IsReadable globals.now (key_at uri.now.bytes (Some name)) }
     ensures { OnOk result (map given_by writes.new.items ≡ map given_by writes.old.items
         ++ others_of_uri (values_of globals.now) (run_of state.now) property.0 true uri.now.bytes) }
@@ -191,13 +183,12 @@ fn push_value<'u, L: Ledger>(
     writes: &mut Vec<Write<'u>>,
     steps: &mut Steps<L>,
 ) -> Result<(), NoMemory>
-    requires cell { has_cell state.now cell ≡ true }
-    requires readable { IsReadable globals.now (key_given uri.now person) }
+    requires { IsReadable globals.now (key_given uri.now person) }
     ensures { OnOk result (map given_by writes.new.items ≡ map given_by writes.old.items
         ++ where_other (values_of globals.now) (record {
           uri = uri.now.bytes;
           person = option_copied person.entry;
-          value = cells_seen state.now cell;
+          value = (seen_of state.now).value cell;
         })) }
 {
     let value = state.get(cell, steps);

@@ -1,5 +1,5 @@
 //! A run takes in the store's value of one cell.
-ghost use Rattle.std.specs.Prelude.{◌≡◌, length, option_copied, true, None, Ok, IfOk, IfSome, OnOk};
+ghost use Rattle.std.specs.Prelude.{◌≡◌, length, option_copied, None, Ok, IfOk, IfSome, OnOk};
 ghost use Rattle.ld_cells.specs.Stored.{held};
 ghost use Rattle.ld_globals.specs.Answers.{key_given};
 ghost use Rattle.ld_globals.specs.Store.{IsWritable, value_at};
@@ -7,7 +7,7 @@ ghost use Rattle.ld_model.specs.Cells.{same_cell};
 ghost use Rattle.ld_expr.specs.Seen.{property_cell};
 ghost use Rattle.ld_firing.specs.Telling.{Tells};
 ghost use Rattle.ld_roles.specs.Kept.{persons_of};
-ghost use Rattle.ld_state.specs.StateView.{IsStateOf, cells_seen, has_cell, run_of};
+ghost use Rattle.ld_state.specs.StateView.{IsStateOf, run_of, seen_of};
 ghost use Rattle.ld_sharing.specs.Readable.{IsOwnerAmong, IsReadable, IsShared, is_person, name_of};
 ghost use Rattle.ld_sharing.specs.StoreView.{values_of};
 ghost use Rattle.ld_sharing.specs.Taken.{HasTaken};
@@ -82,9 +82,8 @@ fn other_value<L: Ledger>(
     person: Option<&Id>,
     steps: &mut Steps<L>,
 ) -> Result<Option<Option<Value>>, NoMemory>
-    requires cell { has_cell state.now cell ≡ true }
-    requires readable { IsReadable globals.now (key_given uri.now person) }
-    ensures same { result ≡ Ok None → cells_seen state.now cell
+    requires { IsReadable globals.now (key_given uri.now person) }
+    ensures same { result ≡ Ok None → (seen_of state.now).value cell
         ≡ value_at globals.now (key_given uri.now person.entry) }
     ensures other { IfOk result (λ other. IfSome other (λ value. held value
         ≡ value_at globals.now (key_given uri.now person.entry))) }

@@ -1,5 +1,6 @@
 -- The state of a run, and what is seen of it.
-use Rattle.std.specs.Prelude.{ℕ, ℤ, pos, List, [], ◌∷◌, ◌++◌, length, Option, Some, None, Bool, false, ◌&&◌, nat_eq, if◌then◌else◌}
+use Rattle.std.specs.Prelude.{ℕ, ℤ, pos, List, [], ◌∷◌, ◌++◌, length, Option, Some, None, Bool, false, ◌&&◌, nat_eq, nat_lt, if◌then◌else◌}
+use Rattle.ld_base.specs.Maybe.{provided}
 use Rattle.ld_value.specs.Datum.{Datum, truth_datum, number_datum}
 use Rattle.ld_model.specs.Cells.{CellMap, put_cell}
 use Rattle.ld_model.specs.declared.cell.CellName.{CellName}
@@ -8,6 +9,7 @@ use Rattle.ld_model.specs.declared.cell.Owner.{Owner}
 use Rattle.ld_model.specs.declared.cell.Owner.TheVariants.{Run, Person}
 use Rattle.ld_model.specs.declared.unit.Unit.{Unit}
 use Rattle.ld_expr.specs.Seen.{Seen}
+use Rattle.ld_roles.specs.RoleBounds.{role_bounds}
 use Rattle.ld_roles.specs.Roster.{Persons, is_member_in, newcomer, with_role, changed_at}
 use Rattle.ld_state.specs.RunCells.{begins_as, is_kept_by_run, is_kept_for_persons}
 use Rattle.ld_state.specs.GlobalValues.{GlobalValues}
@@ -28,9 +30,15 @@ pub record RunState : Type 0 where
   pub outbox : List NoticeState
   pub cells : CellMap
 
+-- Whether the person is a member of the role; there is no such value of a role or a person that there is not.
+abbrev pub membership_of : Unit → Persons → ℕ → ℕ → Option Datum
+membership_of unit persons r p =
+    provided (nat_lt r (length (role_bounds unit)) && nat_lt p (length persons))
+    (truth_datum (is_member_in unit persons r p))
+
 -- The value of a cell. What `Member` and `Roster` name follows from the persons.
 unfoldable pub cell_of : Unit → RunState → CellName → Option Datum
-cell_of unit s (Member r p) = Some (truth_datum (is_member_in unit s.persons r.0 p.0))
+cell_of unit s (Member r p) = membership_of unit s.persons r.0 p.0
 cell_of unit s Roster = Some (number_datum (pos (length s.persons)))
 cell_of unit s (Prop p owner) = s.cells (Prop p owner)
 cell_of unit s (Vis t p) = s.cells (Vis t p)

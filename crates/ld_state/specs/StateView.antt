@@ -9,7 +9,7 @@ use Rattle.ld_model.specs.Cells.{CellMap}
 use Rattle.ld_model.specs.declared.cell.CellName.{CellName}
 use Rattle.ld_model.specs.declared.cell.CellName.TheVariants.{Prop, Vis, Member, Chosen, Opened, ActOpened, Started, Mark, Now, Roster}
 use Rattle.ld_model.specs.declared.unit.Unit.{Unit}
-use Rattle.ld_expr.specs.Seen.{member_cell}
+use Rattle.ld_expr.specs.Seen.{Seen, member_cell}
 use Rattle.ld_roles.specs.Kept.{PersonRow, persons_of}
 use Rattle.ld_roles.specs.Membership.{is_member_among}
 use Rattle.ld_roles.specs.RoleBounds.{RoleBounds, role_bounds}
@@ -82,18 +82,18 @@ marked s = record s {
 abbrev pub has_cell : StateView → CellName → Bool
 has_cell s name = is_some (slot_in s.layout (length s.rows) name)
 
--- The value of a cell, where what `Member` and `Roster` name follows from the persons.
-abbrev pub cells_seen : StateView → CellMap
-cells_seen s (Member r p) = Some (truth_datum (is_member_among s.roles (persons_of s.rows) r.0 p.0))
-cells_seen s Roster = Some (number_datum (pos (length s.rows)))
-cells_seen s (Prop n owner) = cell_value_at s.layout (length s.rows) s.cells (Prop n owner)
-cells_seen s (Vis t p) = cell_value_at s.layout (length s.rows) s.cells (Vis t p)
-cells_seen s (Chosen t owner) = cell_value_at s.layout (length s.rows) s.cells (Chosen t owner)
-cells_seen s (Opened t owner) = cell_value_at s.layout (length s.rows) s.cells (Opened t owner)
-cells_seen s (ActOpened t) = cell_value_at s.layout (length s.rows) s.cells (ActOpened t)
-cells_seen s Started = cell_value_at s.layout (length s.rows) s.cells Started
-cells_seen s (Mark r owner) = cell_value_at s.layout (length s.rows) s.cells (Mark r owner)
-cells_seen s Now = cell_value_at s.layout (length s.rows) s.cells Now
+-- What the slot of a cell shows, where what `Member` and `Roster` name follows from the persons.
+abbrev pub seen_in_slot : StateView → CellName → ℕ → Option Datum
+seen_in_slot s (Member r p) slot = Some (truth_datum (is_member_among s.roles (persons_of s.rows) r.0 p.0))
+seen_in_slot s Roster slot = Some (number_datum (pos (length s.rows)))
+seen_in_slot s _ slot = held_at s.cells slot
+
+-- What is seen of the state. A cell that it has not has no value.
+abbrev pub seen_of : StateView → Seen
+seen_of s = record {
+  persons = length s.rows;
+  value = λ name. slot_in s.layout (length s.rows) name >>= seen_in_slot s name;
+}
 
 -- The cell's value follows from the persons.
 abbrev pub is_following : CellName → Bool

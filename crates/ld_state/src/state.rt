@@ -339,14 +339,9 @@ impl State {
 }
 
 impl View for State {
-    ghost use Rattle.std.specs.Prelude.{length};
-    ghost use Rattle.ld_state.specs.StateView.{has_cell as is_there, cells_seen};
+    ghost use Rattle.ld_state.specs.StateView.{seen_of};
 
-    ghost persons_of = { λ s. length s.rows };
-
-    ghost has_cell = { is_there };
-
-    ghost cells_of = { cells_seen };
+    ghost seen = { seen_of };
 
     fn persons(&self) -> u32 {
         self.roster.persons()
@@ -355,7 +350,10 @@ impl View for State {
     fn get<L: Ledger>(&self, cell: CellName, steps: &mut Steps<L>) -> Option<&Value> {
         match self.slot(cell) {
             Some(slot) => self.cells.read(slot, steps),
-            None => unreachable!(),
+            None => {
+                steps.tick();
+                None
+            }
         }
     }
 }

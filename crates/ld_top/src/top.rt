@@ -1,8 +1,8 @@
 //! The top call: all that the program does.
-ghost use Rattle.std.specs.Prelude.{◌≡◌, ◌≤◌, ◌<◌, ◌^◌, ◌↔◌, None, Some, IfOk};
+ghost use Rattle.std.specs.Prelude.{◌≡◌, ◌≤◌, ◌<◌, ◌^◌, ◌↔◌, [], None, Some, IfOk};
 ghost use Rattle.ld_base.specs.Outside.{Rose, then_piece, AddsPrefix};
 ghost use Rattle.ld_json.specs.Fault.{told_by};
-ghost use Rattle.ld_top.specs.Endings.{IsStatus, IsRefusalEnding, NothingWritten, NothingTaken};
+ghost use Rattle.ld_top.specs.Endings.{IsStatus, IsRefusalEnding, NothingWritten, NothingTaken, ending_word, number_of};
 ghost use Rattle.ld_top.specs.Replay.{ReplayedAll, ReplayedTaken, Refused, CutShort};
 ghost use Rattle.ld_top.specs.Words.{words_of, folders_in};
 ghost use Rattle.ld_world.specs.Published.{refused_line};
@@ -27,7 +27,28 @@ use std::sync::ledger::Ledger;
 #[derive(Clone, Copy)]
 pub struct Status(pub u8);
 
-/// Does all that the program does. `words` are the words behind the program's name.
+impl Status {
+    /// The word that the program prints on standard error for this status; empty for 0, and for a
+    /// number that is no status.
+    pub fn word(self) -> &'static str
+        ensures word { (ending : Ending) → number_of ending ≡ self.0
+            → result.now ≡ ending_word ending }
+        ensures other { (IsStatus self.0 → ⊥) → result.now ≡ [] }
+    {
+        match self.0 {
+            2 => "bad-words",
+            3 => "shelf-fault",
+            4 => "unit-refused",
+            5 => "read-fault",
+            6 => "write-fault",
+            7 => "no-memory",
+            8 => "input-too-long",
+            _ => "",
+        }
+    }
+}
+
+/// Does all that the program does. `words` are the words after the program's name.
 pub fn ld_main<H: Shelf, S: Source, K: Sink, L: Ledger>(
     alloc: Global,
     words: &[String],

@@ -4,16 +4,13 @@ use Rattle.std.proofs.lemmas.List.{append-nil}
 use Rattle.ld_base.specs.Maybe.{◌>>=◌}
 use Rattle.ld_model.specs.declared.activity.Activity.{Activity}
 use Rattle.ld_model.specs.declared.activity.Structure.{Structure}
-use Rattle.ld_model.specs.declared.cell.CellName.{CellName}
 use Rattle.ld_model.specs.declared.unit.Unit.{Unit}
 use Rattle.ld_walk.specs.declared.place.Place.{Place}
 use Rattle.ld_walk.specs.declared.place.Place.TheVariants as place
 use Rattle.ld_expr.specs.Lookup.{list_from, activity_at, activity_named, environment_at, environment_named, place_named, structure_at, structure_named}
-use Rattle.ld_expr.specs.Viewing.{HasCells}
 use Rattle.ld_expr.specs.Seen.{Seen}
 use Rattle.ld_tree.specs.Lines.{TreeLine}
 use Rattle.ld_tree.specs.Tree.{activity_lines, environment_lines, if_visible, is_visible, structure_lines, target_lines, within_lines}
-use Rattle.ld_expr.proofs.Having.{has_back, has_front}
 use Rattle.ld_tree.specs.TreeLooks.{activity_looks, environment_looks, structure_looks, target_looks, visible_looks, within_looks}
 
 one_more : (left : ℕ) → 0 < left → left ≡ suc (left - 1)
@@ -77,10 +74,3 @@ pub target_is_structure : (left : ℕ) (unit : Unit) (seen : Seen) (p depth : �
 target_is_structure left unit seen p depth flag id structure some visible named =
     let others = only_structure unit structure (place_named unit id) named in
     target_lines_more left unit seen p depth flag id some ∙ visible_lines unit seen p id _ visible ∙ rw (named, others.0, no_environment (length unit.environments) unit seen p depth id others.1 visible) (append-nil (structure_lines unit seen p depth flag (target_lines (left - 1) unit seen p (depth + 1)) structure))
-
--- ---- the cells of what an identifier refers to
-
-pub has_activity : (has : CellName → Bool) (left : ℕ) (unit : Unit) (p : ℕ) (id : List ℕ) (activity : Activity) → 0 < left → activity_named unit id ≡ Some activity → HasCells has (target_looks left unit p id) → HasCells has (activity_looks unit p activity)
-has_activity has left unit p id activity some named cells =
-    let all = rw (target_looks_more left unit p id some, named) at cells in
-    has_front _ _ (has_back _ _ all)

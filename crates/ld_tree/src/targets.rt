@@ -2,7 +2,6 @@
 #![tactic(auto, using(crate::proofs::Fuel::targets_more, crate::proofs::Places::items_at_place, crate::proofs::Statuses::flagged_more))]
 
 ghost use Rattle.std.specs.Prelude.{◌≡◌, ◌&&◌, ◌+◌, ◌≤◌, ◌<◌, ◌^◌, true, fold, flat_map, length, OnOk, IsErr};
-ghost use Rattle.ld_expr.specs.Viewing.{HasCells, seen_by};
 ghost use Rattle.ld_tree.specs.Flags.{flag_after};
 ghost use Rattle.ld_tree.specs.Tree.{flagged, is_passed, status_word, structure_lines, target_lines};
 ghost use Rattle.ld_tree.specs.TreeLooks.{child_looks, passed_looks, structure_looks, target_looks};
@@ -31,13 +30,10 @@ impl<'a, V: View> Viewer<'a, V> {
         steps: &mut Steps<L>,
     ) -> Result<(), NoMemory>
         requires depth { depth + left < 2 ^ 116 }
-        requires cells { HasCells (V.has_cell self.now.view.now) (target_looks left
-            self.now.unit.now self.now.person.0 id.now) }
         ensures ok { OnOk result (S.told lines.new ≡ fold S.after (S.told lines.old) (target_lines
-            left self.now.unit.now (seen_by (V.persons_of self.now.view.now)
-            (V.cells_of self.now.view.now)) self.now.person.0 depth (flag, id.now))) }
+            left self.now.scope.unit.now (V.seen self.now.scope.view.now) self.now.person.0 depth (flag, id.now))) }
         ensures err { IsErr result → S.can_fail ≡ true }
-        ensures cost { steps.new ≤ steps.old + length (target_looks left self.now.unit.now
+        ensures cost { steps.new ≤ steps.old + length (target_looks left self.now.scope.unit.now
             self.now.person.0 id.now) }
     {
         if left == 0 {
@@ -52,7 +48,7 @@ impl<'a, V: View> Viewer<'a, V> {
         if let Some(structure) = self.structure_at(place) {
             return self.put_structure(left - 1, depth, flag, structure, lines, steps);
         }
-        let all = self.unit.environments.len() as u128;
+        let all = self.scope.unit.environments.len() as u128;
         self.put_environment(all, depth, id, lines, steps)
     }
 
@@ -69,17 +65,12 @@ impl<'a, V: View> Viewer<'a, V> {
         steps: &mut Steps<L>,
     ) -> Result<(), NoMemory>
         requires depth { depth + 1 + left < 2 ^ 116 }
-        requires cells { HasCells (V.has_cell self.now.view.now) (structure_looks self.now.unit.now
-            self.now.person.0 (target_looks left self.now.unit.now self.now.person.0)
-            structure.now) }
         ensures ok { OnOk result (S.told lines.new ≡ fold S.after (S.told lines.old)
-            (structure_lines self.now.unit.now (seen_by (V.persons_of self.now.view.now)
-            (V.cells_of self.now.view.now)) self.now.person.0 depth flag (target_lines left
-            self.now.unit.now (seen_by (V.persons_of self.now.view.now)
-            (V.cells_of self.now.view.now)) self.now.person.0 (depth + 1)) structure.now)) }
+            (structure_lines self.now.scope.unit.now (V.seen self.now.scope.view.now) self.now.person.0 depth flag (target_lines left
+            self.now.scope.unit.now (V.seen self.now.scope.view.now) self.now.person.0 (depth + 1)) structure.now)) }
         ensures err { IsErr result → S.can_fail ≡ true }
-        ensures cost { steps.new ≤ steps.old + length (structure_looks self.now.unit.now
-            self.now.person.0 (target_looks left self.now.unit.now self.now.person.0)
+        ensures cost { steps.new ≤ steps.old + length (structure_looks self.now.scope.unit.now
+            self.now.person.0 (target_looks left self.now.scope.unit.now self.now.person.0)
             structure.now) }
     {
         let done = self.is_done(&structure.identifier, steps);
@@ -121,17 +112,12 @@ impl<'a, V: View> Viewer<'a, V> {
         steps: &mut Steps<L>,
     ) -> Result<(), NoMemory>
         requires depth { depth + left < 2 ^ 116 }
-        requires cells { HasCells (V.has_cell self.now.view.now) (flat_map (child_looks
-            self.now.unit.now self.now.person.0 (target_looks left self.now.unit.now
-            self.now.person.0)) children.now) }
         ensures ok { OnOk result (S.told lines.new ≡ fold S.after (S.told lines.old) (flat_map
-            (target_lines left self.now.unit.now (seen_by (V.persons_of self.now.view.now)
-            (V.cells_of self.now.view.now)) self.now.person.0 depth) (flagged self.now.unit.now
-            (seen_by (V.persons_of self.now.view.now) (V.cells_of self.now.view.now))
-            self.now.person.0 kind flag children.now))) }
+            (target_lines left self.now.scope.unit.now (V.seen self.now.scope.view.now) self.now.person.0 depth) (flagged self.now.scope.unit.now
+            (V.seen self.now.scope.view.now) self.now.person.0 kind flag children.now))) }
         ensures err { IsErr result → S.can_fail ≡ true }
-        ensures cost { steps.new ≤ steps.old + length (flat_map (child_looks self.now.unit.now
-            self.now.person.0 (target_looks left self.now.unit.now self.now.person.0))
+        ensures cost { steps.new ≤ steps.old + length (flat_map (child_looks self.now.scope.unit.now
+            self.now.person.0 (target_looks left self.now.scope.unit.now self.now.person.0))
             children.now) }
     {
         let mut flag = flag;
@@ -150,13 +136,10 @@ impl<'a, V: View> Viewer<'a, V> {
         child: &Id,
         steps: &mut Steps<L>,
     ) -> bool
-        requires { HasCells (V.has_cell self.now.view.now)
-            (passed_looks self.now.unit.now self.now.person.0 child.now) }
-        ensures value { result ≡ flag_after self.now.unit.now
-            (seen_by (V.persons_of self.now.view.now) (V.cells_of self.now.view.now))
+        ensures value { result ≡ flag_after self.now.scope.unit.now (V.seen self.now.scope.view.now)
             self.now.person.0 kind flag child.now }
         ensures cost { steps.new ≤ steps.old
-            + length (passed_looks self.now.unit.now self.now.person.0 child.now) }
+            + length (passed_looks self.now.scope.unit.now self.now.person.0 child.now) }
     {
         match kind {
             StructureKind::Sequence => flag && self.is_passed(child, steps),
@@ -166,13 +149,10 @@ impl<'a, V: View> Viewer<'a, V> {
 
     /// Whether the child lets the next one open: it is hidden, or done.
     fn is_passed<L: Ledger>(&self, child: &Id, steps: &mut Steps<L>) -> bool
-        requires { HasCells (V.has_cell self.now.view.now)
-            (passed_looks self.now.unit.now self.now.person.0 child.now) }
-        ensures value { result ≡ is_passed self.now.unit.now
-            (seen_by (V.persons_of self.now.view.now) (V.cells_of self.now.view.now))
+        ensures value { result ≡ is_passed self.now.scope.unit.now (V.seen self.now.scope.view.now)
             self.now.person.0 child.now }
         ensures cost { steps.new ≤ steps.old
-            + length (passed_looks self.now.unit.now self.now.person.0 child.now) }
+            + length (passed_looks self.now.scope.unit.now self.now.person.0 child.now) }
     {
         !self.is_visible(child, steps) || self.is_done(child, steps)
     }

@@ -1,7 +1,5 @@
 //! The text of a person's tree, and which activities are open in it.
 ghost use Rattle.std.specs.Prelude.{◌≡◌, ◌+◌, ◌≤◌, ◌++◌, false, length, map, string_bytes, IfOk};
-ghost use Rattle.ld_expr.specs.Viewing.{HasCells, seen_by};
-ghost use Rattle.ld_names.specs.Names.{names_of};
 ghost use Rattle.ld_tree.specs.Lines.{line_text, lines_text};
 ghost use Rattle.ld_tree.specs.LineView.{is_of_activity, line_view};
 ghost use Rattle.ld_tree.specs.Telling.{Asked, asked_after};
@@ -15,41 +13,29 @@ use ld_base::id::Id;
 use ld_base::memory::NoMemory;
 use ld_base::numbers::PersonNo;
 use ld_base::steps::Steps;
-use ld_model::unit::Unit;
+use ld_expr::scope::Scope;
 use ld_model::view::View;
-use ld_names::names::Names;
 use std::alloc::Global;
 use std::sync::ledger::Ledger;
 
 /// Appends the lines of the person's tree to the text, each begun by the line feed that ends the
-/// line before it, and gives the text back with their number. The names are those of the unit, and
-/// the view has the cells at which the tree looks; each look is one step. Since the text is handed
-/// over, the tree is printed where it stays, and is copied nowhere. The only error is want of
-/// memory, which lets go of the text. (docs/MEANING.md, "The tree")
-pub fn tree_text<'a, V: View, L: Ledger>(
+/// line before it, and gives the text back with their number. Each look is one step. Since the text
+/// is handed over, the tree is printed where it stays, and is copied nowhere. The only error is out
+/// of memory, which lets go of the text. (docs/MEANING.md, "The tree")
+pub fn tree_text<V: View, L: Ledger>(
     alloc: Global,
-    unit: &'a Unit,
-    names: &'a Names,
-    view: &'a V,
+    scope: Scope<'_, V>,
     person: PersonNo,
     text: String,
     steps: &mut Steps<L>,
 ) -> Result<(String, u32), NoMemory>
-    requires names { names.now ≡ names_of unit.now }
-    requires cells { HasCells (V.has_cell view.now) (tree_looks unit.now person.0) }
     ensures text { IfOk result (λ told. string_bytes told.0 ≡ string_bytes text ++ lines_text
-        (map line_text (tree_lines unit.now (seen_by (V.persons_of view.now) (V.cells_of view.now))
-        person.0))) }
-    ensures count { IfOk result (λ told. told.1 ≡ length
-        (tree_lines unit.now (seen_by (V.persons_of view.now) (V.cells_of view.now)) person.0)) }
-    ensures cost { steps.new ≤ steps.old + length (tree_looks unit.now person.0) }
+        (map line_text (tree_lines scope.entry.unit.now (V.seen scope.entry.view.now) person.0))) }
+    ensures count { IfOk result (λ told. told.1
+        ≡ length (tree_lines scope.entry.unit.now (V.seen scope.entry.view.now) person.0)) }
+    ensures cost { steps.new ≤ steps.old + length (tree_looks scope.entry.unit.now person.0) }
 {
-    let viewer = Viewer {
-        unit,
-        names,
-        view,
-        person,
-    };
+    let viewer = Viewer { scope, person };
     let mut printer = Printer {
         alloc,
         text,
@@ -61,28 +47,19 @@ pub fn tree_text<'a, V: View, L: Ledger>(
 }
 
 /// Whether the activity of this identifier is open for the person: whether a line of the person's
-/// tree says so. It walks the unit as `tree_text` does and under its conditions, but it prints
-/// nothing and takes no memory. (docs/MEANING.md, "The tree")
-pub fn is_open<'a, V: View, L: Ledger>(
-    unit: &'a Unit,
-    names: &'a Names,
-    view: &'a V,
+/// tree says so. It walks the unit as `tree_text` does, but it prints nothing and takes no memory.
+/// (docs/MEANING.md, "The tree")
+pub fn is_open<V: View, L: Ledger>(
+    scope: Scope<'_, V>,
     person: PersonNo,
     activity: &Id,
     steps: &mut Steps<L>,
 ) -> bool
-    requires names { names.now ≡ names_of unit.now }
-    requires cells { HasCells (V.has_cell view.now) (tree_looks unit.now person.0) }
-    ensures value { result ≡ is_open unit.now
-        (seen_by (V.persons_of view.now) (V.cells_of view.now)) person.0 activity.now }
-    ensures cost { steps.new ≤ steps.old + length (tree_looks unit.now person.0) }
+    ensures value { result
+        ≡ is_open scope.entry.unit.now (V.seen scope.entry.view.now) person.0 activity.now }
+    ensures cost { steps.new ≤ steps.old + length (tree_looks scope.entry.unit.now person.0) }
 {
-    let viewer = Viewer {
-        unit,
-        names,
-        view,
-        person,
-    };
+    let viewer = Viewer { scope, person };
     let mut finder = Finder {
         activity,
         found: false,

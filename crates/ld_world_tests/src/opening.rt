@@ -19,12 +19,10 @@ impl View for Opening {
     ghost use Rattle.ld_rules.specs.LawWords.{is_mark};
     ghost use Rattle.ld_value.specs.Datum.{datum_of};
 
-    ghost persons_of = { λ _. 1 };
-
-    ghost has_cell = { λ _ _. true };
-
-    ghost cells_of = { λ view name. Some (if is_mark name then datum_of view.mark
-        else datum_of view.other) };
+    ghost seen = { λ view. record {
+      persons = 1;
+      value = λ name. Some (if is_mark name then datum_of view.mark else datum_of view.other);
+    } };
 
     fn persons(&self) -> u32 {
         1

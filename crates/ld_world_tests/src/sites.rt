@@ -3,7 +3,7 @@ ghost use Rattle.std.specs.Prelude.{IfSome, OnOk, length, Contains};
 ghost use Rattle.ld_firing.specs.RunSystem.{IsSoundRun};
 ghost use Rattle.ld_names.specs.Rules.{sites_of};
 ghost use Rattle.ld_rules.specs.SiteView.{site_of};
-ghost use Rattle.ld_settling.specs.RunLinking.{AreLinksOf};
+ghost use Rattle.ld_settling.specs.RunLinking.{AreCleanLinks, AreLinksOf};
 ghost use Rattle.ld_sharing.specs.StoreView.{Serves};
 ghost use Rattle.ld_state.specs.StateView.{IsStateOf, run_of};
 
@@ -24,7 +24,7 @@ use ld_rules::judge::judge;
 use ld_rules::prepared::PreparedUnit;
 use ld_rules::site::Site;
 use ld_settling::links::RunLinks;
-use ld_settling::settling::settle;
+use ld_settling::settling::{restore, settle};
 use ld_state::state::State;
 use std::alloc::Global;
 use std::sync::ledger::Ledger;
@@ -77,15 +77,7 @@ fn fires<L: Ledger>(
     if !reads_one(alloc, unit, site, state, steps) {
         return false;
     }
-    let verdict = judge(
-        unit.unit(),
-        unit.names(),
-        unit.rules(),
-        unit.reach(),
-        site,
-        state,
-        steps,
-    );
+    let verdict = judge(unit, site, state, steps);
     let mut changed = Vec::new(alloc);
     let fired = fire(alloc, unit, site, verdict, state, &mut changed, steps);
     let nothing = Fired {
@@ -120,9 +112,7 @@ fn reads_one<L: Ledger>(
     state: &State,
     steps: &mut Steps<L>,
 ) -> bool
-    requires own { IsStateOf unit.now state.now }
-    requires sound { IsSoundRun unit.now (run_of state.now) }
-    requires there { Contains (sites_of unit.now (length state.now.rows)) (site_of site) }
+    requires { IsStateOf unit.now state.now }
 {
     let mut list = SlotList::new(alloc);
     let Ok(()) = site_reads(alloc, unit, site, state, &mut list, steps) else {
@@ -156,7 +146,7 @@ fn go_linked<L: Ledger>(
 {
     let mut links = RunLinks::new(alloc);
     links.begin();
-    links.take_back();
+    links.clear();
     go_with(alloc, unit, state, &mut links, steps)
 }
 
@@ -173,7 +163,27 @@ fn go_with<L: Ledger>(
 {
     links.renew(unit, state)?;
     settle_so(alloc, unit, state, links, 1, steps)?;
+    go_restored(alloc, unit, state, links, steps);
     go_told(alloc, unit, state, links, steps)
+}
+
+/// Restores clean links: they stay clean.
+fn go_restored<L: Ledger>(
+    alloc: Global,
+    unit: &PreparedUnit,
+    state: &mut State,
+    links: &mut RunLinks,
+    steps: &mut Steps<L>,
+)
+    requires own { IsStateOf unit.now state.old }
+    requires sound { IsSoundRun unit.now (run_of state.old) }
+    requires clean { AreCleanLinks unit.now (run_of state.old) links.old }
+    ensures own { IsStateOf unit.now state.new }
+    ensures sound { IsSoundRun unit.now (run_of state.new) }
+    ensures clean { AreCleanLinks unit.now (run_of state.new) links.new }
+{
+    links.begin();
+    restore(alloc, unit, state, links, steps);
 }
 
 /// Settles the run after nothing is told: nothing fires.
@@ -186,7 +196,7 @@ fn go_told<L: Ledger>(
 ) -> Result<(), Fail>
     requires own { IsStateOf unit.now state.old }
     requires sound { IsSoundRun unit.now (run_of state.old) }
-    requires linked { AreLinksOf unit.now (run_of state.old) links.old }
+    requires clean { AreCleanLinks unit.now (run_of state.old) links.old }
 {
     links.tell(&[]);
     settle_so(alloc, unit, state, links, 0, steps)?;
@@ -203,13 +213,13 @@ fn go_joined<L: Ledger>(
 ) -> Result<(), Fail>
     requires own { IsStateOf unit.now state.old }
     requires sound { IsSoundRun unit.now (run_of state.old) }
-    requires linked { AreLinksOf unit.now (run_of state.old) links.old }
+    requires clean { AreCleanLinks unit.now (run_of state.old) links.old }
 {
     links.tell_persons(unit, state, state.persons(), &[])?;
     settle_so(alloc, unit, state, links, 0, steps)
 }
 
-/// Settles the run, where so many sites fire, in one turn at most.
+/// Settles the run, where so many sites fire, in one turn at most. Its links are clean then.
 fn settle_so<L: Ledger>(
     alloc: Global,
     unit: &PreparedUnit,
@@ -223,10 +233,9 @@ fn settle_so<L: Ledger>(
     requires linked { AreLinksOf unit.now (run_of state.old) links.old }
     ensures own { IsStateOf unit.now state.new }
     ensures sound { OnOk result (IsSoundRun unit.now (run_of state.new)) }
-    ensures linked { OnOk result (AreLinksOf unit.now (run_of state.new) links.new) }
+    ensures clean { OnOk result (AreCleanLinks unit.now (run_of state.new) links.new) }
 {
-    let mut list = SlotList::new(alloc);
-    let settled = settle(alloc, unit, state, links, &mut list, steps)?;
+    let settled = settle(alloc, unit, state, links, steps)?;
     let wanted = Settled {
         turns: fired,
         fired: fired as u64,

@@ -1,5 +1,4 @@
 //! A person's tree, and what is open in it.
-#![tactic(auto, using(crate::proofs::All::all_there))]
 
 ghost use Rattle.std.specs.Prelude.{◌≡◌, ◌<◌};
 
@@ -17,7 +16,7 @@ use std::marker::Brand;
 use std::sync::ledger::{Blank, Ledger};
 use std::test::Fail;
 
-// Each line stands behind the end of the line before it.
+// Each line comes after the end of the line before it.
 const OPEN: &str = "
 unit small open
   play p open
@@ -71,11 +70,10 @@ fn shows<L: Ledger>(
         mark: Value::Bool(done),
         other: Value::Bool(true),
     };
-    let (course, names) = (unit.unit(), unit.names());
     let none = String::new(alloc);
-    let Ok((text, count)) = tree_text(alloc, course, names, &view, PersonNo(0), none, steps) else {
+    let Ok((text, count)) = tree_text(alloc, unit.scope(&view), PersonNo(0), none, steps) else {
         return false;
     };
-    let open = is_open(course, names, &view, PersonNo(0), activity, steps);
+    let open = is_open(unit.scope(&view), PersonNo(0), activity, steps);
     count == 5 && text.as_str() == wanted && open != done
 }

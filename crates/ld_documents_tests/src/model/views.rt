@@ -20,24 +20,28 @@ struct OneCell {
 
 impl View for OneCell {
     ghost use Rattle.std.specs.Option.{option_map};
+    ghost use Rattle.std.specs.Prelude.{None, if◌then◌else◌};
 
-    ghost persons_of = { λ _. 0 };
-
-    ghost has_cell = { λ _ cell. same_cell cell names.Started };
-
-    ghost cells_of = { λ view _. option_map datum_of view.started };
+    ghost seen = { λ view. record {
+      persons = 0;
+      value = λ cell. if same_cell cell names.Started then option_map datum_of view.started
+          else None;
+    } };
 
     fn persons(&self) -> u32 {
         0
     }
 
-    fn get<L: Ledger>(&self, _cell: CellName, steps: &mut Steps<L>) -> Option<&Value> {
+    fn get<L: Ledger>(&self, cell: CellName, steps: &mut Steps<L>) -> Option<&Value> {
         steps.tick();
-        self.started.as_ref()
+        match cell {
+            CellName::Started => self.started.as_ref(),
+            _ => None,
+        }
     }
 }
 
-/// Reads the cell of the view, and says whether it is the number.
+/// Whether the cell of the view has the number, and another one has no value.
 fn has_number<L: Ledger>(number: i64, blank: Blank) -> bool
     requires name { blank.name ≡ L.name }
     requires parts { blank.parts ≡ L.parts }
@@ -48,7 +52,8 @@ fn has_number<L: Ledger>(number: i64, blank: Blank) -> bool
     };
     let mut steps = Steps::<L>::new(blank);
     let value = view.get(CellName::Started, &mut steps);
-    matches!(value, Some(Value::Int(found)) if *found == number)
+    let other = view.get(CellName::Now, &mut steps);
+    matches!(value, Some(Value::Int(found)) if *found == number) && other.is_none()
 }
 
 #[test]

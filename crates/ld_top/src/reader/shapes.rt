@@ -8,9 +8,9 @@ ghost use Rattle.ld_top.specs.Folder.{shape_faults, unit_of};
 
 use ld_json::docs::Docs;
 use ld_json::fault::ReadFault;
-use ld_method::parts::read_parts;
 use ld_method::whole::read_method;
 use ld_model::unit::Unit;
+use ld_reader::parts::read_parts;
 use std::alloc::Global;
 
 /// The unit for which the documents stand.

@@ -1,8 +1,7 @@
 use Rattle.std.proofs.Common.{◌≡◌, Some, ap, sym, subst, length, arith}
 use Rattle.std.specs.List.{sum_by}
-use Rattle.ld_expr.specs.Viewing.{HasCells}
 use Rattle.ld_model.specs.declared.unit.Unit.{Unit}
-use Rattle.ld_firing.specs.ActionCells.{firing_cells, has_slot}
+use Rattle.ld_firing.specs.ActionCells.{HasSlots, firing_cells}
 use Rattle.ld_firing.specs.Actions.{actions_of}
 use Rattle.ld_firing.specs.Costs.{action_cost}
 use Rattle.ld_rules.specs.SiteTests.{rule_of}
@@ -23,7 +22,7 @@ fire-requires-clause-cells g c =
     let ruled : rule_of c.args.unit.now (site_of c.args.site) ≡ Some c.in-Some.rule.now =
     rule_got c.args.unit.now c.rules.result.now (site_of c.args.site) c.in-Some.rule.now c.rules.ensures.rules
     c.in-Some.ensures.lookup.3.0 c.in-Some.ensures.lookup.1 in
-    subst (λ (unit : Unit). HasCells (has_slot unit persons) (firing_cells unit persons c.args.site.owner c.args.site.rule.0 c.in-Some.rule.now c.args.verdict))
+    subst (λ (unit : Unit). HasSlots unit persons (firing_cells unit persons c.args.site.owner c.args.site.rule.0 c.in-Some.rule.now c.args.verdict))
     (sym c.unit.ensures.unit)
     (fires_there c.args.unit.now persons c.unit.ensures.valid (site_of c.args.site) c.in-Some.rule.now c.args.verdict ruled c.requires.there)
 

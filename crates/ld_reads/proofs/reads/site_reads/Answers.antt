@@ -3,7 +3,6 @@ use Rattle.ld_rules.specs.SiteView.{site_of}
 use Rattle.ld_state.specs.RunState.{seen_in}
 use Rattle.ld_state.specs.StateView.{run_of}
 use Rattle.ld_firing.proofs.Fired.{rule_got}
-use Rattle.ld_firing.proofs.SitesNumbered.{mark_in_state}
 use Rattle.ld_reads.specs.Gathering.{with_cells}
 use Rattle.ld_reads.proofs.Latching.{looks_of_none, no_rule, open_of_rule, reads_all, short_of_all}
 use Rattle.ld_reads.proofs.Reading.{on_err, on_ok}
@@ -17,11 +16,6 @@ returns-in_default-clause-reads g c =
     let missing = no_rule unit c.rules.result.now site c.rules.ensures.rules c.in_default.ensures.lookup.3 in
     c.clear.ensures.empty
     ∙ ap (with_cells unit run []) (sym (looks_of_none unit (seen_in unit run) site missing))
-
-pub read_site-requires : goal.read_site-requires
-read_site-requires g c = record {
-  mark = mark_in_state c.args.unit.now c.args.state.now c.requires.own c.requires.sound (site_of c.args.site) c.requires.there;
-}
 
 pub returns-clause-reads : goal.returns-clause-reads
 returns-clause-reads g c =

@@ -1,12 +1,17 @@
-use Rattle.std.proofs.Common.{ap, subst, sym}
+use Rattle.std.proofs.Common.{◌≡◌, ◌∙◌, ap, arith, is_some, refl, subst, sym, true}
 use Rattle.ld_state.specs.StateView.{run_of}
+use Rattle.ld_firing.specs.RunSystem.{run_system}
+use Rattle.ld_run.specs.CommandWork.{judged_first}
 use Rattle.ld_run.specs.Linked.{MayRelink}
 use Rattle.ld_run.specs.RunStep.{settled}
 use Rattle.ld_firing.specs.SettledView.{settlement_of}
-use Rattle.ld_cascade.proofs.Edges.{follows_self, follows_then}
-use Rattle.ld_settling.proofs.RunLinks.{resting_settled}
+use Rattle.ld_state.proofs.Elements.{different}
+use Rattle.ld_firing.proofs.LawsOpenings.{settling_leaves_start}
+use Rattle.ld_settling.proofs.CleanLinks.{run_follows_self, run_follows_then}
 use Rattle.ld_run.proofs.FittingRuns.{settling_fits}
 use Rattle.ld_run.proofs.NoticesTold.{settling_told}
+use Rattle.ld_cascade.proofs.Spending.{relinked_less}
+use Rattle.ld_run.proofs.Stirring.{settled_cost}
 use Rattle.ld_run.proofs.settling.settle_if.Goals as goal
 
 pub returns-then-not-settles-clause-settled : goal.returns-then-not-settles-clause-settled
@@ -19,28 +24,70 @@ relink-requires-clause-told g c =
     subst (λ slots. MayRelink c.args.how c.args.unit.now (run_of c.args.state.now) slots c.args.links.now) (sym c.deref.ensures.value)
     (c.requires.told c.if-not-settles.false)
 
-pub returns-in-Ok-clause-fitting : goal.returns-in-Ok-clause-fitting
-returns-in-Ok-clause-fitting g c =
-    settling_fits c.args.unit.now (run_of c.args.state.now) (settlement_of c.in-Ok.totals (run_of c.settle.new.state))
-    c.in-Ok.ensures.settled c.requires.fitting
+-- A run that has settled is started and in order, and its links are clean.
+pub returns-in-Ok-clause-running : goal.returns-in-Ok-clause-running
+returns-in-Ok-clause-running g c =
+    let unit = c.args.unit.now in
+    let s = run_of c.args.state.now in
+    let left = settlement_of c.in-Ok.totals (run_of c.settle.new.state) in
+    let order = c.requires.order in
+    let still = settling_leaves_start unit s left c.in-Ok.ensures.settled in
+    record {
+      order = record {
+        sound = c.in-Ok.ensures.sound;
+        fitting = settling_fits unit s left c.in-Ok.ensures.settled order.fitting;
+        notices = settling_told unit s left order.sound order.notices c.in-Ok.ensures.settled;
+      };
+      linked = (
+        λ started. c.in-Ok.ensures.clean,
+        λ closed. different (sym (ap is_some still ∙ c.requires.started c.if-not-settles.false) ∙ closed),
+      );
+    }
 
-pub returns-in-Ok-clause-notices : goal.returns-in-Ok-clause-notices
-returns-in-Ok-clause-notices g c =
-    settling_told c.args.unit.now (run_of c.args.state.now) (settlement_of c.in-Ok.totals (run_of c.settle.new.state))
-    c.requires.sound c.requires.notices c.in-Ok.ensures.settled
-
-pub returns-in-Ok-clause-linked : goal.returns-in-Ok-clause-linked
-returns-in-Ok-clause-linked g c started =
-    resting_settled c.args.unit.now (run_of c.settle.new.state) c.settle.new.links c.in-Ok.ensures.linked c.in-Ok.ensures.clean
+pub returns-then-not-settles-clause-running : goal.returns-then-not-settles-clause-running
+returns-then-not-settles-clause-running g c =
+    record { order = c.requires.order; linked = c.requires.linked c.if-not-settles.true }
 
 pub returns-then-not-settles-clause-follows : goal.returns-then-not-settles-clause-follows
-returns-then-not-settles-clause-follows g c _ = follows_self
+returns-then-not-settles-clause-follows g c _ = run_follows_self
 
 pub returns-in-Ok-clause-follows : goal.returns-in-Ok-clause-follows
-returns-in-Ok-clause-follows g c plain = follows_then (c.relink.ensures.follows plain) c.settle.ensures.follows
+returns-in-Ok-clause-follows g c plain = run_follows_then (c.relink.ensures.follows plain) c.settle.ensures.follows
 
 pub returns-in-Err-TurnBudget-clause-follows : goal.returns-in-Err-TurnBudget-clause-follows
-returns-in-Err-TurnBudget-clause-follows g c plain = follows_then (c.relink.ensures.follows plain) c.settle.ensures.follows
+returns-in-Err-TurnBudget-clause-follows g c plain = run_follows_then (c.relink.ensures.follows plain) c.settle.ensures.follows
 
 pub returns-in-Err-NoMemory-clause-follows : goal.returns-in-Err-NoMemory-clause-follows
-returns-in-Err-NoMemory-clause-follows g c plain = follows_then (c.relink.ensures.follows plain) c.settle.ensures.follows
+returns-in-Err-NoMemory-clause-follows g c plain = run_follows_then (c.relink.ensures.follows plain) c.settle.ensures.follows
+
+pub returns-in-Ok-clause-cost : goal.returns-in-Ok-clause-cost
+returns-in-Ok-clause-cost g c begun before seats may =
+    settled_cost c.args.unit.now (run_of c.args.state.now) begun before c.args.how c.args.scratch.now.changed.items c.args.links.now
+    c.relink.new.links c.settle.new.links c.args.steps.now c.settle.new.steps c.requires.order.sound refl seats c.settle.ensures.spends
+    (λ i is_in. subst (λ slots. judged_first c.args.how c.args.unit.now before slots i ≡ true) c.deref.ensures.value
+    (c.relink.ensures.dirties before may i is_in))
+    c.relink.ensures.relinked
+
+pub returns-in-Err-TurnBudget-clause-cost : goal.returns-in-Err-TurnBudget-clause-cost
+returns-in-Err-TurnBudget-clause-cost g c begun before seats may =
+    settled_cost c.args.unit.now (run_of c.args.state.now) begun before c.args.how c.args.scratch.now.changed.items c.args.links.now
+    c.relink.new.links c.settle.new.links c.args.steps.now c.settle.new.steps c.requires.order.sound refl seats c.settle.ensures.spends
+    (λ i is_in. subst (λ slots. judged_first c.args.how c.args.unit.now before slots i ≡ true) c.deref.ensures.value
+    (c.relink.ensures.dirties before may i is_in))
+    c.relink.ensures.relinked
+
+pub returns-in-Err-NoMemory-clause-cost : goal.returns-in-Err-NoMemory-clause-cost
+returns-in-Err-NoMemory-clause-cost g c begun before seats may =
+    settled_cost c.args.unit.now (run_of c.args.state.now) begun before c.args.how c.args.scratch.now.changed.items c.args.links.now
+    c.relink.new.links c.settle.new.links c.args.steps.now c.settle.new.steps c.requires.order.sound refl seats c.settle.ensures.spends
+    (λ i is_in. subst (λ slots. judged_first c.args.how c.args.unit.now before slots i ≡ true) c.deref.ensures.value
+    (c.relink.ensures.dirties before may i is_in))
+    c.relink.ensures.relinked
+
+-- Where there is no room for the links, they are not asked what they read.
+pub returns-in-Err-clause-cost : goal.returns-in-Err-clause-cost
+returns-in-Err-clause-cost g c begun before seats may =
+    omega (arith, relinked_less (run_system c.args.unit.now) begun c.relink.new.links.wiring.relinked c.args.links.now.wiring.relinked c.relink.ensures.relinked)
+
+pub returns-then-not-settles-clause-cost : goal.returns-then-not-settles-clause-cost
+returns-then-not-settles-clause-cost g c begun before seats may = omega arith

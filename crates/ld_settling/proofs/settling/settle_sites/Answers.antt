@@ -1,16 +1,18 @@
 use Rattle.std.proofs.Common.{refl, ap, subst, arith}
 use Rattle.ld_cascade.specs.Outcome.{IsSettled}
-use Rattle.ld_cascade.specs.Settling.{PassesBudget}
+use Rattle.ld_cascade.specs.Settling.{PassesBudget, all_firings}
+use Rattle.ld_cascade.specs.Work.{Spends}
 use Rattle.ld_model.specs.declared.unit.Unit.{Unit}
 use Rattle.ld_state.specs.StateView.{run_of}
-use Rattle.ld_firing.specs.RunSystem.{IsSoundRun}
+use Rattle.ld_firing.specs.RunSystem.{IsSoundRun, run_system}
 use Rattle.ld_firing.proofs.TurnsFew.{turns_are_few}
-use Rattle.ld_settling.specs.RunLinking.{AreLinksOf}
+use Rattle.ld_settling.specs.RunLinking.{AreCleanLinks, linked_with}
 use Rattle.ld_settling.specs.SitesView.{unit_run_of}
 use Rattle.ld_settling.specs.UnitRuns.{RunSetting, unit_runs}
-use Rattle.ld_settling.proofs.Outcomes.{if_both, on_all, on_if}
-use Rattle.ld_settling.proofs.RunLinks.{links_settled, sites_few}
-use Rattle.ld_settling.proofs.UnitSettling.{passed_run, settled_run}
+use Rattle.ld_settling.proofs.CleanLinks.{clean_settled}
+use Rattle.ld_settling.proofs.Outcomes.{if_both, on_five, on_if}
+use Rattle.ld_settling.proofs.RunLinks.{bound_in_units, covers_in_units, sites_few, tidy_in_units}
+use Rattle.ld_settling.proofs.UnitSettling.{passed_run, settled_run, spends_in_unit}
 use Rattle.ld_settling.proofs.settling.settle_sites.Goals as goal
 
 pub settle-requires-clause-few : goal.settle-requires-clause-few
@@ -40,9 +42,31 @@ returns-clause-sound g c =
     on_if c.settle.result c.settle.ensures.sound
     (λ r sound. subst (λ (unit : Unit). IsSoundRun unit (run_of c.settle.new.sites.state.now)) same sound.run)
 
-pub returns-clause-linked : goal.returns-clause-linked
-returns-clause-linked g c =
-    let same = ap (λ (setting : RunSetting). setting.unit) c.settle.ensures.setting in
-    on_all c.settle.result c.settle.ensures.tidy c.settle.ensures.bound c.settle.ensures.covers
-    (λ r tidy bound covers. subst (λ (unit : Unit). AreLinksOf unit (run_of c.settle.new.sites.state.now) c.settle.new.links) same
-    (links_settled (unit_run_of c.settle.new.sites) c.settle.new.links tidy bound covers))
+pub settle-requires-clause-tidy : goal.settle-requires-clause-tidy
+settle-requires-clause-tidy g c = tidy_in_units (unit_run_of c.args.sites.now) c.args.links.now c.requires.linked.wired
+
+pub settle-requires-clause-bound : goal.settle-requires-clause-bound
+settle-requires-clause-bound g c = bound_in_units (unit_run_of c.args.sites.now) c.args.links.now c.requires.linked.wired
+
+pub settle-requires-clause-covers : goal.settle-requires-clause-covers
+settle-requires-clause-covers g c = covers_in_units (unit_run_of c.args.sites.now) c.args.links.now c.requires.linked.wired
+
+pub returns-clause-clean : goal.returns-clause-clean
+returns-clause-clean g c =
+    let e = c.settle.ensures in
+    let new = c.settle.new.sites in
+    let same = ap (λ (setting : RunSetting). setting.unit) e.setting in
+    on_five c.settle.result e.tidy e.bound e.covers e.none e.rooms
+    (λ r tidy bound covers none rooms.
+    subst (λ (unit : Unit). AreCleanLinks unit (run_of new.state.now) (linked_with c.settle.new.links new.list.now.room)) same
+    (clean_settled (unit_run_of new) c.settle.new.links new.list.now.room tidy bound covers none (rooms c.requires.linked.rooms)))
+
+pub returns-clause-spends : goal.returns-clause-spends
+returns-clause-spends g c =
+    let s = unit_run_of c.args.sites.now in
+    let old = c.args.links.now in
+    let new = c.settle.new.links in
+    let before = c.args.steps.now in
+    let after = c.settle.new.steps in
+    subst (λ (unit : Unit). Spends (run_system s.unit) s.run (all_firings (run_system s.unit) s.run unit.turns) old new before after) c.unit.ensures.unit
+    (spends_in_unit s _ old new before after c.settle.ensures.spends)

@@ -13,13 +13,8 @@ use Rattle.ld_sharing.proofs.TakingCells.{kept_cell, taken_cell}
 use Rattle.ld_sharing.proofs.TakingKeys.{cell_fits, readable_for, said_for, value_cell}
 use Rattle.ld_sharing.proofs.taken_value.take_value.Goals as goal
 
-pub other_value-requires-clause-cell : goal.other_value-requires-clause-cell
-other_value-requires-clause-cell g c =
-    value_cell c.args.unit.now c.args.globals.now c.args.property.0 c.args.uri.now.bytes c.args.owner c.requires.shared
-    c.args.state.now c.requires.own c.requires.owner
-
-pub other_value-requires-clause-readable : goal.other_value-requires-clause-readable
-other_value-requires-clause-readable g c =
+pub other_value-requires : goal.other_value-requires
+other_value-requires g c =
     readable_for c.args.unit.now c.args.globals.now c.args.property.0 c.args.uri.now.bytes c.args.owner c.requires.shared
     c.args.state.now.rows (option_copied c.name_of-name.result) c.requires.owner c.name_of-name.ensures
 

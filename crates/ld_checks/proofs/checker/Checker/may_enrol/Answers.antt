@@ -2,8 +2,8 @@ use Rattle.std.proofs.Common.{◌≡◌, ◌≤◌, ◌∙◌, None, ap, arith, 
 use Rattle.ld_roles.specs.Kept.{persons_of}
 use Rattle.ld_roles.specs.Persons.{person_number}
 use Rattle.ld_state.specs.StateView.{run_of}
+use Rattle.ld_state.proofs.SeenSame.{persons_counted}
 use Rattle.ld_checks.proofs.FaultChecks.{seats_taken}
-use Rattle.ld_checks.proofs.StateSeen.{persons_counted}
 use Rattle.ld_checks.proofs.checker.Checker.may_enrol.Goals as goal
 
 pub returns-then-persons-ge-SEATS-clause-refused :

@@ -1,12 +1,11 @@
 use Rattle.std.proofs.Common.{◌∙◌, ◌≡◌, ◌≤◌, ◌+◌, sym, subst, fold, map, length, arith, ◌<◌}
 use Rattle.ld_base.specs.Numbers.{numbers_below}
 use Rattle.ld_expr.specs.Owners.{of_person}
-use Rattle.ld_expr.specs.Viewing.{HasCells}
-use Rattle.ld_firing.specs.ActionCells.{change_cells, has_slot}
+use Rattle.ld_firing.specs.ActionCells.{HasSlots, change_cells}
 use Rattle.ld_firing.specs.Actions.{change_for}
 use Rattle.ld_firing.specs.Costs.{term_leaves}
 use Rattle.ld_state.proofs.Elements.{in_map, in_below}
-use Rattle.ld_firing.proofs.Looping.{cells_of_one, does_below, steps_of_each}
+use Rattle.ld_firing.proofs.Looping.{does_below, slots_of_one, steps_of_each}
 use Rattle.ld_firing.proofs.Progressing.{does_number}
 use Rattle.ld_firing.proofs.actor.Actor.change_for_everyone.Goals as goal
 
@@ -17,9 +16,9 @@ change_for-requires-clause-cells g c =
     let persons = length c.args.state.now.rows in
     let p = c.loop-number.number in
     let below : p < persons = omega (arith, c.loop-number-test.true, c.persons-number-end.ensures) in
-    subst (λ rows. HasCells (has_slot unit (length rows)) (change_cells unit change (of_person p)))
+    subst (λ rows. HasSlots unit (length rows) (change_cells unit change (of_person p)))
     (sym c.loop-number.invariant.2)
-    (cells_of_one (has_slot unit persons) (change_cells unit change) (map of_person (numbers_below persons)) (of_person p)
+    (slots_of_one unit persons (change_cells unit change) (map of_person (numbers_below persons)) (of_person p)
     (in_map of_person (numbers_below persons) p (in_below persons p below)) c.requires.cells)
 
 pub loop-number-preserved : goal.loop-number-preserved

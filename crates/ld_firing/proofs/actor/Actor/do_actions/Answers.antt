@@ -1,11 +1,10 @@
 use Rattle.std.proofs.Common.{◌∙◌, ◌≤◌, ◌+◌, subst, sym, length, arith}
-use Rattle.ld_expr.specs.Viewing.{HasCells}
-use Rattle.ld_firing.specs.ActionCells.{action_cells, has_slot}
+use Rattle.ld_firing.specs.ActionCells.{HasSlots, action_cells}
 use Rattle.ld_firing.specs.Actions.{do_action}
 use Rattle.ld_firing.specs.Costs.{action_cost}
 use Rattle.ld_state.specs.StateView.{run_of}
 use Rattle.ld_firing.proofs.Costing.{same_costs}
-use Rattle.ld_firing.proofs.Looping.{cells_of_item, steps_all, steps_next, steps_stop}
+use Rattle.ld_firing.proofs.Looping.{slots_of_item, steps_all, steps_next, steps_stop}
 use Rattle.ld_firing.proofs.Progressing.{does_all, does_next}
 use Rattle.ld_firing.proofs.actor.Actor.do_actions.Goals as goal
 
@@ -15,9 +14,9 @@ do_action-requires-clause-cells g c =
     let owner = c.args.self.now.owner in
     let persons = length c.args.state.now.rows in
     let action = c.action-item.result in
-    subst (λ rows. HasCells (has_slot unit (length rows)) (action_cells unit (length rows) owner action))
+    subst (λ rows. HasSlots unit (length rows) (action_cells unit (length rows) owner action))
     (sym c.loop-action.invariant.2)
-    (cells_of_item (has_slot unit persons) (action_cells unit persons owner) c.args.actions.now c.loop-action.action-index action
+    (slots_of_item unit persons (action_cells unit persons owner) c.args.actions.now c.loop-action.action-index action
     c.loop-action-test.true c.action-item.is c.requires.cells)
 
 pub loop-action-preserved : goal.loop-action-preserved

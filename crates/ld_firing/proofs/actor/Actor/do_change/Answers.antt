@@ -6,7 +6,7 @@ use Rattle.ld_firing.specs.Actions.{is_of_persons, owners_of_change}
 use Rattle.ld_firing.specs.Costs.{term_leaves}
 use Rattle.ld_state.proofs.Written.{on_ok}
 use Rattle.ld_firing.proofs.Progressing.{changed_by_person, changed_by_run, changed_by_all}
-use Rattle.ld_firing.proofs.SeenInStates.{persons_counted}
+use Rattle.ld_state.proofs.SeenSame.{persons_counted}
 use Rattle.ld_firing.proofs.actor.Actor.do_change.Goals as goal
 
 pub returns-in_default-clause-does : goal.returns-in_default-clause-does

@@ -1,13 +1,12 @@
 use Rattle.std.proofs.Common.{◌∙◌, ◌≤◌, ◌+◌, subst, sym, map, length, arith}
 use Rattle.ld_model.specs.declared.condition.Action.TheVariants.{Change}
-use Rattle.ld_expr.specs.Viewing.{HasCells}
-use Rattle.ld_firing.specs.ActionCells.{action_cells, all_change_cells, has_slot}
+use Rattle.ld_firing.specs.ActionCells.{HasSlots, action_cells, all_change_cells}
 use Rattle.ld_firing.specs.Actions.{do_action}
 use Rattle.ld_firing.specs.Costs.{action_cost}
 use Rattle.ld_state.specs.StateView.{run_of}
 use Rattle.ld_state.proofs.Elements.{in_map}
 use Rattle.ld_firing.proofs.Costing.{change_costs, same_persons_counted}
-use Rattle.ld_firing.proofs.Looping.{cells_of_one, item_in, steps_all_of, steps_next_of, steps_stop_of}
+use Rattle.ld_firing.proofs.Looping.{item_in, slots_of_one, steps_all_of, steps_next_of, steps_stop_of}
 use Rattle.ld_firing.proofs.Progressing.{does_all_of, does_next_of}
 use Rattle.ld_firing.proofs.actor.Actor.do_changes.Goals as goal
 
@@ -17,9 +16,9 @@ do_change-requires-clause-cells g c =
     let owner = c.args.self.now.owner in
     let persons = length c.args.state.now.rows in
     let change = c.change-item.result in
-    subst (λ rows. HasCells (has_slot unit (length rows)) (all_change_cells unit (length rows) owner change))
+    subst (λ rows. HasSlots unit (length rows) (all_change_cells unit (length rows) owner change))
     (sym c.loop-change.invariant.2)
-    (cells_of_one (has_slot unit persons) (action_cells unit persons owner) (map Change c.args.changes.now) (Change change)
+    (slots_of_one unit persons (action_cells unit persons owner) (map Change c.args.changes.now) (Change change)
     (in_map Change c.args.changes.now change (item_in c.args.changes.now c.loop-change.change-index change c.loop-change-test.true c.change-item.is))
     c.requires.cells)
 

@@ -1,23 +1,14 @@
 use Rattle.std.proofs.Common.{◌∙◌, ap, sym}
 use Rattle.ld_value.specs.Datum.{datum_of}
-use Rattle.ld_expr.proofs.Having.{has_back}
-use Rattle.ld_expr.specs.Looks.{property_looks, term_looks}
 use Rattle.ld_expr.specs.Lookup.{property_of}
 use Rattle.ld_expr.specs.Seen.{Seen}
 use Rattle.ld_expr.specs.Terms.{term_value}
 use Rattle.ld_firing.specs.Actions.{if_fitting}
 use Rattle.ld_firing.proofs.NewValues.{no_value, unfitted, fitted, worked_out}
-use Rattle.ld_firing.proofs.SeenInStates.{cells_there, seen_same}
+use Rattle.ld_state.proofs.SeenSame.{seen_same}
 use Rattle.ld_state.specs.RunState.{seen_in}
 use Rattle.ld_state.specs.StateView.{run_of}
 use Rattle.ld_firing.proofs.actor.Actor.new_value.Goals as goal
-
-pub value_of-requires-clause-cells : goal.value_of-requires-clause-cells
-value_of-requires-clause-cells g c =
-    let unit = c.args.self.now.unit.now in
-    let change = c.args.change.now in
-    cells_there unit c.args.state.now c.requires.own (term_looks unit c.args.owner change.value)
-    (has_back (property_looks unit c.args.owner change.property) (term_looks unit c.args.owner change.value) c.requires.cells)
 
 pub returns-in_err-value-clause-cost : goal.returns-in_err-value-clause-cost
 returns-in_err-value-clause-cost g c =

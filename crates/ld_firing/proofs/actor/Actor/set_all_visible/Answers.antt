@@ -1,8 +1,7 @@
 use Rattle.std.proofs.Common.{◌∙◌, sym, subst, length}
-use Rattle.ld_expr.specs.Viewing.{HasCells}
-use Rattle.ld_firing.specs.ActionCells.{has_slot, visible_cells}
+use Rattle.ld_firing.specs.ActionCells.{HasSlots, visible_cells}
 use Rattle.ld_firing.specs.Actions.{set_visible}
-use Rattle.ld_firing.proofs.Looping.{cells_of_item}
+use Rattle.ld_firing.proofs.Looping.{slots_of_item}
 use Rattle.ld_firing.proofs.Progressing.{does_all, does_next}
 use Rattle.ld_firing.proofs.actor.Actor.set_all_visible.Goals as goal
 
@@ -12,9 +11,9 @@ set_visible-requires-clause-cells c =
     let owner = c.args.self.now.owner in
     let persons = length c.args.state.now.rows in
     let thing = c.thing-item.result in
-    subst (λ rows. HasCells (has_slot unit (length rows)) (visible_cells unit owner thing))
+    subst (λ rows. HasSlots unit (length rows) (visible_cells unit owner thing))
     (sym c.loop-thing.invariant.2)
-    (cells_of_item (has_slot unit persons) (visible_cells unit owner) c.args.things.now c.loop-thing.thing-index thing
+    (slots_of_item unit persons (visible_cells unit owner) c.args.things.now c.loop-thing.thing-index thing
     c.loop-thing-test.true c.thing-item.is c.requires.cells)
 
 pub loop-thing-preserved : goal.loop-thing-preserved

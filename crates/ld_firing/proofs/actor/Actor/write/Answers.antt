@@ -1,7 +1,7 @@
 use Rattle.std.proofs.Common.{option_map}
 use Rattle.ld_value.specs.Datum.{datum_of}
 use Rattle.ld_firing.proofs.Progressing.{wrote_if}
-use Rattle.ld_firing.proofs.SeenInStates.{cell_there}
+use Rattle.ld_firing.proofs.SlotsThere.{cell_there}
 use Rattle.ld_firing.proofs.actor.Actor.write.Goals as goal
 
 pub set-requires-clause-cell : goal.set-requires-clause-cell

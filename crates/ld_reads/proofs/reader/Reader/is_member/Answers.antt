@@ -1,11 +1,6 @@
 use Rattle.std.proofs.Common.{◌∙◌}
-use Rattle.ld_reads.proofs.Reading.{member_has, member_seen}
+use Rattle.ld_reads.proofs.Reading.{member_seen}
 use Rattle.ld_reads.proofs.reader.Reader.is_member.Goals as goal
-
-pub says_yes-requires : goal.says_yes-requires
-says_yes-requires g c =
-    let reader = c.args.self.now in
-    member_has reader.unit.now reader.state.now reader.own c.args.role.0 c.args.person.0 c.requires.role c.requires.person
 
 pub returns-clause-value : goal.returns-clause-value
 returns-clause-value g c =

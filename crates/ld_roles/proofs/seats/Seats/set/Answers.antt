@@ -1,4 +1,4 @@
-use Rattle.std.proofs.Common.{set, ◌-◌, ◌∙◌, ap, sym, subst, map, length, List, ℕ, ◌≡◌, ◌<◌, All, Some, option_map, slice_get, arith}
+use Rattle.std.proofs.Common.{◌-◌, ◌∙◌, ap, sym, subst, map, length, List, ℕ, ◌≡◌, ◌<◌, All, Some, option_map, slice_get, arith}
 use Rattle.std.proofs.lemmas.Option.{slice_get-map}
 use Rattle.std.specs.Map.{values_of}
 use Rattle.indexmap.specs.IndexMap.{set_value_at}

@@ -1,11 +1,12 @@
-use Rattle.std.proofs.Common.{◌≡◌, ℕ, arith, refl, sym, ap, ◌∙◌, subst, inl, inr, List, true, Contains}
+use Rattle.std.proofs.Common.{◌≡◌, ℕ, arith, refl, sym, ap, ◌∙◌, subst, inl, inr, Bool, List, [], get_or, true, Contains}
 use Rattle.ld_graph.specs.Edges.{Edges, IsLinked}
 use Rattle.ld_graph.specs.Table.{has}
-use Rattle.ld_cascade.specs.Wiring.{LinksFollow, Wiring}
 use Rattle.ld_cascade.proofs.Edges.{follows_then}
 use Rattle.ld_state.specs.StateView.{run_of}
-use Rattle.ld_firing.proofs.SeenInStates.{persons_counted}
-use Rattle.ld_settling.specs.RunLinking.{AreLinksOf}
+use Rattle.ld_state.proofs.SeenSame.{persons_counted}
+use Rattle.ld_firing.specs.RunSystem.{run_system}
+use Rattle.ld_settling.specs.RunLinking.{AreLinksOf, RunLinksFollow, RunWiring, linked_with}
+use Rattle.ld_settling.proofs.CleanLinks.{rooms_stay}
 use Rattle.ld_settling.proofs.PersonsTold.{follows_loosened, links_of_persons}
 use Rattle.ld_settling.proofs.RunLinks.{slots_many}
 use Rattle.ld_settling.proofs.links.RunLinks.tell_persons.Goals as goal
@@ -31,11 +32,12 @@ returns-clause-linked c =
     let told = c.requires.told in
     let grown = c.in_ok-grow.ensures in
     let r = c.loosen_readers.ensures in
-    let e = c.loosen_sites.ensures in
+    let e = c.loosen_newcomers.ensures in
     let count = c.rule_count-rules.ensures.count in
     let persons = persons_counted c.args.state.now in
-    links_of_persons unit told.0 t c.args.changed.now told.2 c.requires.sound told.4 refl
-    c.self.inside.links c.grow.new.self c.loosen_readers.new.self c.loosen_sites.new.links
+    let before = subst (λ (w : RunWiring). AreLinksOf unit told.0 w) (sym c.self.view_is) told.3 in
+    let wired = links_of_persons unit told.0 t c.args.changed.now told.2 c.requires.sound told.4 refl
+    c.self.inside.links c.grow.new.self c.loosen_readers.new.self c.loosen_newcomers.new.links
     grown.edges grown.dirty grown.loose
     (record {
       rest = record { dirty = r.keeps; loose = r.keeps_loose; only = r.only_loose; edges = r.edges; relinked = r.relinked; sites = r.sites };
@@ -43,11 +45,11 @@ returns-clause-linked c =
       loosens = r.loosens;
     })
     e.rest
-    (λ rule place lower from below. e.dirty rule place (omega (arith, lower, count)) (omega (arith, from, told.1))
+    (λ rule place lower personal from below. e.dirty rule place (omega (arith, lower, count)) personal (omega (arith, from, told.1))
     (omega (arith, below, c.persons.ensures, persons)))
-    (λ rule place lower from below. e.loose rule place (omega (arith, lower, count)) (omega (arith, from, told.1))
+    (λ rule place lower personal from below. e.loose rule place (omega (arith, lower, count)) personal (omega (arith, from, told.1))
     (omega (arith, below, c.persons.ensures, persons)))
-    (subst (λ (w : Wiring). AreLinksOf unit told.0 w) (sym c.self.view_is) told.3)
+    before.wired
     (record {
       sites = omega (arith, grown.sites, r.sites, e.rest.sites, count);
       slots = omega (
@@ -57,22 +59,28 @@ returns-clause-linked c =
         c.slot_count.ensures,
         slots_many unit c.args.state.now c.requires.own,
       );
-    })
+    }) in
+    record {
+      wired = wired;
+      rooms = rooms_stay (run_system unit) told.0 t c.self.inside.links c.loosen_newcomers.new.links c.self.inside.list.room before.wired.bound wired.bound
+          (λ i. ap (λ (edges : Edges). get_or edges.rows i []) (e.rest.edges ∙ r.edges) ∙ grown.edges i)
+          (λ i was. e.rest.loose i (r.keeps_loose i (grown.loose i ∙ was))) before.rooms;
+    }
 
 pub returns-in_err-grow-clause-only : goal.returns-in_err-grow-clause-only
 returns-in_err-grow-clause-only c i is_in =
-    inl (subst (λ (w : Wiring). has w.dirty i ≡ true) c.self.view_is (sym (c.grow.ensures.dirty i) ∙ is_in))
+    inl (subst (λ (w : RunWiring). has w.wiring.dirty i ≡ true) c.self.view_is (sym (c.grow.ensures.dirty i) ∙ is_in))
 
 pub returns-clause-only : goal.returns-clause-only
 returns-clause-only c i is_in =
     let persons = persons_counted c.args.state.now in
-    elim (c.loosen_sites.ensures.only i is_in) [
+    elim (c.loosen_newcomers.ensures.only i is_in) [
       | inl was ↦ elim (c.loosen_readers.ensures.only i was) [
-        | inl first ↦ inl (subst (λ (w : Wiring). has w.dirty i ≡ true) c.self.view_is (sym (c.grow.ensures.dirty i) ∙ first))
+        | inl first ↦ inl (subst (λ (w : RunWiring). has w.wiring.dirty i ≡ true) c.self.view_is (sym (c.grow.ensures.dirty i) ∙ first))
         | inr read ↦ inr (inl (
           read.0,
           read.1,
-          subst (λ (w : Wiring). IsLinked w.edges read.0 i) c.self.view_is
+          subst (λ (w : RunWiring). IsLinked w.wiring.edges read.0 i) c.self.view_is
               (subst (λ (row : List ℕ). Contains row read.0) (c.grow.ensures.edges i) read.2),
         ))
       ]
@@ -80,7 +88,7 @@ returns-clause-only c i is_in =
         rule = new.rule;
         place = new.place;
         number = new.number;
-        has_rule = omega (arith, new.has_rule, c.rule_count-rules.ensures.count);
+        personal = new.personal;
         is_from = omega (arith, new.is_from);
         is_below = omega (arith, new.is_below, c.persons.ensures, persons);
       }))
@@ -88,9 +96,22 @@ returns-clause-only c i is_in =
 
 pub returns-in_err-grow-clause-follows : goal.returns-in_err-grow-clause-follows
 returns-in_err-grow-clause-follows c =
-    subst (λ (w : Wiring). LinksFollow w c.grow.new.self) c.self.view_is c.grow.ensures.follows
+    subst (λ (w : RunWiring). RunLinksFollow w (linked_with c.grow.new.self c.self.inside.list.room)) c.self.view_is
+    (record { links = c.grow.ensures.follows; room = omega arith })
 
 pub returns-clause-follows : goal.returns-clause-follows
 returns-clause-follows c =
-    subst (λ (w : Wiring). LinksFollow w c.loosen_sites.new.links) c.self.view_is
-    (follows_then c.grow.ensures.follows (follows_then c.loosen_readers.ensures.follows (follows_loosened c.loosen_sites.ensures.rest)))
+    subst (λ (w : RunWiring). RunLinksFollow w (linked_with c.loosen_newcomers.new.links c.self.inside.list.room)) c.self.view_is
+    (record {
+      links = follows_then c.grow.ensures.follows (follows_then c.loosen_readers.ensures.follows (follows_loosened c.loosen_newcomers.ensures.rest));
+      room = omega arith;
+    })
+
+pub returns-clause-same_relinked : goal.returns-clause-same_relinked
+returns-clause-same_relinked c i =
+    ap (λ (table : List Bool). has table i) (c.loosen_newcomers.ensures.rest.relinked ∙ c.loosen_readers.ensures.relinked)
+    ∙ c.grow.ensures.relinked i ∙ ap (λ (w : RunWiring). has w.wiring.relinked i) c.self.view_is
+
+pub returns-in_err-grow-clause-same_relinked : goal.returns-in_err-grow-clause-same_relinked
+returns-in_err-grow-clause-same_relinked c i =
+    c.grow.ensures.relinked i ∙ ap (λ (w : RunWiring). has w.wiring.relinked i) c.self.view_is
