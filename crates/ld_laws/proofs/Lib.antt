@@ -1,5 +1,7 @@
 pub mod ActOpenings
+pub mod AllSeats
 pub mod EachLine
+pub mod Histories
 pub mod LawsActs
 pub mod LawsJoining
 pub mod LawsLatching
@@ -11,4 +13,8 @@ pub mod LawsStart
 pub mod LawsTree
 pub mod LawsUnmoved
 pub mod LawsUnstarted
+mod Meetings
+mod OtherLines
+mod OwnLines
+mod SameRuns
 pub mod SameTrees

@@ -1,2 +1,4 @@
-//! Laws of runs: what follows from what a run means, for all units and commands.
+//! What follows from what a run means, on which no code stands: laws of runs, for all units and
+//! commands; whole histories, in which a run's replies depend on what the run met and on nothing
+//! else; and worked courses, whose replies the checker computes from the definitions.
 #![tactic(auto)]

@@ -1,3 +1,4 @@
+pub mod Gathering
 pub mod RunLinking
 pub mod SiteParts
 pub mod SitesView

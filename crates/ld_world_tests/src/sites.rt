@@ -19,7 +19,7 @@ use ld_graph::slots::SlotList;
 use ld_model::cell::Owner;
 use ld_model::view::View;
 use ld_names::rule::RuleKind;
-use ld_reads::reads::site_reads;
+use ld_settling::reads::site_reads;
 use ld_rules::judge::judge;
 use ld_rules::prepared::PreparedUnit;
 use ld_rules::site::Site;

@@ -1,5 +1,0 @@
-mod SameRuns
-mod Meetings
-mod OtherLines
-mod OwnLines
-pub mod Histories

@@ -1,2 +1,0 @@
-//! Whole histories: a run's replies depend on what the run met and on nothing else.
-#![tactic(auto)]

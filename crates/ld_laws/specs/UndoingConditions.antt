@@ -1,0 +1,74 @@
+-- Two conditions that undo each other pass the budget, and the refused command moves nothing.
+use Rattle.std.specs.Prelude.{◌≡◌, refl, ℕ, List, [], ◌∷◌, Some, codes}
+use Rattle.std.specs.Fmt.{digits}
+use Rattle.json.specs.Print.{escape_byte}
+use Rattle.ld_value.specs.Values.{value_of, text_of, truth_of, integer_of, signed_numeral, fits_in}
+use Rattle.ld_model.specs.Expressions.{property_term, TestOf}
+use Rattle.ld_value.specs.Numeral.{numeral}
+use Rattle.ld_value.specs.declared.kind.Kind.TheVariants.{Boolean as BooleanKind}
+use Rattle.ld_state.specs.RunCells.{begins_as}
+use Rattle.ld_model.specs.declared.condition.Action.{Action}
+use Rattle.ld_model.specs.declared.condition.Action.TheVariants.{Change}
+use Rattle.ld_model.specs.declared.property.PropertyKind.TheVariants.{Loc}
+use Rattle.ld_model.specs.declared.unit.Unit.{Unit}
+use Rattle.ld_cascade.specs.Settling.{visited, fired_below, after_sweeps, all_firings}
+use Rattle.ld_names.specs.Names.{named_by}
+use Rattle.ld_parts.specs.Listing.{value_set_parts, condition_true_parts, completed_parts, completion_parts, follows_parts, on_completion_parts, role_part, property_parts_at, object_parts_at, service_parts, environment_parts_at, parts_before_items, ending_parts, activity_parts_at, structure_parts_at, role_part_parts_at, act_parts_at, play_parts_at, method_parts, unit_parts, action_parts, condition_parts_at, middle_parts, parts_of}
+use Rattle.ld_walk.specs.CommonParts.{change_parts, notice_parts}
+use Rattle.ld_firing.specs.Actions.{site_firing}
+use Rattle.ld_state.specs.RunState.{cell_of}
+use Rattle.ld_rules.specs.SiteTests.{site_test}
+use Rattle.ld_firing.specs.RunSettling.{run_settling}
+use Rattle.ld_checks.specs.Checks.{admitted}
+use Rattle.ld_lines.specs.declared.command.RunCommand.TheVariants.{Enrol, Assign, Start, Set, Get}
+use Rattle.ld_run.specs.RunStep.{run_step}
+use Rattle.ld_tree.specs.Tree.{tree_lines, is_open}
+use Rattle.ld_lines.specs.declared.line.Line.{Line}
+use Rattle.ld_lines.specs.declared.line.Line.TheVariants.{Create}
+use Rattle.ld_world.specs.World.{world_step, reply_block}
+use Rattle.ld_laws.specs.Courses.{truth, is_equal, are_both, learner, choice, course, one_part, a_property, with_conditions, a_condition, a_moment, at, told}
+
+-- The property has this truth value.
+abbrev has_truth : List ℕ → List ℕ → TestOf
+has_truth property value = is_equal (property_term property) (truth value)
+
+-- The property gets this truth value.
+abbrev flips : List ℕ → List ℕ → Action
+flips property value = Change (record { property = property; value = truth value })
+
+-- `d` becomes whether the test holds, and then `b` becomes what `d` is; the budget is 4.
+abbrev pub the_course : TestOf → Unit
+the_course both = record (with_conditions
+    (a_property (codes "go") Loc BooleanKind (Some (codes "false"))
+    ∷ a_property (codes "b") Loc BooleanKind (Some (codes "false"))
+    ∷ a_property (codes "d") Loc BooleanKind (Some (codes "false")) ∷ [])
+    (a_condition both (flips (codes "d") (codes "true") ∷ []) (flips (codes "d") (codes "false") ∷ [])
+    ∷ a_condition (has_truth (codes "d") (codes "true")) (flips (codes "b") (codes "true")
+    ∷ []) (flips (codes "b") (codes "false") ∷ []) ∷ [])
+    (course (codes "u") (learner ∷ []) (choice (codes "read")
+    ∷ []) [] (one_part (codes "read")))) { turns = 4 }
+
+-- `go` is set to true at ten, and then read at half past nine.
+abbrev pub the_lines : List Line
+the_lines =
+    Create (a_moment 8 0) (codes "r") (codes "u")
+    ∷ at 8 0 (Enrol (codes "ann"))
+    ∷ at 8 0 (Assign (codes "ann") (codes "learner"))
+    ∷ at 9 0 Start
+    ∷ at 10 0 (Set (codes "ann") (codes "go") (codes "true"))
+    ∷ at 9 30 (Get (codes "ann") (codes "go")) ∷ []
+
+-- `go` is true, and `b` is false.
+abbrev pub goes_without_b : TestOf
+goes_without_b = are_both (has_truth (codes "go") (codes "true")) (has_truth (codes "b") (codes "false"))
+
+-- The command at ten is refused; `go` stays false, and half past nine is not before the last moment.
+pub undoing_conditions : told 1 (the_course goes_without_b) the_lines ≡
+    codes "ok create\n"
+    ∷ codes "ok enrol turns=0 fired=0 rejected=0 sent=0\n"
+    ∷ codes "ok assign turns=0 fired=0 rejected=0 sent=0\n"
+    ∷ codes "ok start turns=1 fired=3 rejected=0 sent=0\n"
+    ∷ codes "no 30 turn-budget\n"
+    ∷ codes "ok get turns=0 fired=0 rejected=0 sent=0 value=\"false\"\n" ∷ []
+unfolding world_step reply_block run_step admitted visited fired_below after_sweeps all_firings run_settling site_test site_firing value_set_parts condition_true_parts completed_parts completion_parts follows_parts on_completion_parts role_part property_parts_at object_parts_at service_parts environment_parts_at parts_before_items ending_parts activity_parts_at structure_parts_at role_part_parts_at act_parts_at play_parts_at method_parts unit_parts action_parts condition_parts_at middle_parts parts_of named_by change_parts notice_parts cell_of begins_as tree_lines is_open digits escape_byte value_of text_of truth_of integer_of signed_numeral numeral fits_in
+undoing_conditions = refl
