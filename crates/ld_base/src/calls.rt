@@ -50,14 +50,14 @@ impl Calls {
     }
 }
 
-/// Whether the number of the call that comes after so many calls is listed.
+/// Whether the number of the call that comes after this many calls is listed.
 fn is_listed(failing: &[u64], made: u64) -> bool
     ensures { result ≡ list_any (λ number. number == made + 1) failing.now }
 {
     failing.iter().any(|number| follows(*number, made))
 }
 
-/// Whether the number is the next one after so many calls.
+/// Whether the number is the next one after this many calls.
 fn follows(number: u64, made: u64) -> bool
     ensures { result ≡ (number == made + 1) }
 {

@@ -25,7 +25,7 @@ pub struct Id {
     hint: Cell<u32>,
 }
 
-// By hand, so that a function which lets one go calls this and is not proved over each field anew.
+// By hand, so that a function which lets one go calls this and is not proved over each field again.
 impl Drop for Id {
     fn drop(self) {
         let Self { text: _, hint: _ } = self;
@@ -130,7 +130,8 @@ impl Hash for Id {
     }
 }
 
-/// Of each byte: 2 where an identifier may begin with it, 1 where it may only go on with it, else 0.
+/// Of each byte: 2 where an identifier may begin with it, 1 where it may only go on with it, else
+/// 0.
 const KINDS: [u8; 256] = [
     0, 0, 0, 0, 0, 0, 0, 0, 0, 0, 0, 0, 0, 0, 0, 0, 0, 0, 0, 0, 0, 0, 0, 0, 0, 0, 0, 0, 0, 0, 0, 0,
     0, 0, 0, 0, 0, 0, 0, 0, 0, 0, 0, 0, 0, 1, 1, 0, 1, 1, 1, 1, 1, 1, 1, 1, 1, 1, 0, 0, 0, 0, 0, 0,

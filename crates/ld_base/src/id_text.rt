@@ -18,7 +18,7 @@ pub(crate) enum IdText {
 }
 
 impl IdText {
-    /// The text. The only error is want of memory, which a text of up to 16 bytes never meets.
+    /// The text. The only error is out of memory, which a text of up to 16 bytes never meets.
     pub(crate) fn of(alloc: Global, text: &str) -> Result<IdText, NoMemory>
         ensures ok { IfOk result (λ kept. letters_of kept ≡ text.now) }
         ensures short { length text.now ≤ 16 → IsOk result }

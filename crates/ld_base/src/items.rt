@@ -42,7 +42,7 @@ impl<T> Items<T> {
         items
     }
 
-    /// Appends the item. Where memory is wanting the list stays as it was, and the item is dropped.
+    /// Appends the item. Where memory runs out the list stays as it was, and the item is dropped.
     pub fn push(&mut self, item: T) -> Result<(), NoMemory>
     where
         T: Drop,

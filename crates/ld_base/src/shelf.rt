@@ -17,8 +17,8 @@ pub enum ShelfRefusal {
     /// The file has more than `FILE_LIMIT` bytes.
     #[error("the file has more than 4194304 bytes")]
     TooBig,
-    /// Memory is wanting.
-    #[error("memory is wanting")]
+    /// Memory ran out.
+    #[error("out of memory")]
     NoMemory,
 }
 

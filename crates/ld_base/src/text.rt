@@ -53,7 +53,7 @@ impl Text {
         Ok(Text { text })
     }
 
-    /// Makes room for so many bytes more, which cannot fail where there is such room already. The
+    /// Makes room for this many bytes more, which cannot fail where there is such room already. The
     /// bytes stay as they are.
     pub fn reserve(&mut self, more: usize) -> Result<(), NoMemory>
         ensures room { OnOk result (more ≤ self.new.spare) }
@@ -65,7 +65,7 @@ impl Text {
         Ok(())
     }
 
-    /// Appends the piece. Where memory is wanting the bytes stay as they were, which cannot come
+    /// Appends the piece. Where memory runs out the bytes stay as they were, which cannot come
     /// within the spare room.
     pub fn push(&mut self, piece: &str) -> Result<(), NoMemory>
         ensures ok { OnOk result (self.new.bytes ≡ self.old.bytes ++ piece.now) }
@@ -91,8 +91,8 @@ impl Text {
         }
     }
 
-    /// Appends the other text, as `push` does. Where this one is empty and has no more room than the
-    /// other, the other takes its place without a copy.
+    /// Appends the other text, as `push` does. Where this one is empty and has no more room than
+    /// the other, the other takes its place without a copy.
     pub fn append(&mut self, text: String) -> Result<(), NoMemory>
         ensures ok { OnOk result (self.new.bytes ≡ self.old.bytes ++ string_bytes text) }
         ensures err { OnErr result (self.new.bytes ≡ self.old.bytes) }

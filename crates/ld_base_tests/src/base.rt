@@ -2,12 +2,7 @@
 mod machine;
 mod memory;
 
-use ld_base::id::Id;
-use ld_base::memory::NoMemory;
-use ld_base::numbers::{PersonList, PersonNo, number};
-use ld_base::plain_text::PlainText;
-use ld_base::shelf::{Shelf, ShelfRefusal};
-use ld_base::text::Text;
+use ld_base::{Id, NoMemory, PersonList, PersonNo, PlainText, Shelf, ShelfRefusal, Text, number};
 use std::alloc::Global;
 use std::test::Fail;
 

@@ -1,14 +1,8 @@
 //! What serde_json reads and prints, byte by byte, and where the faults of a node stand. Which
 //! bytes are no JSON is shown by tests/first_faults/texts.py, where the program reads them.
 use json::Scratch;
-use ld_base::memory::NoMemory;
-use ld_base::text::Text;
-use ld_json::code::Code;
-use ld_json::doc::{Doc, document};
-use ld_json::fault::ReadFault;
-use ld_json::file::FileNo;
-use ld_json::node::Node;
-use ld_json::print::{is_plain, print_text};
+use ld_base::{NoMemory, Text};
+use ld_json::{Code, Doc, FileNo, Node, ReadFault, document, is_plain, print_text};
 use serde_json::json;
 use std::alloc::Global;
 use std::test::Fail;

@@ -3,16 +3,12 @@
 //! reads.
 mod tables;
 
-use ld_base::text::Text;
-use ld_value::duration::read_duration;
-use ld_value::fault::ValueFault;
+use ld_base::Text;
 use ld_value::fits::fits;
-use ld_value::kind::Kind;
-use ld_value::limits::{Limits, ValueList};
-use ld_value::moment::{FIRST_MOMENT, LAST_MOMENT, Moment, print_moment, read_moment};
-use ld_value::print::print_value;
-use ld_value::read::{read_scalar, read_value};
-use ld_value::value::{Value, same_value};
+use ld_value::{
+    FIRST_MOMENT, Kind, LAST_MOMENT, Limits, Moment, Value, ValueFault, ValueList, print_moment,
+    print_value, read_duration, read_moment, read_scalar, read_value, same_value,
+};
 use std::alloc::Global;
 use std::test::Fail;
 use tables::{DURATIONS, MOMENTS, NO_VALUES, OTHERS, RESTRICTED, VALUES};

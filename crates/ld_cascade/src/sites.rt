@@ -8,18 +8,16 @@ ghost use Rattle.ld_cascade.specs.Work.{weight};
 ghost use Rattle.ld_cascade.specs.Rooms.{read_count};
 
 use crate::judged::Judged;
-use ld_base::fired::Fired;
-use ld_base::memory::NoMemory;
-use ld_base::steps::Steps;
-use ld_graph::slots::SlotList;
+use ld_base::{Fired, NoMemory, Steps};
+use ld_graph::SlotList;
 use std::sync::ledger::Ledger;
 
-/// A state with sites. It means a system, a situation of that system, whose setting no call changes,
-/// and a room, which never falls: how many slots the list that `reads` lends can hold without new
-/// memory. The sites are some of the numbers below the system's count, in their order.
+/// A state with sites. It means a system, a situation of that system, whose setting no call
+/// changes, and a room, which never falls: how many slots the list that `reads` lends can hold
+/// without new memory. The sites are some of the numbers below the system's count, in their order.
 ///
-/// Each call needs a sound situation, and a firing leaves one. After want of memory in a firing the
-/// situation may be unsound: ask nothing of the sites until it was taken back.
+/// Each call needs a sound situation, and a firing leaves one. After running out of memory in a
+/// firing the situation may be unsound: ask nothing of the sites until it was rolled back.
 pub trait Sites {
     ghost system: { System };
 
@@ -50,8 +48,8 @@ pub trait Sites {
             × IfOk result (λ r. length r.now.items ≤ room v))) };
 
     /// Fires the site: its mark becomes the verdict, and its effect is applied. The slots that it
-    /// changes are appended to `changed`. After want of memory the state may be any of the same
-    /// setting, sound or not.
+    /// changes are appended to `changed`. After running out of memory the state may be any of the
+    /// same setting, sound or not.
     fn fire<L: Ledger>(
         &mut self,
         site: u32,

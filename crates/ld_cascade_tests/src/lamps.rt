@@ -1,12 +1,9 @@
 //! A row of lamps: a site hands its lamp on to the one before it.
 ghost use Rattle.std.specs.Prelude.{◌≡◌, ◌-◌, ◌^◌, ◌<◌, false, length, replicate, set, IfOk};
 
-use ld_base::fired::Fired;
-use ld_base::memory::NoMemory;
-use ld_base::steps::Steps;
-use ld_cascade::judged::Judged;
-use ld_cascade::sites::Sites;
-use ld_graph::slots::SlotList;
+use ld_base::{Fired, NoMemory, Steps};
+use ld_cascade::{Judged, Sites};
+use ld_graph::SlotList;
 use std::alloc::Global;
 use std::cell::Cell;
 use std::sync::ledger::Ledger;

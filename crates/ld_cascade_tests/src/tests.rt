@@ -5,15 +5,13 @@ ghost use Rattle.ld_cascade_tests.specs.Lamps.{lamps, lamps_of};
 ghost use Rattle.ld_cascade_tests.specs.Settled.{AreSettled};
 
 use crate::lamps::Lamps;
-use ld_base::steps::Steps;
-use ld_cascade::laws::{
-    begins_bound, begins_restorable, begins_tidy, stays_bound, stays_restorable, stays_tidy,
-};
-use ld_cascade::links::Links;
-use ld_cascade::plain::settle_plainly;
+use ld_base::Steps;
 use ld_cascade::restore::restore;
 use ld_cascade::settle::settle;
-use ld_cascade::settled::{Settled, Stop};
+use ld_cascade::{
+    Links, Settled, Stop, begins_bound, begins_restorable, begins_tidy, settle_plainly,
+    stays_bound, stays_restorable, stays_tidy,
+};
 use std::alloc::Global;
 use std::marker::Brand;
 use std::sync::ledger::{Blank, Ledger};
@@ -183,9 +181,9 @@ fn settle_lamps_plainly<L: Ledger>(
 }
 
 /// Five lamps are settled, and the last is switched off. Two turns are too few to hand that on to
-/// the first. The lamps are taken back and their links restored, and then five turns do it. Of the
+/// the first. The lamps are rolled back and their links restored, and then five turns do it. Of the
 /// sites ten are judged until the lamps are settled, three until the refusal, and six by the last
-/// settling: none is judged because of what was taken back.
+/// settling: none is judged because of what was rolled back.
 #[test]
 fn refused_settling_is_taken_back(rt: HostRuntime) -> Result<(), Fail> {
     let alloc = rt.alloc();
@@ -231,7 +229,7 @@ fn settle_again<L: Ledger>(
     Ok(Some(switch_last_off(alloc, row, &mut links, 256, &mut steps)))
 }
 
-/// Makes the links those of the lamps, which were taken back to where the links began.
+/// Makes the links those of the lamps, which were rolled back to where the links began.
 fn make_right<L: Ledger>(row: &mut Lamps, links: &mut Links, steps: &mut Steps<L>)
     requires begun { (begun : Wiring) × AreSettled (lamps_of row.old) begun
         × LinksFollow begun links.old }

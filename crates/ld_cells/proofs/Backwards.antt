@@ -9,7 +9,7 @@ use Rattle.ld_cells.specs.Stored.{held, cells_of}
 use Rattle.ld_cells.specs.Recorded.{before, AreBelow}
 use Rattle.ld_cells.specs.declared.change.Change.{Change}
 
--- the last write is the first to be taken back
+-- the last write is the first to be rolled back
 pub before-push : (changes : List Change) (change : Change) (cells : List (Option Datum)) → before (changes ++ change ∷ []) cells ≡ before changes (set cells change.slot (held change.before))
 before-push [] change cells = refl
 before-push (c ∷ cs) change cells = ap (λ older. set older c.slot (held c.before)) (before-push cs change cells)

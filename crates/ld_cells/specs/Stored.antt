@@ -3,12 +3,12 @@ use Rattle.std.specs.Prelude.{ℕ, List, map, Option, Some, None, length, slice_
 use Rattle.ld_value.specs.Datum.{Datum, datum_of}
 use Rattle.ld_value.specs.declared.value.Value.{Value}
 
--- What `undo` gives back: the cells at the mark, and the spare there.
+-- What `undo` gives back: the cells at the savepoint, and the spare there.
 pub record Kept : Type 0 where
   pub cells : List (Option Datum)
   pub spare : ℕ
 
--- The cells by slot, each with a value or none; what is kept at the mark, if there is one; how many
+-- The cells by slot, each with a value or none; what is kept at the savepoint, if there is one; how many
 -- writes, and how many more cells, are sure not to be refused.
 pub record Stored : Type 0 where
   pub cells : List (Option Datum)
@@ -36,7 +36,7 @@ IsHeldAt cells slot value = held_at cells slot ≡ held value
 abbrev pub with_value : List (Option Datum) → ℕ → Option Value → List (Option Datum)
 with_value cells slot value = slice_set cells slot (held value)
 
--- The same cells with a mark, at which they and the spare are kept.
+-- The same cells with a savepoint, at which they and the spare are kept.
 abbrev pub marked_cells : Stored → Stored
 marked_cells s = record s { kept = Some (record { cells = s.cells; spare = s.spare }) }
 

@@ -3,25 +3,24 @@ ghost use Rattle.std.specs.Prelude.{◌≡◌, ◌↔◌, ◌<◌, ◌≤◌, �
 ghost use Rattle.ld_cells.specs.Stored.{Stored, IsHeldAt, KeepsCellRoom, held, marked_cells, with_value};
 
 use crate::change::Change;
-use crate::mark::Mark;
 use crate::recorded::{append, put, record, same_cell, take_back};
 use crate::refused::Refused;
+use crate::savepoint::Savepoint;
 use crate::undo_log::UndoLog;
-use ld_base::memory::NoMemory;
-use ld_base::steps::Steps;
-use ld_value::value::Value;
+use ld_base::{NoMemory, Steps};
+use ld_value::Value;
 use std::alloc::Global;
 use std::marker::Model;
 use std::mem;
 use std::sync::ledger::Ledger;
 
-/// Cells by slot, counted from 0, each with a value or none. Under a mark, what a write replaces is
-/// recorded, so that it can be taken back.
+/// Cells by slot, counted from 0, each with a value or none. Under a savepoint, what a write
+/// replaces is recorded, so that it can be rolled back.
 #[derive(Drop)]
 pub struct Cells {
     values: Vec<Option<Value>>,
     changes: Vec<Change>,
-    mark: Option<Mark>,
+    savepoint: Option<Savepoint>,
 }
 
 impl Model for Cells {
@@ -34,30 +33,30 @@ impl Model for Cells {
 
     ghost view = { λ s. record {
       cells = cells_of s.values.items;
-      kept = option_map (kept_at s.changes.items (cells_of s.values.items)) s.mark;
+      kept = option_map (kept_at s.changes.items (cells_of s.values.items)) s.savepoint;
       spare = vec_capacity s.changes - vec_len s.changes;
       room = vec_capacity s.values - vec_len s.values;
     } };
 
-    ghost invariant = { λ s. IsSound s.values s.changes s.mark };
+    ghost invariant = { λ s. IsSound s.values s.changes s.savepoint };
 }
 
 impl Cells {
-    /// No cells and no mark, which takes no memory.
+    /// No cells and no savepoint, which takes no memory.
     pub fn new(alloc: Global) -> Cells
         ensures cells { result.cells ≡ [] }
-        ensures unmarked { result.kept ≡ None }
+        ensures no_savepoint { result.kept ≡ None }
         ensures spare { result.spare ≡ 0 }
     {
         Cells {
             values: Vec::new(alloc),
             changes: Vec::new(alloc),
-            mark: None,
+            savepoint: None,
         }
     }
 
-    /// Makes room for so many more cells, and for recording so many writes. The cells, and what is
-    /// kept at the mark, stay as they are, also where memory is wanting.
+    /// Makes room for this many more cells, and for recording this many writes. The cells, and what
+    /// is kept at the savepoint, stay as they are, also where memory runs out.
     pub fn reserve(&mut self, cells: u32, writes: u32) -> Result<(), NoMemory>
         ensures ok { OnOk result ((cells ≤ self.new.room) × (writes ≤ self.new.spare)) }
         ensures within { cells ≤ self.old.room → writes ≤ self.old.spare → IsOk result }
@@ -87,8 +86,8 @@ impl Cells {
         self.values.len() as u32
     }
 
-    /// Appends a cell and answers its slot. A refusal, for want of memory, changes nothing, and
-    /// cannot come where there is room.
+    /// Appends a cell and answers its slot. A refusal comes where memory runs out, and changes
+    /// nothing; it cannot come where there is room.
     pub fn add(&mut self, value: Option<Value>) -> Result<u32, Refused>
         requires { length self.old.cells < 2 ^ 32 - 1 }
         ensures slot { IfOk result (λ slot. slot ≡ length self.old.cells) }
@@ -116,8 +115,8 @@ impl Cells {
     }
 
     /// Gives the slot this value, or none, and answers whether that changed what it holds. A
-    /// refusal, for want of memory, changes nothing, and cannot come within the spare or where
-    /// there is no mark.
+    /// refusal comes where memory runs out, and changes nothing; it cannot come within the spare or
+    /// where there is no savepoint.
     pub fn write(&mut self, slot: u32, value: Option<Value>) -> Result<bool, Refused>
         requires { slot < length self.old.cells }
         ensures cells { OnOk result (self.new.cells ≡ with_value self.old.cells slot value) }
@@ -127,7 +126,7 @@ impl Cells {
         ensures refused { OnErr result (self.new ≡ self.old) }
         ensures returned { IfErr result (λ refused. refused.0 ≡ value) }
         ensures within { 0 < self.old.spare → IsOk result }
-        ensures unmarked { self.old.kept ≡ None → IsOk result × (self.new.spare ≡ self.old.spare) }
+        ensures no_savepoint { self.old.kept ≡ None → IsOk result × (self.new.spare ≡ self.old.spare) }
         ensures kept { self.new.kept ≡ self.old.kept }
         ensures spare { self.old.spare ≤ self.new.spare + 1 }
         ensures room { self.new.room ≡ self.old.room }
@@ -136,8 +135,8 @@ impl Cells {
         if same_cell(&self.values[index], &value) {
             return Ok(false);
         }
-        match self.mark {
-            Some(mark) if index < mark.cells => {
+        match self.savepoint {
+            Some(savepoint) if index < savepoint.cells => {
                 record(&mut self.values, &mut self.changes, slot, value)?;
                 Ok(true)
             }
@@ -153,39 +152,39 @@ impl Cells {
         requires { self.old.kept ≡ None }
         ensures { self.new ≡ marked_cells self.old }
     {
-        self.mark = Some(Mark {
+        self.savepoint = Some(Savepoint {
             cells: self.values.len(),
             spare: self.changes.capacity(),
         });
     }
 
-    /// Gives back the cells as they were at the mark, and no others. Its time grows with the writes
-    /// that were recorded and the cells that were added since.
+    /// Gives back the cells as they were at the savepoint, and no others. Its time grows with the
+    /// writes that were recorded and the cells that were added since.
     pub fn undo(&mut self)
         requires { IsSome self.old.kept }
         ensures cells { IfSome self.old.kept (λ kept. self.new.cells ≡ kept.cells) }
-        ensures unmarked { self.new.kept ≡ None }
+        ensures no_savepoint { self.new.kept ≡ None }
         ensures mark_spare { IfSome self.old.kept (λ kept. kept.spare ≤ self.new.spare) }
         ensures spare { self.old.spare ≤ self.new.spare }
         ensures room { KeepsCellRoom self.old self.new }
     {
-        let Some(mark) = self.mark.take() else {
+        let Some(savepoint) = self.savepoint.take() else {
             unreachable!();
         };
-        self.values.truncate(mark.cells);
+        self.values.truncate(savepoint.cells);
         take_back(&mut self.values, &mut self.changes);
     }
 
-    /// Gives up what was kept at the mark. Its time grows with the writes that were recorded.
+    /// Gives up what was kept at the savepoint. Its time grows with the writes that were recorded.
     pub fn keep(&mut self)
         requires { IsSome self.old.kept }
         ensures cells { self.new.cells ≡ self.old.cells }
-        ensures unmarked { self.new.kept ≡ None }
+        ensures no_savepoint { self.new.kept ≡ None }
         ensures mark_spare { IfSome self.old.kept (λ kept. kept.spare ≤ self.new.spare) }
         ensures spare { self.old.spare ≤ self.new.spare }
         ensures room { self.new.room ≡ self.old.room }
     {
         self.changes.clear();
-        self.mark = None;
+        self.savepoint = None;
     }
 }

@@ -1,5 +1,5 @@
-//! A write as it is recorded under a mark.
-use ld_value::value::Value;
+//! A write as it is recorded under a savepoint.
+use ld_value::Value;
 
 /// A write to a cell, and what the cell held before it.
 #[derive(Drop)]

@@ -1,11 +1,11 @@
-//! Writes to cells that are recorded, and taken back.
+//! Writes to cells that are recorded, and rolled back.
 ghost use Rattle.std.specs.Prelude.{◌≡◌, ◌↔◌, ◌<◌, ◌≤◌, ◌+◌, ◌++◌, ◌∷◌, [], OnOk, OnErr, IfErr, IsOk, IsTrue, take, ℕ, vec_len, vec_capacity};
 ghost use Rattle.ld_cells.specs.Stored.{held, cells_of, with_value};
 ghost use Rattle.ld_cells.specs.Recorded.{before, AreBelow};
 
 use crate::change::Change;
 use crate::refused::Refused;
-use ld_value::value::{Value, same_value};
+use ld_value::{Value, same_value};
 use std::mem;
 
 /// Whether the two cells hold one value, or neither holds any.
@@ -19,7 +19,7 @@ pub fn same_cell(first: &Option<Value>, second: &Option<Value>) -> bool
     }
 }
 
-/// Appends a cell. Where memory is wanting, all stays as it was.
+/// Appends a cell. Where memory runs out, all stays as it was.
 pub fn append(values: &mut Vec<Option<Value>>, cell: Option<Value>) -> Result<(), Refused>
     ensures items { OnOk result (values.new.items ≡ values.old.items ++ cell ∷ []) }
     ensures err { OnErr result (values.new.items ≡ values.old.items) }
@@ -48,7 +48,7 @@ pub fn put(values: &mut Vec<Option<Value>>, slot: u32, value: Option<Value>)
 }
 
 /// Writes to the slot and records the write, so that taking it back gives what was there. Where
-/// memory is wanting, all stays as it was.
+/// memory runs out, all stays as it was.
 pub fn record(
     values: &mut Vec<Option<Value>>,
     changes: &mut Vec<Change>,

@@ -1,8 +1,8 @@
-//! A value for which memory was wanting.
-use ld_base::memory::NoMemory;
-use ld_value::value::Value;
+//! A value for which memory ran out.
+use ld_base::NoMemory;
+use ld_value::Value;
 
-/// Memory was wanting: nothing has changed, and this is what was not taken in.
+/// Memory ran out: nothing has changed, and this is what was not taken in.
 #[derive(Drop)]
 pub struct Refused(pub Option<Value>);
 

@@ -1,4 +1,4 @@
-//! Room for the writes that can be taken back.
+//! Room for the writes that can be rolled back.
 ghost use Rattle.std.specs.Prelude.{◌≡◌};
 
 use crate::change::Change;
@@ -6,8 +6,8 @@ use std::alloc::Global;
 use std::marker::Model;
 
 /// Room for recording writes to cells, seen by contracts as the number of writes that have room.
-/// `Cells` without a mark record nothing, so one log is enough for many of which one at a time has a
-/// mark.
+/// `Cells` without a savepoint record nothing, so one log is enough for many of which one at a time
+/// has a savepoint.
 #[derive(Drop)]
 pub struct UndoLog {
     pub(crate) changes: Vec<Change>,

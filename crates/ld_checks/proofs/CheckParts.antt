@@ -3,9 +3,10 @@ use Rattle.std.specs.Prelude.{⊤}
 use Rattle.std.proofs.Common.{◌≡◌, refl, sym, ap, ◌∙◌, ℕ, ℤ, List, Result, Ok, Err, IfOk, IfErr}
 use Rattle.ld_base.specs.declared.numbers.PersonNo.{PersonNo}
 use Rattle.ld_model.specs.declared.unit.Unit.{Unit}
+use Rattle.ld_lines.specs.declared.command.RunCommand.{RunCommand}
 use Rattle.ld_lines.specs.declared.command.RunCommand.TheVariants.{Drop}
 use Rattle.ld_state.specs.RunState.{RunState}
-use Rattle.ld_checks.specs.AdmittedView.{admitted_of}
+use Rattle.ld_checks.specs.AdmittedView.{Answers, AnswersInMemory, IsPossible, admitted_of}
 use Rattle.ld_checks.specs.CheckStages.{Rest, acting, dropping, in_running}
 use Rattle.ld_checks.specs.Checks.{admitted, in_time, the_person, the_role}
 use Rattle.ld_checks.specs.Commands.{drops}
@@ -48,10 +49,20 @@ person_refused s moment name (Err refusal) passes is =
 
 -- ---- what an answer of the program tells, by what it means
 
-pub once_admitted : (answered : Result AdmittedOf RefusalOf) (answer : Rest) → answer_of admitted_of answered ≡ answer → IfOk answered (λ done. answer ≡ Ok (admitted_of done))
-once_admitted (Ok done) answer is = sym is
-once_admitted (Err refusal) answer is = tt
+module _ (unit : Unit) (s : RunState) (moment : ℤ) (asked : RunCommand) where
+  -- Memory could run out, but it did not.
+  pub in_memory : (answer : Result AdmittedOf RefusalOf) → Answers unit s moment asked answer → AnswersInMemory unit s moment asked answer
+  in_memory (Ok done) (same, may) = (sym same, may)
+  in_memory (Err refusal) (same, may) = λ other. sym same
 
-pub once_refused : (answered : Result AdmittedOf RefusalOf) (answer : Rest) → answer_of admitted_of answered ≡ answer → IfErr answered (RefusesWith answer)
-once_refused (Ok done) answer is = tt
-once_refused (Err refusal) answer is = λ other. sym is
+  pub once_admitted : (answer : Result AdmittedOf RefusalOf) → AnswersInMemory unit s moment asked answer → IfOk answer (λ done. admitted unit s moment asked ≡ Ok (admitted_of done))
+  once_admitted (Ok done) answers = answers.0
+  once_admitted (Err refusal) answers = tt
+
+  pub once_possible : (answer : Result AdmittedOf RefusalOf) → AnswersInMemory unit s moment asked answer → IfOk answer (λ done. IsPossible unit s (admitted_of done))
+  once_possible (Ok done) answers = answers.1
+  once_possible (Err refusal) answers = tt
+
+  pub once_refused : (answer : Result AdmittedOf RefusalOf) → AnswersInMemory unit s moment asked answer → IfErr answer (RefusesWith (admitted unit s moment asked))
+  once_refused (Ok done) answers = tt
+  once_refused (Err refusal) answers = answers

@@ -6,14 +6,13 @@ use Rattle.ld_model.specs.declared.unit.Unit.{Unit}
 use Rattle.ld_lines.specs.declared.command.RunCommand.{RunCommand}
 use Rattle.ld_lines.specs.declared.command.RunCommand.TheVariants.{Enrol, Assign, Drop, Start, Open, Complete, Set, Clear, Get, Tree, Outbox, Report, Tick}
 use Rattle.ld_names.specs.Names.{role_number}
-use Rattle.ld_expr.specs.Lookup.{is_some_and, property_of}
+use Rattle.ld_expr.specs.Lookup.{is_some_and}
 use Rattle.ld_expr.specs.Membership.{is_member_of}
-use Rattle.ld_expr.specs.Owners.{of_person}
-use Rattle.ld_expr.specs.Terms.{cell_of_property}
 use Rattle.ld_roles.specs.Roster.{Shortage, person_number, holds_role, has_no_room, is_excluded, short_at_start}
 use Rattle.ld_state.specs.RunState.{RunState, seen_in}
-use Rattle.ld_checks.specs.Causes.{Cause, first_cause, refusal_in, unless_found, of_both, too_early, not_started, shortage_cause, shortage_for, activity_thing, is_by_choice, fitting, is_barred, causes}
-use Rattle.ld_checks.specs.Checks.{admitted, in_time, running, last_moment, is_started, none_short, shortage_if_running}
+use Rattle.ld_checks.specs.Causes.{Cause, first_cause, refusal_in, unless_found, of_both, too_early, not_started, shortage_cause, shortage_for, fitting, is_barred, causes}
+use Rattle.ld_checks.specs.Checks.{admitted, in_time, running, last_moment, is_by_choice, is_started, none_short, shortage_if_running}
+use Rattle.ld_checks.specs.Found.{FoundActivity, FoundProperty, activity_found, property_found}
 use Rattle.ld_checks.specs.Refusals.{Refusal, MomentBack, NotStarted, StartedAlready, UnknownPerson, PersonExists, RunFull, UnknownRole, HoldsAlready, NotHeld, RoleFull, RoleExclusive, UnknownActivity, NotByChoice, UnknownProperty, BadValue, NotAllowed, ◌unless_refused◌ as ◌>>=◌, ◌>>◌, refuse_if}
 
 -- A check, and then those behind it.
@@ -64,17 +63,10 @@ module _ (unit : Unit) (s : RunState) (moment : ℤ) where
   abbrev bars : ℕ → Property → Bool
   bars p one = is_some_and (λ role. not (is_member_of unit (seen_in unit s) role p)) one.role
 
-  abbrev lacks_cell : List ℕ → Option ℕ → Bool
-  lacks_cell property po = is_some_and (λ person. not (is_some (cell_of_property unit (of_person person) property))) po
-
   -- Whether the property is barred, once person and property are found.
-  barred : (p : ℕ) (one : Property) (po : Option ℕ) (found : Option Property) → po ≡ Some p → found ≡ Some one
-      → is_some_and (λ role. not (is_member_of unit (seen_in unit s) role p)) one.role ≡ is_barred unit s po found
+  barred : (p : ℕ) (one : FoundProperty) (po : Option ℕ) (found : Option FoundProperty) → po ≡ Some p → found ≡ Some one
+      → bars p one.property ≡ is_barred unit s po found
   barred p one po found person property = sym (ap (λ o. is_barred unit s o found) person ∙ ap (λ o. is_barred unit s (Some p) o) property)
-
-  no_cell : (p : ℕ) (po : Option ℕ) (property : List ℕ) → po ≡ Some p
-      → not (is_some (cell_of_property unit (of_person p) property)) ≡ is_some_and (λ person. not (is_some (cell_of_property unit (of_person person) property))) po
-  no_cell p po property person = sym (ap (is_some_and (λ one. not (is_some (cell_of_property unit (of_person one) property)))) person)
 
   short_same : (r p : ℕ) (ro po : Option ℕ) → ro ≡ Some r → po ≡ Some p → shortage_if_running unit s r p (is_started s) ≡ shortage_for unit s ro po
   short_same r p ro po role person = sym (ap (λ o. shortage_for unit s o po) role ∙ ap (λ o. shortage_for unit s (Some r) o) person)
@@ -95,22 +87,19 @@ module _ (unit : Unit) (s : RunState) (moment : ℤ) where
       (after_shortage unit (shortage_if_running unit s r p (is_started s)) (shortage_for unit s (role_number unit role) (person_number s.persons person)) _ _ (short_same r p (role_number unit role) (person_number s.persons person) is has) refl))
   refused_by_first Start = in_order _ _ (after_own (is_started s) StartedAlready _ _ (after_shortage unit (short_at_start unit s.persons) (short_at_start unit s.persons) _ _ refl refl))
   refused_by_first (Open person activity) =
-      in_running _ _ (after_search (person_number s.persons person) UnknownPerson _ _ λ p has. after_search (activity_thing unit activity) UnknownActivity _ _ λ thing is. refl)
+      in_running _ _ (after_search (person_number s.persons person) UnknownPerson _ _ λ p has. after_search (activity_found unit activity) UnknownActivity _ _ λ one is. refl)
   refused_by_first (Complete person activity) =
-      in_running _ _ (after_search (person_number s.persons person) UnknownPerson _ _ λ p has. after_search (activity_thing unit activity) UnknownActivity _ _ λ thing is.
-      after_own (not (is_by_choice unit activity)) NotByChoice _ _ refl)
+      in_running _ _ (after_search (person_number s.persons person) UnknownPerson _ _ λ p has. after_search (activity_found unit activity) UnknownActivity _ _ λ one is.
+      after_check (not (is_by_choice one.activity)) (is_some_and (λ (found : FoundActivity). not (is_by_choice found.activity)) (activity_found unit activity)) NotByChoice _ _ (sym (ap (is_some_and (λ (found : FoundActivity). not (is_by_choice found.activity))) is)) refl)
   refused_by_first (Set person property text) =
-      in_running _ _ (after_search (person_number s.persons person) UnknownPerson _ _ λ p has. after_search (property_of unit property) UnknownProperty _ _ λ one is.
-      after_own_search (fitting one text) (is_some_and (λ (found : Property). not (is_some (fitting found text))) (property_of unit property)) BadValue _ _ (sym (ap (is_some_and (λ (found : Property). not (is_some (fitting found text)))) is)) λ value.
-      after_check (bars p one) (is_barred unit s (person_number s.persons person) (property_of unit property)) NotAllowed _ _ (barred p one (person_number s.persons person) (property_of unit property) has is)
-      (after_own_search (cell_of_property unit (of_person p) property) (lacks_cell property (person_number s.persons person)) UnknownProperty _ _ (no_cell p (person_number s.persons person) property has) λ cell. refl))
+      in_running _ _ (after_search (person_number s.persons person) UnknownPerson _ _ λ p has. after_search (property_found unit property) UnknownProperty _ _ λ one is.
+      after_own_search (fitting one.property text) (is_some_and (λ (found : FoundProperty). not (is_some (fitting found.property text))) (property_found unit property)) BadValue _ _ (sym (ap (is_some_and (λ (found : FoundProperty). not (is_some (fitting found.property text)))) is)) λ value.
+      after_check (bars p one.property) (is_barred unit s (person_number s.persons person) (property_found unit property)) NotAllowed _ _ (barred p one (person_number s.persons person) (property_found unit property) has is) refl)
   refused_by_first (Clear person property) =
-      in_running _ _ (after_search (person_number s.persons person) UnknownPerson _ _ λ p has. after_search (property_of unit property) UnknownProperty _ _ λ one is.
-      after_check (bars p one) (is_barred unit s (person_number s.persons person) (property_of unit property)) NotAllowed _ _ (barred p one (person_number s.persons person) (property_of unit property) has is)
-      (after_own_search (cell_of_property unit (of_person p) property) (lacks_cell property (person_number s.persons person)) UnknownProperty _ _ (no_cell p (person_number s.persons person) property has) λ cell. refl))
+      in_running _ _ (after_search (person_number s.persons person) UnknownPerson _ _ λ p has. after_search (property_found unit property) UnknownProperty _ _ λ one is.
+      after_check (bars p one.property) (is_barred unit s (person_number s.persons person) (property_found unit property)) NotAllowed _ _ (barred p one (person_number s.persons person) (property_found unit property) has is) refl)
   refused_by_first (Get person property) =
-      in_running _ _ (after_search (person_number s.persons person) UnknownPerson _ _ λ p has.
-      after_own_search (cell_of_property unit (of_person p) property) (lacks_cell property (person_number s.persons person)) UnknownProperty _ _ (no_cell p (person_number s.persons person) property has) λ cell. refl)
+      in_running _ _ (after_search (person_number s.persons person) UnknownPerson _ _ λ p has. after_search (property_found unit property) UnknownProperty _ _ λ one is. refl)
   refused_by_first (Tree person) = in_running _ _ (after_search (person_number s.persons person) UnknownPerson _ _ λ p has. refl)
   refused_by_first (Outbox person) = in_running _ _ (after_search (person_number s.persons person) UnknownPerson _ _ λ p has. refl)
   refused_by_first Report = in_running _ _ refl

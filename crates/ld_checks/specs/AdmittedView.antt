@@ -1,5 +1,5 @@
 -- What an admitted command of the program means, and where it can be done.
-use Rattle.std.specs.Prelude.{◌≡◌, ◌<◌, ℕ, length, Some, None, true, false, Contains, ⊤}
+use Rattle.std.specs.Prelude.{◌≡◌, ◌<◌, ℕ, ℤ, length, Some, None, Result, Ok, Err, IfOk, true, false, Contains, ⊤}
 use Rattle.ld_value.specs.Datum.{datum_of}
 use Rattle.ld_model.specs.Roles.{roles_of}
 use Rattle.ld_model.specs.declared.cell.CellName.{CellName}
@@ -11,10 +11,13 @@ use Rattle.ld_roles.specs.declared.limit.TheConstants.{SEATS}
 use Rattle.ld_rules.specs.LawWords.{is_property}
 use Rattle.ld_state.specs.RunCells.{all_cells, suits_cell, is_activity}
 use Rattle.ld_state.specs.RunState.{RunState}
-use Rattle.ld_checks.specs.Checks.{is_started}
+use Rattle.ld_checks.specs.Checks.{admitted, is_started}
 use Rattle.ld_checks.specs.Commands.{Admitted, enrols, assigns, drops, starts, opens, completes, sets, clears, gets, shows_tree, shows_outbox, reports, ticks}
+use Rattle.ld_checks.specs.RefusalView.{RefusesWith, answer_of}
 use Rattle.ld_checks.specs.declared.admitted.Admitted.{Admitted as AdmittedOf}
 use Rattle.ld_checks.specs.declared.admitted.Admitted.TheVariants as given
+use Rattle.ld_checks.specs.declared.refusal.Refusal.{Refusal as RefusalOf}
+use Rattle.ld_lines.specs.declared.command.RunCommand.{RunCommand}
 
 -- What an admitted command of the program means: the same command, by its numbers, its cell and its value.
 abbrev pub admitted_of : AdmittedOf → Admitted
@@ -64,3 +67,15 @@ IsPossible unit s (shows_tree p) = p < length s.persons
 IsPossible unit s (shows_outbox p) = p < length s.persons
 IsPossible unit s reports = ⊤
 IsPossible unit s ticks = ⊤
+
+-- The program answers the command as its checks do, and what it admits can be done.
+abbrev pub Answers : Unit → RunState → ℤ → RunCommand → Result AdmittedOf RefusalOf → Type 0
+Answers unit s moment asked answer =
+    (answer_of admitted_of answer ≡ admitted unit s moment asked)
+    × IfOk answer (λ done. IsPossible unit s (admitted_of done))
+
+-- The same, where memory may run out.
+abbrev pub AnswersInMemory : Unit → RunState → ℤ → RunCommand → Result AdmittedOf RefusalOf → Type 0
+AnswersInMemory unit s moment asked (Ok done) =
+    (admitted unit s moment asked ≡ Ok (admitted_of done)) × IsPossible unit s (admitted_of done)
+AnswersInMemory unit s moment asked (Err refusal) = RefusesWith (admitted unit s moment asked) refusal

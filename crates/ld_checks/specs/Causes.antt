@@ -4,19 +4,18 @@ use Rattle.std.specs.Option.{option_map, option_and_then}
 use Rattle.ld_base.specs.Maybe.{◌>>=◌, provided}
 use Rattle.ld_value.specs.Datum.{Datum}
 use Rattle.ld_value.specs.Values.{value_of}
-use Rattle.ld_model.specs.declared.activity.Activity.{Activity}
 use Rattle.ld_model.specs.declared.property.Property.{Property}
 use Rattle.ld_model.specs.declared.unit.Unit.{Unit}
 use Rattle.ld_lines.specs.declared.command.RunCommand.{RunCommand}
 use Rattle.ld_lines.specs.declared.command.RunCommand.TheVariants.{Enrol, Assign, Drop, Start, Open, Complete, Set, Clear, Get, Tree, Outbox, Report, Tick}
-use Rattle.ld_names.specs.Names.{role_number, thing_number}
-use Rattle.ld_expr.specs.Lookup.{is_some_and, property_of, activity_named}
+use Rattle.ld_names.specs.Names.{role_number}
+use Rattle.ld_expr.specs.Lookup.{is_some_and}
 use Rattle.ld_expr.specs.Membership.{is_member_of}
-use Rattle.ld_expr.specs.Owners.{fits_property, of_person}
-use Rattle.ld_expr.specs.Terms.{cell_of_property}
+use Rattle.ld_expr.specs.Owners.{fits_property}
 use Rattle.ld_roles.specs.Roster.{Shortage, person_number, holds_role, has_no_room, is_excluded, short_at_start}
 use Rattle.ld_state.specs.RunState.{RunState, seen_in}
-use Rattle.ld_checks.specs.Checks.{last_moment, is_started, is_choice, role_identifier, shortage_if_running}
+use Rattle.ld_checks.specs.Checks.{last_moment, is_started, is_by_choice, role_identifier, shortage_if_running}
+use Rattle.ld_checks.specs.Found.{FoundProperty, activity_found, property_found}
 use Rattle.ld_checks.specs.Refusals.{Refusal, MomentBack, NotStarted, StartedAlready, UnknownPerson, PersonExists, RunFull, UnknownRole, HoldsAlready, NotHeld, RoleFull, RoleExclusive, RoleShort, UnknownActivity, NotByChoice, UnknownProperty, BadValue, NotAllowed}
 
 -- A cause, where its truth holds.
@@ -59,16 +58,6 @@ shortage_cause unit short =
 abbrev pub shortage_for : Unit → RunState → Option ℕ → Option ℕ → Option Shortage
 shortage_for unit s r p = r >>= λ role. p >>= λ person. shortage_if_running unit s role person (is_started s)
 
--- The activity of this identifier, as a thing.
-abbrev pub activity_thing : Unit → List ℕ → Option ℕ
-activity_thing unit id =
-    option_and_then (λ (one : Activity). thing_number unit one.identifier) (activity_named unit id)
-
--- The activity of this identifier is completed by its person's choice.
-abbrev pub is_by_choice : Unit → List ℕ → Bool
-is_by_choice unit id =
-    is_some_and (λ one. is_some_and is_choice one.complete) (activity_named unit id)
-
 -- The value that the text has as one of the property's datatype, where it meets the restrictions.
 abbrev pub fitting : Property → List ℕ → Option Datum
 fitting property text = option_and_then
@@ -81,16 +70,9 @@ bars unit s p property =
     is_some_and (λ role. not (is_member_of unit (seen_in unit s) role p)) property.role
 
 -- Both are found, and the property is one of a role that the person is no member of.
-abbrev pub is_barred : Unit → RunState → Option ℕ → Option Property → Bool
-is_barred unit s p property = is_some_and (λ person. is_some_and (bars unit s person) property) p
-
--- For the person there is no cell of the property: the identifier names none.
-abbrev pub lacks_cell : Unit → List ℕ → ℕ → Bool
-lacks_cell unit property p = not (is_some (cell_of_property unit (of_person p) property))
-
--- The person is found, and there is no cell of the property for the person.
-abbrev pub own_cell : Unit → Option ℕ → List ℕ → Cause
-own_cell unit p property = provided (is_some_and (lacks_cell unit property) p) UnknownProperty
+abbrev pub is_barred : Unit → RunState → Option ℕ → Option FoundProperty → Bool
+is_barred unit s p found =
+    is_some_and (λ person. is_some_and (λ one. bars unit s person one.property) found) p
 
 -- The causes of each command, in the order of its checks; the first that holds is the refusal.
 abbrev pub causes : Unit → RunState → ℤ → RunCommand → List Cause
@@ -115,25 +97,26 @@ causes unit s moment Start =
     too_early s moment ∷ provided (is_started s) StartedAlready ∷ shortage_cause unit (short_at_start unit s.persons) ∷ []
 causes unit s moment (Open person activity) =
     too_early s moment ∷ not_started s ∷ unless_found (person_number s.persons person) UnknownPerson
-    ∷ unless_found (activity_thing unit activity) UnknownActivity ∷ []
+    ∷ unless_found (activity_found unit activity) UnknownActivity ∷ []
 causes unit s moment (Complete person activity) =
     too_early s moment ∷ not_started s ∷ unless_found (person_number s.persons person) UnknownPerson
-    ∷ unless_found (activity_thing unit activity) UnknownActivity
-    ∷ provided (not (is_by_choice unit activity)) NotByChoice ∷ []
+    ∷ unless_found (activity_found unit activity) UnknownActivity
+    ∷ provided (is_some_and (λ one. not (is_by_choice one.activity)) (activity_found unit activity)) NotByChoice
+    ∷ []
 causes unit s moment (Set person property text) =
     let p = person_number s.persons person in
-    let found = property_of unit property in
+    let found = property_found unit property in
     too_early s moment ∷ not_started s ∷ unless_found p UnknownPerson ∷ unless_found found UnknownProperty
-    ∷ provided (is_some_and (λ one. not (is_some (fitting one text))) found) BadValue
-    ∷ provided (is_barred unit s p found) NotAllowed ∷ own_cell unit p property ∷ []
+    ∷ provided (is_some_and (λ one. not (is_some (fitting one.property text))) found) BadValue
+    ∷ provided (is_barred unit s p found) NotAllowed ∷ []
 causes unit s moment (Clear person property) =
     let p = person_number s.persons person in
-    let found = property_of unit property in
+    let found = property_found unit property in
     too_early s moment ∷ not_started s ∷ unless_found p UnknownPerson ∷ unless_found found UnknownProperty
-    ∷ provided (is_barred unit s p found) NotAllowed ∷ own_cell unit p property ∷ []
+    ∷ provided (is_barred unit s p found) NotAllowed ∷ []
 causes unit s moment (Get person property) =
-    let p = person_number s.persons person in
-    too_early s moment ∷ not_started s ∷ unless_found p UnknownPerson ∷ own_cell unit p property ∷ []
+    too_early s moment ∷ not_started s ∷ unless_found (person_number s.persons person) UnknownPerson
+    ∷ unless_found (property_found unit property) UnknownProperty ∷ []
 causes unit s moment (Tree person) =
     too_early s moment ∷ not_started s ∷ unless_found (person_number s.persons person) UnknownPerson ∷ []
 causes unit s moment (Outbox person) =

@@ -4,12 +4,12 @@ use Rattle.std.specs.Option.{option_map, option_and_then}
 use Rattle.ld_base.specs.Maybe.{provided}
 use Rattle.ld_value.specs.Datum.{Datum}
 use Rattle.ld_value.specs.Values.{value_of}
-use Rattle.ld_names.specs.Names.{role_number, thing_number}
-use Rattle.ld_expr.specs.Lookup.{is_some_and, property_of, activity_named}
+use Rattle.ld_names.specs.Names.{role_number}
+use Rattle.ld_expr.specs.Lookup.{is_some_and}
 use Rattle.ld_expr.specs.Membership.{is_member_of}
 use Rattle.ld_expr.specs.Owners.{fits_property, of_person}
 use Rattle.ld_expr.specs.Seen.{moment_of_value}
-use Rattle.ld_expr.specs.Terms.{cell_of_property}
+use Rattle.ld_expr.specs.Terms.{property_cell_of}
 use Rattle.ld_model.specs.Roles.{roles_of}
 use Rattle.ld_model.specs.declared.activity.Activity.{Activity}
 use Rattle.ld_model.specs.declared.cell.CellName.{CellName}
@@ -20,6 +20,7 @@ use Rattle.ld_model.specs.declared.property.Property.{Property}
 use Rattle.ld_model.specs.declared.unit.Unit.{Unit}
 use Rattle.ld_roles.specs.Roster.{Shortage, person_number, holds_role, has_no_room, is_excluded, short_at_start, short_once_dropped}
 use Rattle.ld_state.specs.RunState.{RunState, seen_in}
+use Rattle.ld_checks.specs.Found.{FoundActivity, FoundProperty, activity_found, property_found}
 use Rattle.ld_checks.specs.Commands.{Admitted, enrols, assigns, drops, starts, opens, completes, sets, clears, gets, shows_tree, shows_outbox, reports, ticks}
 use Rattle.ld_lines.specs.declared.command.RunCommand.{RunCommand}
 use Rattle.ld_lines.specs.declared.command.RunCommand.TheVariants.{Enrol, Assign, Drop, Start, Open, Complete, Set, Clear, Get, Tree, Outbox, Report, Tick}
@@ -101,32 +102,32 @@ shortage_if_running unit s role p false = None
 
 -- ---- activities
 
--- The thing of this identifier, which is an activity.
-abbrev pub the_activity : Unit → List ℕ → Result ℕ Refusal
-the_activity unit id =
-    let thing_of = λ (activity : Activity). thing_number unit activity.identifier in
-    ok_or (option_and_then thing_of (activity_named unit id)) UnknownActivity
+-- The activity of this identifier, with its number.
+abbrev pub the_activity : Unit → List ℕ → Result FoundActivity Refusal
+the_activity unit id = ok_or (activity_found unit id) UnknownActivity
 
 -- The completion rule is `user-choice`.
 abbrev pub is_choice : Completion → Bool
 is_choice UserChoice = true
 is_choice _ = false
 
--- The activity of this identifier is completed by its person's choice.
-abbrev pub only_by_choice : Unit → List ℕ → Passed
-only_by_choice unit id = refuse_if
-    (not (is_some_and (λ activity. is_some_and is_choice activity.complete) (activity_named unit id)))
-    NotByChoice
+-- The activity is completed by its person's choice.
+abbrev pub is_by_choice : Activity → Bool
+is_by_choice activity = is_some_and is_choice activity.complete
+
+-- It is up to the person to say that the activity is completed.
+abbrev pub only_by_choice : Activity → Passed
+only_by_choice activity = refuse_if (not (is_by_choice activity)) NotByChoice
 
 -- ---- properties
 
--- The property of this identifier.
-abbrev pub the_property : Unit → List ℕ → Result Property Refusal
-the_property unit id = ok_or (property_of unit id) UnknownProperty
+-- The property of this identifier, with its number.
+abbrev pub the_property : Unit → List ℕ → Result FoundProperty Refusal
+the_property unit id = ok_or (property_found unit id) UnknownProperty
 
 -- The cell of the property for the person.
-abbrev pub the_cell : Unit → ℕ → List ℕ → Result CellName Refusal
-the_cell unit p id = ok_or (cell_of_property unit (of_person p) id) UnknownProperty
+abbrev pub own_cell : Unit → ℕ → FoundProperty → CellName
+own_cell unit p found = property_cell_of unit (of_person p) found.number found.property
 
 -- The value that the text has as one of the property's datatype; it has to meet the restrictions.
 abbrev pub fitting_value : Property → List ℕ → Result Datum Refusal
@@ -173,38 +174,36 @@ admitted unit s moment (Open person activity) = do
   in_time s moment
   running s
   p ← the_person s person
-  thing ← the_activity unit activity
-  Ok (opens p thing)
+  found ← the_activity unit activity
+  Ok (opens p found.number)
 admitted unit s moment (Complete person activity) = do
   in_time s moment
   running s
   p ← the_person s person
-  thing ← the_activity unit activity
-  only_by_choice unit activity
-  Ok (completes p thing)
+  found ← the_activity unit activity
+  only_by_choice found.activity
+  Ok (completes p found.number)
 admitted unit s moment (Set person property text) = do
   in_time s moment
   running s
   p ← the_person s person
   found ← the_property unit property
-  value ← fitting_value found text
-  may_write unit s p found
-  cell ← the_cell unit p property
-  Ok (sets cell value)
+  value ← fitting_value found.property text
+  may_write unit s p found.property
+  Ok (sets (own_cell unit p found) value)
 admitted unit s moment (Clear person property) = do
   in_time s moment
   running s
   p ← the_person s person
   found ← the_property unit property
-  may_write unit s p found
-  cell ← the_cell unit p property
-  Ok (clears cell)
+  may_write unit s p found.property
+  Ok (clears (own_cell unit p found))
 admitted unit s moment (Get person property) = do
   in_time s moment
   running s
   p ← the_person s person
-  cell ← the_cell unit p property
-  Ok (gets cell)
+  found ← the_property unit property
+  Ok (gets (own_cell unit p found))
 admitted unit s moment (Tree person) = do
   in_time s moment
   running s

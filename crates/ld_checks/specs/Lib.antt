@@ -3,5 +3,6 @@ pub mod Causes
 pub mod CheckStages
 pub mod Checks
 pub mod Commands
+pub mod Found
 pub mod RefusalView
 pub mod Refusals

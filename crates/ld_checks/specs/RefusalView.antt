@@ -32,7 +32,7 @@ refusal_of given.TurnBudget = TurnBudget
 refusal_of given.NotOpen = NotOpen
 refusal_of given.NoMemory = NoMemory
 
--- What refuses is the refusal, unless memory is wanting.
+-- What refuses is the refusal, unless memory runs out.
 abbrev pub RefusesWith : {A : Type 0} → Result A Refusal → RefusalOf → Type 0
 RefusesWith answer refusal = refusal ≢ given.NoMemory → answer ≡ Err (refusal_of refusal)
 

@@ -1,8 +1,7 @@
 //! Commands of a run, as the checks leave them.
-use ld_base::id::Id;
-use ld_base::numbers::{PersonNo, RoleNo, ThingNo};
-use ld_model::cell::CellName;
-use ld_value::value::Value;
+use ld_base::{Id, PersonNo, RoleNo, ThingNo};
+use ld_model::CellName;
+use ld_value::Value;
 
 /// What a command is once it is admitted: persons, roles and activities by their numbers,
 /// properties by the cells in which they stand. A person who joins has a name alone.

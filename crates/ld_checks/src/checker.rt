@@ -10,16 +10,12 @@ ghost use Rattle.ld_checks.specs.RefusalView.{answer_of, refusal_of};
 ghost use Rattle.ld_state.specs.StateView.{IsStateOf, run_of};
 
 use crate::refusal::Refusal;
-use ld_base::id::Id;
-use ld_base::numbers::PersonNo;
-use ld_base::steps::Steps;
-use ld_model::cell::CellName;
-use ld_model::view::View;
-use ld_roles::limit::SEATS;
-use ld_rules::prepared::PreparedUnit;
-use ld_state::state::State;
-use ld_value::moment::Moment;
-use ld_value::value::Value;
+use ld_base::{Id, PersonNo, Steps};
+use ld_model::{CellName, View};
+use ld_roles::SEATS;
+use ld_rules::PreparedUnit;
+use ld_state::State;
+use ld_value::{Moment, Value};
 use std::sync::ledger::Ledger;
 
 /// A run of a unit, of which a command is asked.

@@ -2,18 +2,18 @@
 ghost use Rattle.std.specs.Prelude.{◌≡◌, IfErr, IfOk, Ok};
 ghost use Rattle.ld_state.specs.StateView.{IsStateOf, run_of};
 ghost use Rattle.ld_firing.specs.RunSystem.{IsSoundRun};
-ghost use Rattle.ld_checks.specs.AdmittedView.{IsPossible, admitted_of};
+ghost use Rattle.ld_checks.specs.AdmittedView.{AnswersInMemory, IsPossible, admitted_of};
 ghost use Rattle.ld_checks.specs.Checks.{admitted};
 ghost use Rattle.ld_checks.specs.RefusalView.{RefusesWith};
 
 use crate::admitted::Admitted;
 use crate::checker::Checker;
 use crate::refusal::Refusal;
-use ld_base::steps::Steps;
-use ld_lines::command::RunCommand;
-use ld_rules::prepared::PreparedUnit;
-use ld_state::state::State;
-use ld_value::moment::Moment;
+use ld_base::Steps;
+use ld_lines::RunCommand;
+use ld_rules::PreparedUnit;
+use ld_state::State;
+use ld_value::Moment;
 use std::alloc::Global;
 use std::sync::ledger::Ledger;
 
@@ -38,25 +38,45 @@ pub fn admit<'a, L: Ledger>(
         (RefusesWith (admitted unit.now (run_of state.now) moment.0 command.now)) }
 {
     let checker = Checker { unit, state };
-    match command {
-        RunCommand::Enrol { person } => checker.enrol(moment, person, steps),
-        RunCommand::Assign { person, role } => checker.assign(moment, person, role, steps),
-        RunCommand::Drop { person, role } => checker.drop_role(moment, person, role, steps),
-        RunCommand::Start => checker.start(moment, steps),
-        RunCommand::Open { person, activity } => checker.open(moment, person, activity, steps),
-        RunCommand::Complete { person, activity } => {
-            checker.complete(moment, person, activity, steps)
+    checker.check(alloc, moment, command, steps)
+}
+
+impl<'a, 's> Checker<'a, 's> {
+    /// Makes the checks of the command.
+    fn check<L: Ledger>(
+        &self,
+        alloc: Global,
+        moment: Moment,
+        command: &'a RunCommand,
+        steps: &mut Steps<L>,
+    ) -> Result<Admitted<'a>, Refusal<'a>>
+        ensures { AnswersInMemory self.now.unit.now (run_of self.now.state.now) moment.0
+            command.now result }
+    {
+        match command {
+            RunCommand::Enrol { person } => self.check_enrol(moment, person, steps),
+            RunCommand::Assign { person, role } => self.check_assign(moment, person, role, steps),
+            RunCommand::Drop { person, role } => self.check_drop(moment, person, role, steps),
+            RunCommand::Start => self.check_start(moment, steps),
+            RunCommand::Open { person, activity } => {
+                self.check_open(moment, person, activity, steps)
+            }
+            RunCommand::Complete { person, activity } => {
+                self.check_complete(moment, person, activity, steps)
+            }
+            RunCommand::Set {
+                person,
+                property,
+                value,
+            } => self.check_set(alloc, moment, person, property, value, steps),
+            RunCommand::Clear { person, property } => {
+                self.check_clear(moment, person, property, steps)
+            }
+            RunCommand::Get { person, property } => self.check_get(moment, person, property, steps),
+            RunCommand::Tree { person } => self.check_tree(moment, person, steps),
+            RunCommand::Outbox { person } => self.check_outbox(moment, person, steps),
+            RunCommand::Report => self.check_report(moment, steps),
+            RunCommand::Tick => self.check_tick(moment, steps),
         }
-        RunCommand::Set {
-            person,
-            property,
-            value,
-        } => checker.set(alloc, moment, person, property, value, steps),
-        RunCommand::Clear { person, property } => checker.clear(moment, person, property, steps),
-        RunCommand::Get { person, property } => checker.get(moment, person, property, steps),
-        RunCommand::Tree { person } => checker.tree(moment, person, steps),
-        RunCommand::Outbox { person } => checker.outbox(moment, person, steps),
-        RunCommand::Report => checker.report(moment, steps),
-        RunCommand::Tick => checker.tick(moment, steps),
     }
 }

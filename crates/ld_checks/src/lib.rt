@@ -9,3 +9,7 @@ mod property_checks;
 pub mod refusal;
 mod role_checks;
 mod verbs;
+
+pub use admitted::Admitted;
+pub use checks::admit;
+pub use refusal::Refusal;

@@ -1,11 +1,11 @@
 //! The checks of properties.
-#![tactic(auto, using(crate::proofs::NamedParts::has_property, crate::proofs::NamedParts::limits_are))]
+#![tactic(auto, using(crate::proofs::NamedParts::cell_there, crate::proofs::NamedParts::has_property, crate::proofs::NamedParts::limits_are))]
 
 ghost use Rattle.std.specs.Prelude.{◌≡◌, ◌<◌, length, true, Some, Ok, IfOk, IfErr, slice_get};
-ghost use Rattle.ld_expr.specs.Lookup.{property_number};
 ghost use Rattle.ld_expr.specs.Membership.{is_member_of};
 ghost use Rattle.ld_checks.specs.AdmittedView.{HasPropertyCell};
-ghost use Rattle.ld_checks.specs.Checks.{fitting_value, may_write, the_cell, the_property};
+ghost use Rattle.ld_checks.specs.Checks.{fitting_value, may_write, own_cell, the_property};
+ghost use Rattle.ld_checks.specs.Found.{numbered_property};
 ghost use Rattle.ld_checks.specs.RefusalView.{RefusesWith, answer_of};
 ghost use Rattle.ld_state.specs.RunState.{seen_in};
 ghost use Rattle.ld_state.specs.StateView.{run_of};
@@ -14,28 +14,20 @@ ghost use Rattle.ld_value.specs.Values.{is_value};
 
 use crate::checker::Checker;
 use crate::refusal::Refusal;
-use ld_base::id::Id;
-use ld_base::numbers::{PersonNo, PropNo};
-use ld_base::plain_text::PlainText;
-use ld_base::steps::Steps;
-use ld_expr::cells::cell_of_property;
-use ld_model::cell::{CellName, Owner};
-use ld_model::property::Property;
-use ld_names::names::Named;
-use ld_value::fault::ValueFault;
+use ld_base::{Id, PersonNo, PlainText, PropNo, Steps};
+use ld_expr::property_cell_of;
+use ld_model::{CellName, Owner, Property};
+use ld_names::Named;
 use ld_value::fits::fits;
-use ld_value::read::read_value;
-use ld_value::value::Value;
+use ld_value::{Value, ValueFault, read_value};
 use std::alloc::Global;
 use std::sync::ledger::Ledger;
 
 impl<'a, 's> Checker<'a, 's> {
     /// The property of this identifier, and its number.
     pub(crate) fn the_property(&self, id: &Id) -> Result<(PropNo, &'a Property), Refusal<'a>>
-        ensures property { answer_of (λ found. found.1.now) result
+        ensures found { answer_of (λ found. numbered_property found.0.0 found.1.now) result
             ≡ the_property self.now.unit.now id.now }
-        ensures number { IfOk result (λ found.
-            property_number self.now.unit.now id.now ≡ Some found.0.0) }
         ensures there { IfOk result (λ found.
             slice_get self.now.unit.now.properties found.0.0 ≡ Some found.1.now) }
     {
@@ -48,19 +40,15 @@ impl<'a, 's> Checker<'a, 's> {
         }
     }
 
-    /// The cell of the property of this identifier for the person.
-    pub(crate) fn the_cell(&self, person: PersonNo, id: &Id) -> Result<CellName, Refusal<'a>>
-        requires { person.0 < length self.now.state.now.rows }
-        ensures cell { answer_of (λ cell. cell) result
-            ≡ the_cell self.now.unit.now person.0 id.now }
-        ensures possible { IfOk result
-            (HasPropertyCell self.now.unit.now (run_of self.now.state.now)) }
+    /// The cell of the property, which has this number, for the person.
+    pub(crate) fn own_cell(&self, person: PersonNo, number: PropNo, property: &Property) -> CellName
+        requires person { person.0 < length self.now.state.now.rows }
+        requires there { slice_get self.now.unit.now.properties number.0 ≡ Some property.now }
+        ensures cell { result ≡ own_cell self.now.unit.now person.0
+            (numbered_property number.0 property.now) }
+        ensures possible { HasPropertyCell self.now.unit.now (run_of self.now.state.now) result }
     {
-        let owner = Owner::Person(person);
-        match cell_of_property(self.unit.unit(), self.unit.names(), owner, id) {
-            Some(cell) => Ok(cell),
-            None => Err(Refusal::UnknownProperty),
-        }
+        property_cell_of(self.unit.unit(), Owner::Person(person), number, property)
     }
 
     /// The value of the text as one of the property's. Memory is wanted where it is a text.

@@ -3,9 +3,8 @@ ghost use Rattle.std.specs.Prelude.{◌≡◌};
 ghost use Rattle.ld_checks.specs.RefusalView.{refusal_of};
 ghost use Rattle.ld_checks.specs.Refusals.{refusal_number};
 
-use ld_base::id::Id;
-use ld_base::memory::NoMemory;
-use ld_value::moment::Moment;
+use ld_base::{Id, NoMemory};
+use ld_value::Moment;
 
 /// Why a line is refused, with what is printed of it. (docs/COMMANDS.md, "Refusals")
 #[derive(Clone, Copy)]
@@ -26,7 +25,7 @@ pub enum Refusal<'a> {
     NotHeld,
     RoleFull,
     RoleExclusive,
-    /// The role has, or would have, so many members, and needs so many at least.
+    /// The role has, or would have, `count` members, and needs `least`.
     RoleShort {
         role: &'a Id,
         count: u32,

@@ -15,12 +15,10 @@ ghost use Rattle.ld_state.specs.StateView.{run_of};
 
 use crate::checker::Checker;
 use crate::refusal::Refusal;
-use ld_base::id::Id;
-use ld_base::numbers::{PersonNo, RoleNo};
-use ld_base::steps::Steps;
-use ld_expr::cells::role_number;
-use ld_names::names::Named;
-use ld_roles::fault::{AssignFault, DropFault, Short};
+use ld_base::{Id, PersonNo, RoleNo, Steps};
+use ld_expr::role_number;
+use ld_names::Named;
+use ld_roles::{AssignFault, DropFault, Short};
 use std::sync::ledger::Ledger;
 
 impl<'a, 's> Checker<'a, 's> {

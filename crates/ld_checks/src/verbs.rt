@@ -1,53 +1,45 @@
 //! The checks of each command.
-#![tactic(auto, unfolding(crate::specs::Checks::admitted), using(crate::proofs::CheckParts::admitted_drop, crate::proofs::NamedParts::suits_own))]
+#![tactic(auto, unfolding(crate::specs::Checks::admitted), using(crate::proofs::CheckParts::admitted_drop, crate::proofs::NamedParts::cell_suits))]
 
-ghost use Rattle.std.specs.Prelude.{◌≡◌, Ok, IfOk, IfErr};
 ghost use Rattle.ld_lines.specs.declared.command.RunCommand.TheVariants as asked;
-ghost use Rattle.ld_checks.specs.AdmittedView.{IsPossible, admitted_of};
-ghost use Rattle.ld_checks.specs.Checks.{admitted};
-ghost use Rattle.ld_checks.specs.RefusalView.{RefusesWith, answer_of};
+ghost use Rattle.ld_checks.specs.AdmittedView.{Answers, AnswersInMemory};
 ghost use Rattle.ld_state.specs.StateView.{run_of};
 
+use crate::activity_checks::only_by_choice;
 use crate::admitted::Admitted;
 use crate::checker::Checker;
 use crate::refusal::Refusal;
-use ld_base::id::Id;
-use ld_base::plain_text::PlainText;
-use ld_base::steps::Steps;
-use ld_value::moment::Moment;
+use ld_base::{Id, PlainText, Steps};
+use ld_value::Moment;
 use std::alloc::Global;
 use std::sync::ledger::Ledger;
 
 impl<'a, 's> Checker<'a, 's> {
-    /// The person is to join the run.
-    pub(crate) fn enrol<L: Ledger>(
+    /// Checks that a person of this name may join the run.
+    pub(crate) fn check_enrol<L: Ledger>(
         &self,
         moment: Moment,
         name: &'a Id,
         steps: &mut Steps<L>,
     ) -> Result<Admitted<'a>, Refusal<'a>>
-        ensures admitted { answer_of admitted_of result ≡ admitted self.now.unit.now
-            (run_of self.now.state.now) moment.0 (asked.Enrol name.now) }
-        ensures possible { IfOk result (λ done.
-            IsPossible self.now.unit.now (run_of self.now.state.now) (admitted_of done)) }
+        ensures { Answers self.now.unit.now (run_of self.now.state.now) moment.0
+            (asked.Enrol name.now) result }
     {
         self.in_time(moment, steps)?;
         self.may_enrol(name)?;
         Ok(Admitted::Enrols(name))
     }
 
-    /// The person is to hold the role.
-    pub(crate) fn assign<L: Ledger>(
+    /// Checks that the person may be given the role.
+    pub(crate) fn check_assign<L: Ledger>(
         &self,
         moment: Moment,
         name: &Id,
         role: &Id,
         steps: &mut Steps<L>,
     ) -> Result<Admitted<'a>, Refusal<'a>>
-        ensures admitted { answer_of admitted_of result ≡ admitted self.now.unit.now
-            (run_of self.now.state.now) moment.0 (asked.Assign name.now role.now) }
-        ensures possible { IfOk result (λ done.
-            IsPossible self.now.unit.now (run_of self.now.state.now) (admitted_of done)) }
+        ensures { Answers self.now.unit.now (run_of self.now.state.now) moment.0
+            (asked.Assign name.now role.now) result }
     {
         self.in_time(moment, steps)?;
         let person = self.the_person(name)?;
@@ -56,18 +48,16 @@ impl<'a, 's> Checker<'a, 's> {
         Ok(Admitted::Assigns(person, role))
     }
 
-    /// The person is to hold the role no longer.
-    pub(crate) fn drop_role<L: Ledger>(
+    /// Checks that the person may drop the role.
+    pub(crate) fn check_drop<L: Ledger>(
         &self,
         moment: Moment,
         name: &Id,
         role: &Id,
         steps: &mut Steps<L>,
     ) -> Result<Admitted<'a>, Refusal<'a>>
-        ensures admitted { answer_of admitted_of result ≡ admitted self.now.unit.now
-            (run_of self.now.state.now) moment.0 (asked.Drop name.now role.now) }
-        ensures possible { IfOk result (λ done.
-            IsPossible self.now.unit.now (run_of self.now.state.now) (admitted_of done)) }
+        ensures { Answers self.now.unit.now (run_of self.now.state.now) moment.0
+            (asked.Drop name.now role.now) result }
     {
         self.in_time(moment, steps)?;
         let person = self.the_person(name)?;
@@ -76,16 +66,14 @@ impl<'a, 's> Checker<'a, 's> {
         Ok(Admitted::Drops(person, role))
     }
 
-    /// The run is to start.
-    pub(crate) fn start<L: Ledger>(
+    /// Checks that the run may start.
+    pub(crate) fn check_start<L: Ledger>(
         &self,
         moment: Moment,
         steps: &mut Steps<L>,
     ) -> Result<Admitted<'a>, Refusal<'a>>
-        ensures admitted { answer_of admitted_of result ≡ admitted self.now.unit.now
-            (run_of self.now.state.now) moment.0 asked.Start }
-        ensures possible { IfOk result (λ done.
-            IsPossible self.now.unit.now (run_of self.now.state.now) (admitted_of done)) }
+        ensures { Answers self.now.unit.now (run_of self.now.state.now) moment.0
+            asked.Start result }
     {
         self.in_time(moment, steps)?;
         self.not_running(steps)?;
@@ -93,45 +81,43 @@ impl<'a, 's> Checker<'a, 's> {
         Ok(Admitted::Starts)
     }
 
-    /// The person is to open the activity.
-    pub(crate) fn open<L: Ledger>(
+    /// Checks that the person and the activity are there. Whether it is open is asked once the run
+    /// has settled.
+    pub(crate) fn check_open<L: Ledger>(
         &self,
         moment: Moment,
         name: &Id,
         activity: &Id,
         steps: &mut Steps<L>,
     ) -> Result<Admitted<'a>, Refusal<'a>>
-        ensures admitted { answer_of admitted_of result ≡ admitted self.now.unit.now
-            (run_of self.now.state.now) moment.0 (asked.Open name.now activity.now) }
-        ensures possible { IfOk result (λ done.
-            IsPossible self.now.unit.now (run_of self.now.state.now) (admitted_of done)) }
+        ensures { Answers self.now.unit.now (run_of self.now.state.now) moment.0
+            (asked.Open name.now activity.now) result }
     {
         let person = self.acting(moment, name, steps)?;
-        let (thing, _) = self.the_activity(activity)?;
-        Ok(Admitted::Opens(person, thing))
+        let (number, _) = self.the_activity(activity)?;
+        Ok(Admitted::Opens(person, number))
     }
 
-    /// The person is to have completed the activity.
-    pub(crate) fn complete<L: Ledger>(
+    /// Checks that the person and the activity are there, and that it is completed by its person's
+    /// choice.
+    pub(crate) fn check_complete<L: Ledger>(
         &self,
         moment: Moment,
         name: &Id,
         activity: &Id,
         steps: &mut Steps<L>,
     ) -> Result<Admitted<'a>, Refusal<'a>>
-        ensures admitted { answer_of admitted_of result ≡ admitted self.now.unit.now
-            (run_of self.now.state.now) moment.0 (asked.Complete name.now activity.now) }
-        ensures possible { IfOk result (λ done.
-            IsPossible self.now.unit.now (run_of self.now.state.now) (admitted_of done)) }
+        ensures { Answers self.now.unit.now (run_of self.now.state.now) moment.0
+            (asked.Complete name.now activity.now) result }
     {
         let person = self.acting(moment, name, steps)?;
-        let (thing, found) = self.the_activity(activity)?;
-        self.only_by_choice(activity, found)?;
-        Ok(Admitted::Completes(person, thing))
+        let (number, found) = self.the_activity(activity)?;
+        only_by_choice(found)?;
+        Ok(Admitted::Completes(person, number))
     }
 
-    /// The person is to give the property the value that the text has.
-    pub(crate) fn set<L: Ledger>(
+    /// Checks that the person may give the property the value that the text has.
+    pub(crate) fn check_set<L: Ledger>(
         &self,
         alloc: Global,
         moment: Moment,
@@ -140,113 +126,96 @@ impl<'a, 's> Checker<'a, 's> {
         text: &PlainText,
         steps: &mut Steps<L>,
     ) -> Result<Admitted<'a>, Refusal<'a>>
-        ensures admitted { IfOk result (λ done. admitted self.now.unit.now
-            (run_of self.now.state.now) moment.0 (asked.Set name.now property.now text.now)
-            ≡ Ok (admitted_of done)) }
-        ensures possible { IfOk result (λ done.
-            IsPossible self.now.unit.now (run_of self.now.state.now) (admitted_of done)) }
-        ensures refused { IfErr result (RefusesWith (admitted self.now.unit.now
-            (run_of self.now.state.now) moment.0 (asked.Set name.now property.now text.now))) }
+        ensures { AnswersInMemory self.now.unit.now (run_of self.now.state.now) moment.0
+            (asked.Set name.now property.now text.now) result }
     {
         let person = self.acting(moment, name, steps)?;
         let (number, found) = self.the_property(property)?;
         let value = self.fitting_value(alloc, number, found, text)?;
         self.may_write(person, found, steps)?;
-        let cell = self.the_cell(person, property)?;
-        Ok(Admitted::Sets(cell, value))
+        Ok(Admitted::Sets(self.own_cell(person, number, found), value))
     }
 
-    /// The person is to take the property's value away.
-    pub(crate) fn clear<L: Ledger>(
+    /// Checks that the person may take the property's value away.
+    pub(crate) fn check_clear<L: Ledger>(
         &self,
         moment: Moment,
         name: &Id,
         property: &Id,
         steps: &mut Steps<L>,
     ) -> Result<Admitted<'a>, Refusal<'a>>
-        ensures admitted { answer_of admitted_of result ≡ admitted self.now.unit.now
-            (run_of self.now.state.now) moment.0 (asked.Clear name.now property.now) }
-        ensures possible { IfOk result (λ done.
-            IsPossible self.now.unit.now (run_of self.now.state.now) (admitted_of done)) }
+        ensures { Answers self.now.unit.now (run_of self.now.state.now) moment.0
+            (asked.Clear name.now property.now) result }
     {
         let person = self.acting(moment, name, steps)?;
-        let (_, found) = self.the_property(property)?;
+        let (number, found) = self.the_property(property)?;
         self.may_write(person, found, steps)?;
-        Ok(Admitted::Clears(self.the_cell(person, property)?))
+        Ok(Admitted::Clears(self.own_cell(person, number, found)))
     }
 
-    /// The person is to be told the property's value.
-    pub(crate) fn get<L: Ledger>(
+    /// Checks that the person may be told the property's value.
+    pub(crate) fn check_get<L: Ledger>(
         &self,
         moment: Moment,
         name: &Id,
         property: &Id,
         steps: &mut Steps<L>,
     ) -> Result<Admitted<'a>, Refusal<'a>>
-        ensures admitted { answer_of admitted_of result ≡ admitted self.now.unit.now
-            (run_of self.now.state.now) moment.0 (asked.Get name.now property.now) }
-        ensures possible { IfOk result (λ done.
-            IsPossible self.now.unit.now (run_of self.now.state.now) (admitted_of done)) }
+        ensures { Answers self.now.unit.now (run_of self.now.state.now) moment.0
+            (asked.Get name.now property.now) result }
     {
         let person = self.acting(moment, name, steps)?;
-        Ok(Admitted::Gets(self.the_cell(person, property)?))
+        let (number, found) = self.the_property(property)?;
+        Ok(Admitted::Gets(self.own_cell(person, number, found)))
     }
 
-    /// The person is to be shown the activity tree.
-    pub(crate) fn tree<L: Ledger>(
+    /// Checks that the person may be shown the activity tree.
+    pub(crate) fn check_tree<L: Ledger>(
         &self,
         moment: Moment,
         name: &Id,
         steps: &mut Steps<L>,
     ) -> Result<Admitted<'a>, Refusal<'a>>
-        ensures admitted { answer_of admitted_of result ≡ admitted self.now.unit.now
-            (run_of self.now.state.now) moment.0 (asked.Tree name.now) }
-        ensures possible { IfOk result (λ done.
-            IsPossible self.now.unit.now (run_of self.now.state.now) (admitted_of done)) }
+        ensures { Answers self.now.unit.now (run_of self.now.state.now) moment.0
+            (asked.Tree name.now) result }
     {
         Ok(Admitted::ShowsTree(self.acting(moment, name, steps)?))
     }
 
-    /// The person is to be shown the notices.
-    pub(crate) fn outbox<L: Ledger>(
+    /// Checks that the person may be shown the notices.
+    pub(crate) fn check_outbox<L: Ledger>(
         &self,
         moment: Moment,
         name: &Id,
         steps: &mut Steps<L>,
     ) -> Result<Admitted<'a>, Refusal<'a>>
-        ensures admitted { answer_of admitted_of result ≡ admitted self.now.unit.now
-            (run_of self.now.state.now) moment.0 (asked.Outbox name.now) }
-        ensures possible { IfOk result (λ done.
-            IsPossible self.now.unit.now (run_of self.now.state.now) (admitted_of done)) }
+        ensures { Answers self.now.unit.now (run_of self.now.state.now) moment.0
+            (asked.Outbox name.now) result }
     {
         Ok(Admitted::ShowsOutbox(self.acting(moment, name, steps)?))
     }
 
-    /// The state of the run is to be told.
-    pub(crate) fn report<L: Ledger>(
+    /// Checks that the state of the run may be told.
+    pub(crate) fn check_report<L: Ledger>(
         &self,
         moment: Moment,
         steps: &mut Steps<L>,
     ) -> Result<Admitted<'a>, Refusal<'a>>
-        ensures admitted { answer_of admitted_of result ≡ admitted self.now.unit.now
-            (run_of self.now.state.now) moment.0 asked.Report }
-        ensures possible { IfOk result (λ done.
-            IsPossible self.now.unit.now (run_of self.now.state.now) (admitted_of done)) }
+        ensures { Answers self.now.unit.now (run_of self.now.state.now) moment.0
+            asked.Report result }
     {
         self.in_running(moment, steps)?;
         Ok(Admitted::Reports)
     }
 
-    /// Time is to pass.
-    pub(crate) fn tick<L: Ledger>(
+    /// Checks that time may pass.
+    pub(crate) fn check_tick<L: Ledger>(
         &self,
         moment: Moment,
         steps: &mut Steps<L>,
     ) -> Result<Admitted<'a>, Refusal<'a>>
-        ensures admitted { answer_of admitted_of result ≡ admitted self.now.unit.now
-            (run_of self.now.state.now) moment.0 asked.Tick }
-        ensures possible { IfOk result (λ done.
-            IsPossible self.now.unit.now (run_of self.now.state.now) (admitted_of done)) }
+        ensures { Answers self.now.unit.now (run_of self.now.state.now) moment.0
+            asked.Tick result }
     {
         self.in_running(moment, steps)?;
         Ok(Admitted::Ticks)

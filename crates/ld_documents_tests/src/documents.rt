@@ -3,15 +3,11 @@ ghost use Rattle.std.specs.Prelude.{◌≡◌, true, IfOk};
 ghost use Rattle.ld_formats.specs.Units.{is_well_formed};
 
 use json::Scratch;
-use ld_base::plain_text::PlainText;
-use ld_json::doc::{Doc, document};
-use ld_json::docs::{Docs, Scratches};
-use ld_json::fault::ReadFault;
-use ld_method::whole::read_method;
-use ld_model::completion::OnCompletion;
-use ld_model::item::{ItemList, ReferenceList};
-use ld_model::unit::Unit;
-use ld_reader::parts::read_parts;
+use ld_base::PlainText;
+use ld_json::{Doc, Docs, ReadFault, Scratches, document};
+use ld_method::read_method;
+use ld_model::{ItemList, OnCompletion, ReferenceList, Unit};
+use ld_reader::read_parts;
 use std::alloc::Global;
 use std::test::Fail;
 

@@ -2,11 +2,9 @@
 use crate::documents::{
     SMALL_ROLES, SMALL_UNIT, are, first_fault, full_unit, is_feedback, is_item, is_text, outcome_of,
 };
-use ld_model::completion::Completion;
-use ld_model::condition::{Action, Condition};
-use ld_model::expression::{Test, TestForm};
-use ld_model::method::{Act, Method, Play, RolePart};
-use ld_model::unit::{Level, Unit};
+use ld_model::{
+    Act, Action, Completion, Condition, Level, Method, Play, RolePart, Test, TestForm, Unit,
+};
 use std::test::Fail;
 
 #[test]

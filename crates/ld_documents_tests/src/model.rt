@@ -7,15 +7,13 @@ ghost use Rattle.ld_names.specs.Rows.{StandsIn};
 mod views;
 
 use crate::documents::full_unit;
-use ld_base::id::Id;
-use ld_base::numbers::{PropNo, RoleNo, RuleNo, ThingNo};
-use ld_model::item::Item;
-use ld_names::names::{Named, Names};
-use ld_names::rule::{Rule, RuleKind, list_rules};
-use ld_parts::listing::Listing;
-use ld_refs::check::{Checked, check};
-use ld_value::value::Value;
-use ld_walk::place::Place;
+use ld_base::{Id, PropNo, RoleNo, RuleNo, ThingNo};
+use ld_model::Item;
+use ld_names::{Named, Names, Rule, RuleKind};
+use ld_refs::Checked;
+use ld_refs::check::check;
+use ld_value::Value;
+use ld_walk::Place;
 use std::alloc::Global;
 use std::test::Fail;
 
@@ -156,10 +154,8 @@ const RULES: [Rule; 16] = [
 
 #[test]
 fn rules_stand_in_their_order(rt: HostRuntime) -> Result<(), Fail> {
-    let unit = full_unit(rt.alloc())?;
-    let listing = Listing::of(rt.alloc(), &unit)?;
-    let rules = list_rules(rt.alloc(), &listing)?;
-    assert!(rt; rules.as_slice() == RULES.as_slice());
+    let checked = checked_unit(rt.alloc())?;
+    assert!(rt; checked.names().rules() == RULES.as_slice());
     assert!(rt; matches!(Rule::CompletesStructure(0).kind(), RuleKind::Person));
     assert!(rt; matches!(Rule::OpensAct(0, 0).kind(), RuleKind::Run));
     Ok(())

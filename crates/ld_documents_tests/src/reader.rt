@@ -1,19 +1,15 @@
 //! The roles, environments, activities and structures of documents, and single values.
 use crate::documents::{SMALL_UNIT, are, first_fault, full_unit, is_feedback, is_item, is_text};
 use json::Scratch;
-use ld_json::doc::document;
-use ld_json::file::FileNo;
-use ld_model::activity::{Activity, ActivityKind, Structure, StructureKind};
-use ld_model::completion::Completion;
-use ld_model::environment::{Environment, LearningObject, Service, ServiceKind};
-use ld_model::expression::TermForm;
-use ld_model::property::{Property, PropertyKind};
-use ld_model::role::{CreateNew, MatchPersons, Role, RoleKind};
-use ld_reader::changes::read_on_completion;
-use ld_reader::completions::ActivityCompletion;
-use ld_reader::terms::read_term;
-use ld_shape::reads::Reads;
-use ld_value::kind::Kind;
+use ld_json::{FileNo, document};
+use ld_model::{
+    Activity, ActivityKind, Completion, CreateNew, Environment, LearningObject, MatchPersons,
+    Property, PropertyKind, Role, RoleKind, Service, ServiceKind, Structure, StructureKind,
+    TermForm,
+};
+use ld_reader::{ActivityCompletion, read_on_completion, read_term};
+use ld_shape::Reads;
+use ld_value::Kind;
 use std::test::Fail;
 
 #[test]

@@ -45,7 +45,7 @@ length_member unit seen role test p more there =
     let rest = flat_map (looks_for unit seen test) (filter (is_member seen role) more) in
     omega (arith, ap length (looks_member unit seen role test p more there), length-append cells (own ++ rest), length-append own rest, length-append cells rest)
 
--- These persons are still to be asked, after so many steps from the start; there was a member before or
+-- These persons are still to be asked, after this many steps from the start; there was a member before or
 -- not, and the test held for each.
 pub record Asking (unit : Unit) (seen : Seen) (role : ℕ) (test : TestOf) (some : Bool) (persons : List ℕ) (steps start : ℕ) : Type 0 where
   pub value : answer_left (is_member seen role) (holds_for unit seen test) some persons ≡ holds_for_members unit seen role test

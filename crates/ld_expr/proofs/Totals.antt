@@ -45,6 +45,6 @@ next_added unit seen owner operation total next sum terms i term whole within is
 
 -- ---- where one looks
 
-pub looks_from : (unit : Unit) (owner : Owner) (terms : List TermOf) (i : ℕ) (term : TermOf) → i < length terms → term ≡ get_or terms i term → length (terms_looks unit owner (terms_from (drop i terms))) ≡ length (term_looks unit owner term) + length (terms_looks unit owner (terms_from (drop (i + 1) terms)))
-looks_from unit owner terms i term within is =
-    rw (from_here terms i term within is) (length-append (term_looks unit owner term) (terms_looks unit owner (terms_from (drop (i + 1) terms))))
+pub looks_from : (unit : Unit) (seen : Seen) (owner : Owner) (terms : List TermOf) (i : ℕ) (term : TermOf) → i < length terms → term ≡ get_or terms i term → length (terms_looks unit seen owner (terms_from (drop i terms))) ≡ length (term_looks unit seen owner term) + length (terms_looks unit seen owner (terms_from (drop (i + 1) terms)))
+looks_from unit seen owner terms i term within is =
+    rw (from_here terms i term within is) (length-append (term_looks unit seen owner term) (terms_looks unit seen owner (terms_from (drop (i + 1) terms))))

@@ -5,10 +5,8 @@ ghost use Rattle.ld_expr.specs.Looks.{done_looks};
 
 use crate::cells::{cell_of_mark, says_yes};
 use crate::scope::Scope;
-use ld_base::id::Id;
-use ld_base::steps::Steps;
-use ld_model::cell::Owner;
-use ld_model::view::View;
+use ld_base::{Id, Steps};
+use ld_model::{Owner, View};
 use std::sync::ledger::Ledger;
 
 impl<'a, V: View> Scope<'a, V> {
@@ -17,7 +15,8 @@ impl<'a, V: View> Scope<'a, V> {
     /// step. (docs/MEANING.md, "Terms and tests")
     pub fn is_done<L: Ledger>(&self, owner: Owner, id: &Id, steps: &mut Steps<L>) -> bool
         ensures value { result ≡ is_done self.now.unit.now (V.seen self.now.view.now) owner id.now }
-        ensures cost { steps.new ≤ steps.old + length (done_looks self.now.unit.now owner id.now) }
+        ensures cost { steps.new ≤ steps.old + length (done_looks self.now.unit.now
+            (V.seen self.now.view.now) owner id.now) }
     {
         match cell_of_mark(self.unit, self.names, owner, id) {
             Some(cell) => says_yes(self.view, cell, steps),

@@ -11,14 +11,9 @@ use crate::arithmetic::{ListOperator, PairOperator};
 use crate::cells::{cell_of_property, thing_number};
 use crate::operand::Operand;
 use crate::scope::Scope;
-use ld_base::id::Id;
-use ld_base::memory::NoMemory;
-use ld_base::steps::Steps;
-use ld_model::cell::{CellName, Owner};
-use ld_model::expression::{Term, TermForm};
-use ld_model::view::View;
-use ld_value::kind::Kind;
-use ld_value::value::Value;
+use ld_base::{Id, NoMemory, Steps};
+use ld_model::{CellName, Owner, Term, TermForm, View};
+use ld_value::{Kind, Value};
 use std::alloc::Global;
 use std::sync::ledger::Ledger;
 
@@ -37,7 +32,8 @@ impl<'a, V: View> Scope<'a, V> {
             ≡ term_value self.now.unit.now (V.seen self.now.view.now) owner term.now) }
         ensures memory { OnErr result (option_map is_text_datum
             (term_value self.now.unit.now (V.seen self.now.view.now) owner term.now) ≡ Some true) }
-        ensures cost { steps.new ≤ steps.old + length (term_looks self.now.unit.now owner term.now) }
+        ensures cost { steps.new ≤ steps.old + length (term_looks self.now.unit.now
+            (V.seen self.now.view.now) owner term.now) }
     {
         match self.operand_of(owner, term, steps) {
             Some(operand) => Ok(Some(operand.into_value(alloc)?)),
@@ -56,7 +52,8 @@ impl<'a, V: View> Scope<'a, V> {
     ) -> Option<Operand<'t>>
         ensures value { option_map meant_by result
             ≡ term_value self.now.unit.now (V.seen self.now.view.now) owner term.now }
-        ensures cost { steps.new ≤ steps.old + length (term_looks self.now.unit.now owner term.now) }
+        ensures cost { steps.new ≤ steps.old + length (term_looks self.now.unit.now
+            (V.seen self.now.view.now) owner term.now) }
     {
         match &*term.form {
             TermForm::Property(id) => self.of_property(owner, id, steps),
@@ -93,7 +90,8 @@ impl<'a, V: View> Scope<'a, V> {
             ≡ term_value self.now.unit.now (V.seen self.now.view.now) owner
             (list_term (list_operator_of operator) (terms_from terms.now)) }
         ensures cost { steps.new
-            ≤ steps.old + length (terms_looks self.now.unit.now owner (terms_from terms.now)) }
+            ≤ steps.old + length (terms_looks self.now.unit.now
+            (V.seen self.now.view.now) owner (terms_from terms.now)) }
     {
         let (first, more) = terms.split_first()?;
         let mut total = self.operand_of(owner, first, steps)?;
@@ -117,7 +115,8 @@ impl<'a, V: View> Scope<'a, V> {
         ensures value { option_map meant_by result
             ≡ term_value self.now.unit.now (V.seen self.now.view.now) owner
             (pair_term (pair_operator_of operator) a.now b.now) }
-        ensures cost { steps.new ≤ steps.old + length (term_looks self.now.unit.now owner
+        ensures cost { steps.new ≤ steps.old + length (term_looks self.now.unit.now
+            (V.seen self.now.view.now) owner
             (pair_term (pair_operator_of operator) a.now b.now)) }
     {
         let first = self.operand_of(owner, a, steps)?;
@@ -135,7 +134,8 @@ impl<'a, V: View> Scope<'a, V> {
         ensures value { option_map meant_by result
             ≡ property_value self.now.unit.now (V.seen self.now.view.now) owner id.now }
         ensures cost { steps.new
-            ≤ steps.old + length (property_looks self.now.unit.now owner id.now) }
+            ≤ steps.old + length (property_looks self.now.unit.now
+            (V.seen self.now.view.now) owner id.now) }
     {
         let cell = cell_of_property(self.unit, self.names, owner, id)?;
         of_cell(self.view, cell, steps)

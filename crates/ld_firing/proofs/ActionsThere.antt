@@ -1,5 +1,6 @@
 -- That in a unit in which no check finds a fault each cell that a firing writes is one of the run.
-use Rattle.std.proofs.Common.{◌≡◌, refl, sym, ap, subst, ◌∙◌, ℕ, ◌+◌, ◌<◌, inl, inr, List, [], ◌∷◌, ◌++◌, map, flat_map, slice_get, Option, Some, None, Bool, true, false, codes, arith, Contains}
+use Rattle.std.proofs.Common.{◌≡◌, refl, sym, ap, subst, ◌∙◌, ℕ, ◌+◌, ◌<◌, inl, inr, List, [], ◌∷◌, ◌++◌, map, flat_map, slice_get, Option, Some, None, Bool, true, false, codes, Contains}
+use Rattle.std.specs.Option.{option_map_or}
 use Rattle.ld_base.specs.Maybe.{◌>>=◌}
 use Rattle.ld_base.specs.Numbers.{numbers_below}
 use Rattle.ld_json.specs.declared.file.FileNo.TheVariants as file
@@ -17,7 +18,6 @@ use Rattle.ld_model.specs.declared.method.Act.{Act as ActOf}
 use Rattle.ld_model.specs.declared.method.Play.{Play as PlayOf}
 use Rattle.ld_model.specs.declared.property.Property.{Property}
 use Rattle.ld_model.specs.declared.unit.Unit.{Unit}
-use Rattle.ld_model.specs.Properties.{is_personal}
 use Rattle.ld_walk.specs.CommonParts.{references_parts}
 use Rattle.ld_walk.specs.ExpressionParts.{test_parts}
 use Rattle.ld_walk.specs.Kinds.{allows, has_visibility}
@@ -28,33 +28,36 @@ use Rattle.ld_walk.specs.declared.kind.Kind.TheVariants as kind
 use Rattle.ld_walk.specs.declared.kind.Wanted.TheVariants as wanted
 use Rattle.ld_walk.specs.declared.place.Place.TheVariants.{Act}
 use Rattle.ld_parts.specs.Listing.{condition_parts_at, action_parts, nth_action_parts}
+use Rattle.ld_names.specs.Holders.{holder_of, is_held_by_persons}
+use Rattle.ld_names.specs.declared.holder.Holder.{Holder}
+use Rattle.ld_names.specs.declared.holder.Holder.TheVariants.{Run as HeldByRun, Persons as HeldByPersons}
 use Rattle.ld_names.specs.declared.names.Named.{Named}
 use Rattle.ld_names.specs.declared.names.Named.TheVariants.{Role, Thing, Prop, Unit as Whole}
 use Rattle.ld_names.specs.declared.rule.Rule.{Rule}
 use Rattle.ld_names.specs.declared.rule.Rule.TheVariants.{CompletesActivity, CompletesStructure, OpensAct, CompletesPart, CompletesAct, CompletesPlay, CompletesUnit, JudgesCondition}
 use Rattle.ld_names.specs.Names.{names_of, named_by, thing_number}
-use Rattle.ld_names.specs.Rules.{Site, kind_of, rules_of, sites_of, sites_of_rule}
+use Rattle.ld_names.specs.Rules.{Site, is_for_persons, kind_of, sites_of}
 use Rattle.ld_types.specs.Types.{property_at, property_named, is_person's}
 use Rattle.ld_refs.specs.Extents.{act_at, play_at}
 use Rattle.ld_refs.specs.Targets.{kind_by, nth_target_fault}
-use Rattle.ld_expr.specs.Lookup.{is_some_and, list_from, property_among}
-use Rattle.ld_expr.specs.Owners.{of_person, is_for_persons}
+use Rattle.ld_expr.specs.Lookup.{list_from, property_among}
+use Rattle.ld_expr.specs.Owners.{of_person}
 use Rattle.ld_expr.specs.Seen.{visibility_cell, act_opened_cell, mark_cell}
 use Rattle.ld_state.specs.RunCells.{is_act_place}
 use Rattle.ld_firing.specs.ActionCells.{HasSlots, visible_cells, change_cells, all_change_cells, action_cells, actions_cells, opened_act_cells, firing_cells}
-use Rattle.ld_firing.specs.Actions.{actions_in, actions_if, branch_of, actions_of, is_of_persons, owners_of_change}
+use Rattle.ld_firing.specs.Actions.{actions_in, actions_if, branch_of, actions_of, holder_named, owners_of_change}
 use Rattle.ld_rules.specs.SiteTests.{rule_of}
-use Rattle.ld_state.proofs.Elements.{IsIn, in_either, in_right, in_each, in_from_contains, is_below, from_flat_map, from_map, from_numbered, nothing_of_each, some_same, different, stands_in}
+use Rattle.ld_state.proofs.Elements.{IsIn, in_either, in_right, in_each, is_below, from_flat_map, from_map, nothing_of_each, some_same, different, stands_in}
 use Rattle.ld_firing.proofs.CellsThere.{AreCells, both_are_cells, one_is_cell, mark_there, opening_there, visibility_there}
 use Rattle.ld_firing.proofs.LooksThere.{no_cells}
-use Rattle.ld_firing.proofs.Named.{thing_number_is, property_looks_there, run_property_looks_there}
+use Rattle.ld_firing.proofs.Named.{held_as, thing_number_is, property_looks_there, run_property_looks_there}
 use Rattle.ld_firing.proofs.MetChecks.{AreMet, met_left, met_right, MeetsChecks, IsAllowed, allowed_by, NamesSuch, thing_of_kind, condition_listed}
 use Rattle.ld_firing.proofs.ChecksMet.{checks_met}
 use Rattle.ld_firing.proofs.SlotsThere.{slots_there}
 use Rattle.ld_refs.specs.Checks.{IsValid}
 use Rattle.ld_names.proofs.Shown.{thing_shown}
 use Rattle.ld_firing.proofs.RulesThere.{act_of, act_is}
-use Rattle.ld_firing.proofs.Sites.{IsOwner, a_person, the_run, of_rule}
+use Rattle.ld_firing.proofs.Sites.{IsOwner, a_person, the_run, rule_listed}
 
 -- ---- cells of lists
 
@@ -68,15 +71,17 @@ each_there unit persons cells xs each c inside =
 -- ---- changes
 
 -- Whether each person has a value of the property that is named.
-same_persons : (unit : Unit) (id : List ℕ) → is_of_persons unit id ≡ is_person's (property_named unit (names_of unit) id)
+same_persons : (unit : Unit) (id : List ℕ)
+    → is_held_by_persons (holder_named unit id) ≡ is_person's (property_named unit (names_of unit) id)
 same_persons unit id = by (named_by (names_of unit) id)
   where
-    of_property : (property : Option Property) → is_some_and (λ one. is_personal one.kind) property ≡ is_person's property
+    of_property : (property : Option Property)
+        → is_held_by_persons (option_map_or (holder_of unit) property HeldByRun) ≡ is_person's property
     of_property None = refl
-    of_property (Some property) = refl
+    of_property (Some property) = held_as property.kind
 
     by : (named : Option Named)
-        → is_some_and (λ one. is_personal one.kind) ((named >>= property_among) >>= slice_get unit.properties)
+        → is_held_by_persons (option_map_or (holder_of unit) ((named >>= property_among) >>= slice_get unit.properties) HeldByRun)
         ≡ is_person's (named >>= property_at unit)
     by None = refl
     by (Some Whole) = refl
@@ -89,36 +94,32 @@ module _ (unit : Unit) (persons : ℕ) where
       → AreCells unit persons (change_cells unit change (of_person p))
   person_change_there p change below = property_looks_there unit persons p change.property below
 
-  run_change_there : (change : ChangeOf) → is_of_persons unit change.property ≡ false
-      → AreCells unit persons (change_cells unit change Run)
-  run_change_there change run =
+  one_change_there : {own : Bool} (owner : Owner) (change : ChangeOf) → IsOwner persons own owner
+      → is_held_by_persons (holder_named unit change.property) ≡ false
+      → AreCells unit persons (change_cells unit change owner)
+  one_change_there owner change (a_person p below) run = person_change_there p change below
+  one_change_there owner change the_run run =
       run_property_looks_there unit persons change.property (sym (same_persons unit change.property) ∙ run)
+
+  alone_there : (owner : Owner) (change : ChangeOf) → AreCells unit persons (change_cells unit change owner)
+      → AreCells unit persons (flat_map (change_cells unit change) (owner ∷ []))
+  alone_there owner change there =
+      both_are_cells unit persons (change_cells unit change owner) [] there (no_cells unit persons)
 
   change_there : {own : Bool} (owner : Owner) (change : ChangeOf) → IsOwner persons own owner
       → AreCells unit persons (all_change_cells unit persons owner change)
-  change_there owner change (a_person p below) =
-      each_there unit persons (change_cells unit change) (of_person p ∷ []) one_owner
+  change_there owner change owned = by (holder_named unit change.property) refl owner owned
     where
-      one_owner : (one : Owner) → IsIn (of_person p ∷ []) one → AreCells unit persons (change_cells unit change one)
-      one_owner one (inl is) =
-          subst (λ o. AreCells unit persons (change_cells unit change o)) is (person_change_there p change below)
-      one_owner one (inr later) = absurd later
-  change_there owner change the_run = by (is_of_persons unit change.property) refl
-    where
-      run_alone : is_of_persons unit change.property ≡ false → (one : Owner) → IsIn (Run ∷ []) one
-          → AreCells unit persons (change_cells unit change one)
-      run_alone run one (inl is) =
-          subst (λ o. AreCells unit persons (change_cells unit change o)) is (run_change_there change run)
-      run_alone run one (inr later) = absurd later
-
-      by : (own : Bool) → is_of_persons unit change.property ≡ own
-          → AreCells unit persons (flat_map (change_cells unit change) (owners_of_change persons Run own))
-      by true is =
+      by : (holder : Holder) → holder_named unit change.property ≡ holder
+          → {own : Bool} (one : Owner) → IsOwner persons own one
+          → AreCells unit persons (flat_map (change_cells unit change) (owners_of_change holder persons one))
+      by HeldByRun is one owned = alone_there one change (one_change_there one change owned (ap is_held_by_persons is))
+      by HeldByPersons is one (a_person p below) = alone_there one change (person_change_there p change below)
+      by HeldByPersons is one the_run =
           each_there unit persons (change_cells unit change) (map of_person (numbers_below persons))
-          (λ one inside. let from = from_map of_person (numbers_below persons) one inside in
+          (λ other inside. let from = from_map of_person (numbers_below persons) other inside in
           subst (λ o. AreCells unit persons (change_cells unit change o)) from.is
           (person_change_there from.element change (is_below persons from.element from.inside)))
-      by false is = each_there unit persons (change_cells unit change) (Run ∷ []) (run_alone is)
 
   -- ---- what is shown and hidden
 
@@ -271,23 +272,6 @@ module _ (unit : Unit) (persons : ℕ) where
   opening_cell_there meets (JudgesCondition _) = no_cells unit persons
 
 -- ---- sites
-
--- The rule of a site of a run, whose owner the run has.
-pub record HasRule (unit : Unit) (persons : ℕ) (site : Site) : Type 0 where
-  pub rule : Rule
-  pub ruled : rule_of unit site ≡ Some rule
-  pub owned : IsOwner persons (is_for_persons (kind_of rule)) site.owner
-
-pub rule_listed : (unit : Unit) (persons : ℕ) (site : Site) → Contains (sites_of unit persons) site
-    → HasRule unit persons site
-rule_listed unit persons site there =
-    let by = from_numbered (sites_of_rule persons) (rules_of unit) 0 site (in_from_contains (sites_of unit persons) site there) in
-    let mine = of_rule persons (0 + by.number) (kind_of by.element) site by.inside in
-    record {
-      rule = by.element;
-      ruled = ap (slice_get (rules_of unit)) mine.number ∙ ap (slice_get (rules_of unit)) (omega arith) ∙ by.at;
-      owned = mine.owned;
-    }
 
 -- A run has each cell that the firing of one of its sites writes.
 pub firing_there : (unit : Unit) (persons : ℕ) → MeetsChecks unit → (site : Site) (rule : Rule) (verdict : Bool)

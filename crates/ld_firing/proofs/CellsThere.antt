@@ -1,8 +1,7 @@
 -- Which cells a run has, by what they are cells of.
-use Rattle.std.proofs.Common.{◌≡◌, refl, ap, subst, ℕ, ◌<◌, inl, inr, List, [], ◌∷◌, ◌++◌, length, map, flat_map, slice_get, Some, Bool, true, false, not, is_some}
+use Rattle.std.proofs.Common.{◌≡◌, refl, sym, ap, subst, ℕ, ◌<◌, inl, inr, List, [], ◌∷◌, ◌++◌, length, map, flat_map, slice_get, Some, Bool, true, false, is_some}
 use Rattle.ld_base.specs.Numbers.{numbers_below}
 use Rattle.ld_model.specs.Counting.{each_numbered}
-use Rattle.ld_model.specs.Properties.{is_personal}
 use Rattle.ld_model.specs.Roles.{roles_of}
 use Rattle.ld_model.specs.declared.cell.CellName.{CellName}
 use Rattle.ld_model.specs.declared.cell.CellName.TheVariants.{Started, Now, Roster}
@@ -11,15 +10,20 @@ use Rattle.ld_model.specs.declared.cell.Owner.TheVariants.{Run}
 use Rattle.ld_model.specs.declared.property.Property.{Property}
 use Rattle.ld_model.specs.declared.unit.Unit.{Unit}
 use Rattle.ld_names.specs.declared.rule.Rule.{Rule}
-use Rattle.ld_names.specs.Rules.{rules_of, kind_of}
+use Rattle.ld_names.specs.Rules.{rules_of, kind_of, is_for_persons, is_for_run}
 use Rattle.ld_names.specs.Things.{Entry, things_of}
-use Rattle.ld_expr.specs.Owners.{of_person, is_for_persons}
+use Rattle.ld_names.specs.Holders.{holder_of, is_held_by_persons, is_held_by_run}
+use Rattle.ld_names.specs.declared.holder.Holder.{Holder}
+use Rattle.ld_names.specs.declared.holder.Holder.TheVariants.{Run as HeldByRun, Persons as HeldByPersons}
+use Rattle.ld_names.specs.declared.rule.RuleKind.{RuleKind}
+use Rattle.ld_names.specs.declared.rule.RuleKind.TheVariants.{Person as OfPerson, Run as OfRun}
+use Rattle.ld_expr.specs.Owners.{of_person}
 use Rattle.ld_expr.specs.Seen.{property_cell, visibility_cell, member_cell, chosen_cell, opened_cell, act_opened_cell, mark_cell}
 use Rattle.ld_state.specs.RunCells.{cell_if, is_act_place, is_activity_place, run_property_cells, opening_cells, run_mark_cells, run_cells, own_property_cells, own_thing_cells, own_mark_cells, person_cells, all_cells}
-use Rattle.ld_state.proofs.Elements.{IsIn, in_left, in_right, in_map, in_flat_map, in_below, in_each}
+use Rattle.ld_state.proofs.Elements.{IsIn, in_left, in_right, in_map, in_flat_map, in_below, in_each, different}
 use Rattle.ld_firing.proofs.Sites.{IsOwner, a_person, the_run}
 
--- A run of so many persons has all cells of the list.
+-- A run of this many persons has all cells of the list.
 abbrev pub AreCells : Unit → ℕ → List CellName → Type 0
 AreCells unit persons cells = (c : CellName) → IsIn cells c → IsIn (all_cells unit persons) c
 
@@ -39,9 +43,19 @@ listed : (there : Bool) (cell : CellName) → there ≡ true → IsIn (cell_if t
 listed true cell is = inl refl
 listed false cell is = absurd (cc)
 
+-- What no person has the run has.
+held_by_run : (holder : Holder) → is_held_by_persons holder ≡ false → is_held_by_run holder ≡ true
+held_by_run HeldByRun is = refl
+held_by_run HeldByPersons is = different is
+
+-- A rule that is for no person is one for the run.
+pub for_run : (kind : RuleKind) → is_for_persons kind ≡ false → OfRun ≡ kind
+for_run OfRun is = refl
+for_run OfPerson is = different is
+
 module _ (unit : Unit) (persons : ℕ) where
   abbrev values : List CellName
-  values = each_numbered run_property_cells unit.properties
+  values = each_numbered (run_property_cells unit) unit.properties
 
   abbrev openings : List CellName
   openings = each_numbered opening_cells (things_of unit)
@@ -69,18 +83,18 @@ module _ (unit : Unit) (persons : ℕ) where
 
   -- A cell of a property, of the run or of a person.
   pub value_there : (n : ℕ) (property : Property) (owner : Owner) → slice_get unit.properties n ≡ Some property
-      → (own : Bool) → is_personal property.kind ≡ own → IsOwner persons own owner
+      → (own : Bool) → is_held_by_persons (holder_of unit property) ≡ own → IsOwner persons own owner
       → IsIn (all_cells unit persons) (property_cell n owner)
   value_there n property owner at own is (a_person p below) =
       of_one p below (property_cell n (of_person p))
-      (in_left (each_numbered (own_property_cells p) unit.properties) _ (property_cell n (of_person p))
-      (in_each (own_property_cells p) unit.properties n property (property_cell n (of_person p)) at
-      (listed (is_personal property.kind) (property_cell n (of_person p)) is)))
+      (in_left (each_numbered (own_property_cells unit p) unit.properties) _ (property_cell n (of_person p))
+      (in_each (own_property_cells unit p) unit.properties n property (property_cell n (of_person p)) at
+      (listed (is_held_by_persons (holder_of unit property)) (property_cell n (of_person p)) is)))
   value_there n property owner at own is the_run =
       of_run (property_cell n Run)
       (inr (inr (inr (in_left values (openings ++ marks) (property_cell n Run)
-      (in_each run_property_cells unit.properties n property (property_cell n Run) at
-      (listed (not (is_personal property.kind)) (property_cell n Run) (ap not is)))))))
+      (in_each (run_property_cells unit) unit.properties n property (property_cell n Run) at
+      (listed (is_held_by_run (holder_of unit property)) (property_cell n Run) (held_by_run (holder_of unit property) is)))))))
 
   -- A mark of a rule, of the run or of a person.
   pub mark_there : (n : ℕ) (rule : Rule) (owner : Owner) → slice_get (rules_of unit) n ≡ Some rule
@@ -88,7 +102,7 @@ module _ (unit : Unit) (persons : ℕ) where
       → IsIn (all_cells unit persons) (mark_cell n owner)
   mark_there n rule owner at own is (a_person p below) =
       of_one p below (mark_cell n (of_person p))
-      (in_right (each_numbered (own_property_cells p) unit.properties) _ (mark_cell n (of_person p))
+      (in_right (each_numbered (own_property_cells unit p) unit.properties) _ (mark_cell n (of_person p))
       (in_right (each_numbered (own_thing_cells p) (things_of unit)) _ (mark_cell n (of_person p))
       (in_right (map (λ role. member_cell role p) (numbers_below (length (roles_of unit)))) _ (mark_cell n (of_person p))
       (in_each (own_mark_cells p) (rules_of unit) n rule (mark_cell n (of_person p)) at
@@ -98,14 +112,14 @@ module _ (unit : Unit) (persons : ℕ) where
       (inr (inr (inr (in_right values (openings ++ marks) (mark_cell n Run)
       (in_right openings marks (mark_cell n Run)
       (in_each run_mark_cells (rules_of unit) n rule (mark_cell n Run) at
-      (listed (not (is_for_persons (kind_of rule))) (mark_cell n Run) (ap not is))))))))
+      (listed (is_for_run (kind_of rule)) (mark_cell n Run) (ap is_for_run (sym (for_run (kind_of rule) is))))))))))
 
   -- Whether a person is a member of a role.
   pub member_there : (r p : ℕ) → r < length (roles_of unit) → p < persons
       → IsIn (all_cells unit persons) (member_cell r p)
   member_there r p role below =
       of_one p below (member_cell r p)
-      (in_right (each_numbered (own_property_cells p) unit.properties) _ (member_cell r p)
+      (in_right (each_numbered (own_property_cells unit p) unit.properties) _ (member_cell r p)
       (in_right (each_numbered (own_thing_cells p) (things_of unit)) _ (member_cell r p)
       (in_left (map (λ r. member_cell r p) (numbers_below (length (roles_of unit)))) _ (member_cell r p)
       (in_map (λ r. member_cell r p) (numbers_below (length (roles_of unit))) r (in_below (length (roles_of unit)) r role)))))
@@ -114,7 +128,7 @@ module _ (unit : Unit) (persons : ℕ) where
       → (c : CellName) → IsIn (own_thing_cells p n entry) c → IsIn (all_cells unit persons) c
   of_thing n entry p at below c inside =
       of_one p below c
-      (in_right (each_numbered (own_property_cells p) unit.properties) _ c
+      (in_right (each_numbered (own_property_cells unit p) unit.properties) _ c
       (in_left (each_numbered (own_thing_cells p) (things_of unit)) _ c
       (in_each (own_thing_cells p) (things_of unit) n entry c at inside)))
 

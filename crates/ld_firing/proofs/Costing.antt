@@ -11,16 +11,16 @@ use Rattle.ld_model.specs.declared.condition.Action.{Action}
 use Rattle.ld_model.specs.declared.condition.Action.TheVariants.{Show, Hide, Change, Notify}
 use Rattle.ld_model.specs.declared.unit.Unit.{Unit}
 use Rattle.ld_roles.specs.Kept.{persons_of}
-use Rattle.ld_firing.specs.Actions.{actions_if, is_of_persons, owners_of_change}
+use Rattle.ld_firing.specs.Actions.{actions_if, holder_named, owners_of_change}
 use Rattle.ld_firing.specs.Costs.{action_cost, term_leaves}
 use Rattle.ld_state.specs.RunState.{RunState}
 use Rattle.ld_state.specs.StateView.{StateView, run_of}
 use Rattle.ld_state.proofs.SeenSame.{persons_counted}
 
 pub change_costs : (unit : Unit) (s : RunState) (owner : Owner) (change : ChangeOf) (n : ℕ) → n ≡ length s.persons
-    → (term_leaves change.value + 2) * length (owners_of_change n owner (is_of_persons unit change.property)) ≡ action_cost unit s owner (Change change)
+    → (term_leaves change.value + 2) * length (owners_of_change (holder_named unit change.property) n owner) ≡ action_cost unit s owner (Change change)
 change_costs unit s owner change n same =
-    ap (λ m. (term_leaves change.value + 2) * length (owners_of_change m owner (is_of_persons unit change.property))) same
+    ap (λ m. (term_leaves change.value + 2) * length (owners_of_change (holder_named unit change.property) m owner)) same
 
 pub notice_costs : (unit : Unit) (s : RunState) (owner : Owner) (notice : Notice) (n : ℕ) → n ≡ length s.persons
     → n * length notice.roles + 1 ≡ action_cost unit s owner (Notify notice)

@@ -7,7 +7,6 @@ use Rattle.ld_value.specs.Datum.{Datum, text_datum, truth_datum, number_datum, m
 use Rattle.ld_value.specs.Values.{is_value, is_text, is_uri, fits_in}
 use Rattle.ld_value.specs.declared.kind.Kind.{Kind}
 use Rattle.ld_value.specs.declared.kind.Kind.TheVariants as kind
-use Rattle.ld_model.specs.Properties.{is_personal}
 use Rattle.ld_model.specs.declared.cell.CellName.{CellName}
 use Rattle.ld_model.specs.declared.cell.CellName.TheVariants.{Prop, Vis, Member, Chosen, Opened, ActOpened, Started, Mark, Now, Roster}
 use Rattle.ld_model.specs.declared.cell.Owner.{Owner}
@@ -20,8 +19,9 @@ use Rattle.ld_model.specs.declared.unit.Unit.{Unit}
 use Rattle.ld_names.specs.declared.rule.Rule.{Rule}
 use Rattle.ld_names.specs.Names.{thing_number}
 use Rattle.ld_names.specs.Rules.{Site}
+use Rattle.ld_names.specs.Holders.{holder_of}
 use Rattle.ld_expr.specs.Lookup.{is_some_and, property_number}
-use Rattle.ld_expr.specs.Owners.{owner_of, fits_property}
+use Rattle.ld_expr.specs.Owners.{fits_property, value_owner}
 use Rattle.ld_expr.specs.Seen.{property_cell, visibility_cell, act_opened_cell}
 use Rattle.ld_expr.specs.Terms.{term_value, cell_of_property}
 use Rattle.ld_firing.specs.Actions.{Doing, nothing_done, with_write, with_change, if_fitting, change_for, targets_of, do_change, notice_now, with_visible, set_visible, do_action, actions_of, opened_by, with_opening, rule_effect, firing_by, site_firing}
@@ -85,7 +85,7 @@ fitting_is_value property value fits = (both_parts (is_value property.datatype v
 abbrev cell_by : Unit → Owner → Option ℕ → Option CellName
 cell_by unit owner number =
     number >>= λ n. slice_get unit.properties n >>= λ property. Some
-    (property_cell n (owner_of (is_personal property.kind) owner))
+    (property_cell n (value_owner (holder_of unit property) owner))
 
 abbrev fitting_by : Unit → Option ℕ → Datum → Option Datum
 fitting_by unit number value =
@@ -106,12 +106,12 @@ fair_value unit s n owner property value v at true fits is = record {
 
 fair_property : (unit : Unit) (s : RunState) (n : ℕ) (owner : Owner) (value v : Datum) (c : CellName) (found : Option Property)
     → slice_get unit.properties n ≡ found
-    → (found >>= λ property. Some (property_cell n (owner_of (is_personal property.kind) owner))) ≡ Some c
+    → (found >>= λ property. Some (property_cell n (value_owner (holder_of unit property) owner))) ≡ Some c
     → (found >>= λ property. provided (fits_property property value) value) ≡ Some v → IsFair unit s c (Some v)
 fair_property unit s n owner value v c None at cell fits = none_is_some cell
 fair_property unit s n owner value v c (Some property) at cell fits =
     subst (λ name. IsFair unit s name (Some v)) (some_same cell)
-    (fair_value unit s n (owner_of (is_personal property.kind) owner) property value v at
+    (fair_value unit s n (value_owner (holder_of unit property) owner) property value v at
     (fits_property property value) refl fits)
 
 fair_by : (unit : Unit) (s : RunState) (owner : Owner) (number : Option ℕ) (value : Option Datum) (c : CellName) (v : Datum)

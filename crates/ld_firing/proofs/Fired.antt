@@ -19,7 +19,7 @@ use Rattle.ld_state.specs.RunCells.{slot_of}
 use Rattle.ld_state.specs.RunState.{RunState, seen_in}
 use Rattle.ld_state.specs.StateView.{StateView, run_of}
 use Rattle.ld_state.proofs.Elements.{different}
-use Rattle.ld_firing.proofs.ActionsThere.{rule_listed}
+use Rattle.ld_firing.proofs.Sites.{rule_listed}
 use Rattle.ld_firing.proofs.Firings.{firing_enrolment}
 use Rattle.ld_firing.proofs.Progressing.{done_at_all, fired_is}
 

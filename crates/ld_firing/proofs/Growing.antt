@@ -1,24 +1,22 @@
 -- That sites and slots keep their numbers when persons join.
-use Rattle.std.proofs.Common.{◌≡◌, refl, sym, ap, ap₂, subst, ◌∙◌, ℕ, zero, suc, ◌+◌, ◌-◌, ◌≤◌, inl, inr, List, [], ◌∷◌, ◌++◌, append_assoc, flat_map, filter_map, length, slice_get, Option, Some, Bool, true, false, Contains, arith}
+use Rattle.std.proofs.Common.{◌≡◌, refl, sym, ap, ap₂, subst, ◌∙◌, ℕ, zero, suc, ◌+◌, ◌-◌, ◌≤◌, inl, inr, List, [], ◌∷◌, ◌++◌, append_assoc, flat_map, filter_map, length, map, slice_get, Option, Some, Contains, arith}
 use Rattle.std.proofs.lemmas.Grind.{flat_map-append}
 use Rattle.std.specs.List.{cons_option, range_with_len}
 use Rattle.ld_base.specs.Numbers.{numbers_below}
 use Rattle.ld_model.specs.declared.cell.CellName.{CellName}
-use Rattle.ld_model.specs.declared.cell.Owner.{Owner}
 use Rattle.ld_model.specs.declared.unit.Unit.{Unit}
-use Rattle.ld_names.specs.declared.rule.Rule.{Rule}
 use Rattle.ld_names.specs.declared.rule.RuleKind.{RuleKind}
 use Rattle.ld_names.specs.declared.rule.RuleKind.TheVariants.{Person as OfPerson, Run as OfRun}
-use Rattle.ld_names.specs.Rules.{Site, kind_of, rules_of, sites_of}
-use Rattle.ld_expr.specs.Owners.{is_for_persons}
+use Rattle.ld_names.specs.Rules.{Site, kind_of, person_site, rules_of, sites_by_kind, sites_of, sites_of_rule}
+use Rattle.ld_names.specs.SiteNumbers.{site_number}
 use Rattle.ld_state.specs.RunCells.{all_cells, person_cells, run_cells, slot_of}
 use Rattle.ld_state.specs.RunState.{RunState}
 use Rattle.ld_state.proofs.Cells.{slot_stands}
-use Rattle.ld_state.proofs.Elements.{IsIn, different, none_is_some, stands_in}
-use Rattle.ld_firing.specs.RunSystem.{site_at, site_number}
+use Rattle.ld_state.proofs.Elements.{IsIn, from_each, from_map, in_below, in_from_contains, in_map, is_below, none_is_some, stands_in}
+use Rattle.ld_firing.specs.RunSystem.{site_at}
 use Rattle.ld_firing.specs.SiteWalk.{HasSeats}
-use Rattle.ld_firing.proofs.Sites.{IsOwner, a_person, the_run, site_found}
-use Rattle.ld_firing.proofs.SitesNumbered.{person_site_there, run_site_there, site_numbered}
+use Rattle.ld_firing.proofs.Sites.{site_found}
+use Rattle.ld_firing.proofs.SitesNumbered.{site_numbered, site_of_rule_there}
 
 -- ---- lists
 
@@ -73,41 +71,29 @@ slot_stays unit n m c grown there =
 
 -- ---- sites
 
-for_persons : (kind : RuleKind) → true ≡ is_for_persons kind → OfPerson ≡ kind
-for_persons OfPerson is = refl
-for_persons OfRun is = different is
+kind_grows : (n m number : ℕ) (kind : RuleKind) (site : Site) → n ≤ m → IsIn (sites_by_kind n number kind) site → IsIn (sites_by_kind m number kind) site
+kind_grows n m number OfPerson site grown inside =
+    let by = from_map (person_site number) (numbers_below n) site inside in
+    subst (IsIn (map (person_site number) (numbers_below m))) by.is
+    (in_map (person_site number) (numbers_below m) by.element (in_below m by.element (omega (arith, is_below n by.element by.inside, grown))))
+kind_grows n m number OfRun site grown inside = inside
 
-for_run : (kind : RuleKind) → false ≡ is_for_persons kind → OfRun ≡ kind
-for_run OfPerson is = different (sym is)
-for_run OfRun is = refl
+-- A site of a run is one of a run with more persons.
+pub sites_grow : (unit : Unit) (n m : ℕ) (site : Site) → n ≤ m → Contains (sites_of unit n) site → Contains (sites_of unit m) site
+sites_grow unit n m site grown there =
+    let by = from_each (sites_of_rule n) (rules_of unit) site (in_from_contains (sites_of unit n) site there) in
+    site_of_rule_there unit m by.number by.element site by.at (kind_grows n m by.number (kind_of by.element) site grown by.inside)
 
--- Where the run had the owner, it has the site of a rule for that owner.
-still_there : (unit : Unit) (n m number : ℕ) (rule : Rule) (own : Bool) (owner : Owner) → n ≤ m
-    → slice_get (rules_of unit) number ≡ Some rule → own ≡ is_for_persons (kind_of rule) → IsOwner n own owner
-    → Contains (sites_of unit m) (record { rule = number; owner = owner })
-still_there unit n m number rule own owner grown at is (a_person p below) =
-    person_site_there unit m number rule p at (for_persons (kind_of rule) is) (omega (arith, below, grown))
-still_there unit n m number rule own owner grown at is the_run =
-    run_site_there unit m number rule at (for_run (kind_of rule) is)
+-- Where another run with as many seats has the site too, it is there the one of its number.
+pub site_is_there : (unit : Unit) (s t : RunState) (i : ℕ) (site : Site) → s.seats ≡ t.seats → HasSeats t
+    → Contains (sites_of unit (length t.persons)) site → site_at unit s i ≡ Some site → site_at unit t i ≡ Some site
+site_is_there unit s t i site seats seated there at =
+    let number : site_number unit t.seats site ≡ i = ap (λ n. site_number unit n site) (sym seats) ∙ (site_found unit s i site at).number in
+    subst (λ n. site_at unit t n ≡ Some site) number (site_numbered unit t site seated there)
 
 -- A number stays that of its site.
 pub site_stays : (unit : Unit) (s t : RunState) (i : ℕ) (site : Site) → s.seats ≡ t.seats
     → length s.persons ≤ length t.persons → HasSeats t → site_at unit s i ≡ Some site → site_at unit t i ≡ Some site
 site_stays unit s t i site seats grown seated at =
-    let has = site_found unit s i site at in
-    let number : site_number t.seats site ≡ i = ap (λ n. site_number n site) (sym seats) ∙ has.number in
-    subst (λ n. site_at unit t n ≡ Some site) number
-    (site_numbered unit t site seated
-    (still_there unit (length s.persons) (length t.persons) site.rule has.rule (is_for_persons (kind_of has.rule)) site.owner grown has.ruled refl has.owned))
-
--- A site whose owner the run had before is a site that it had.
-pub site_was : (unit : Unit) (s t : RunState) (i : ℕ) (site : Site) → s.seats ≡ t.seats → HasSeats s
-    → site_at unit t i ≡ Some site → ((own : Bool) → IsOwner (length t.persons) own site.owner → IsOwner (length s.persons) own site.owner)
-    → site_at unit s i ≡ Some site
-site_was unit s t i site seats seated at owned =
-    let has = site_found unit t i site at in
-    let number : site_number s.seats site ≡ i = ap (λ n. site_number n site) seats ∙ has.number in
-    subst (λ n. site_at unit s n ≡ Some site) number
-    (site_numbered unit s site seated
-    (still_there unit (length s.persons) (length s.persons) site.rule has.rule (is_for_persons (kind_of has.rule)) site.owner
-    (omega arith) has.ruled refl (owned (is_for_persons (kind_of has.rule)) has.owned)))
+    site_is_there unit s t i site seats seated
+    (sites_grow unit (length s.persons) (length t.persons) site grown (site_found unit s i site at).there) at

@@ -1,5 +1,5 @@
 -- The laws of the system of a unit's runs, but for the last three, one by one.
-use Rattle.std.proofs.Common.{◌≡◌, refl, sym, ap, ap₂, subst, ◌∙◌, ℕ, ◌+◌, ◌*◌, ◌<◌, ◌⊎◌, inl, inr, List, [], length, slice_get, Option, Some, None, Bool, true, false, is_some, nat_eq, Contains, pos, arith}
+use Rattle.std.proofs.Common.{◌≡◌, refl, sym, ap, ap₂, subst, ◌∙◌, ℕ, ◌<◌, ◌⊎◌, inl, inr, List, [], length, slice_get, Option, Some, None, Bool, true, false, is_some, nat_eq, Contains, pos, arith}
 use mathlib.Core.Path.{fun_ext}
 use Rattle.std.proofs.lemmas.Bool.{eqb-true}
 use Rattle.std.specs.Option.{option_map_or}
@@ -10,13 +10,14 @@ use Rattle.ld_model.specs.Cells.{same_cell, same_owner}
 use Rattle.ld_model.specs.declared.cell.CellName.{CellName}
 use Rattle.ld_model.specs.declared.cell.CellName.TheVariants.{Prop, Vis, Member, Chosen, Opened, ActOpened, Started, Mark, Now, Roster}
 use Rattle.ld_model.specs.declared.unit.Unit.{Unit}
-use Rattle.ld_names.specs.Rules.{Site, rules_of}
+use Rattle.ld_names.specs.Rules.{Site}
 use Rattle.ld_expr.specs.Lookup.{list_from}
 use Rattle.ld_roles.specs.Roster.{Persons}
 use Rattle.ld_firing.specs.Actions.{Doing, nothing_done, site_firing}
 use Rattle.ld_state.specs.RunCells.{all_cells, slot_of, suits_cell}
 use Rattle.ld_state.specs.RunState.{RunState, seen_in, cell_of, membership_of}
-use Rattle.ld_firing.specs.RunSystem.{owner_number, site_number, site_at, slots_named, Enrolment, IsSoundRun, verdict_in, firing_at, run_system}
+use Rattle.ld_names.specs.SiteNumbers.{site_count, site_number}
+use Rattle.ld_firing.specs.RunSystem.{site_at, slots_named, Enrolment, IsSoundRun, verdict_in, firing_at, run_system}
 use Rattle.ld_rules.specs.SiteLooks.{site_looks, open_looks}
 use Rattle.ld_rules.specs.SiteTests.{site_test, site_mark}
 use Rattle.ld_rules.proofs.Alike.{AgreeOnPersons, AreCounted}
@@ -107,7 +108,7 @@ module _ (unit : Unit) where
 
   pub keeps_count : (s : RunState) (i : ℕ) → MayFire (run_system unit) s i
       → (run_system unit).count (after s i) ≡ (run_system unit).count s
-  keeps_count s i may = ap (λ n. length (rules_of unit) * n) (enrolled s i).seats
+  keeps_count s i may = ap (site_count unit) (enrolled s i).seats
 
   pub keeps_slots : (s : RunState) (i : ℕ) → MayFire (run_system unit) s i
       → (run_system unit).slots (after s i) ≡ (run_system unit).slots s
@@ -185,8 +186,8 @@ module _ (unit : Unit) where
       ∙ ap Some (sym (said_of unit s i site (site_test unit (seen_in unit s)) false found.1))
 
   -- Sites of two numbers have two marks.
-  two_marks : (s : RunState) (i j : ℕ) (site other : Site) → site_number s.seats site ≡ i
-      → site_number s.seats other ≡ j → (j ≡ i → ⊥) → same_cell (site_mark other) (site_mark site) ≡ false
+  two_marks : (s : RunState) (i j : ℕ) (site other : Site) → site_number unit s.seats site ≡ i
+      → site_number unit s.seats other ≡ j → (j ≡ i → ⊥) → same_cell (site_mark other) (site_mark site) ≡ false
   two_marks s i j site other number other_number apart = by (same_cell (site_mark other) (site_mark site)) refl
     where
       by : (b : Bool) → same_cell (site_mark other) (site_mark site) ≡ b → b ≡ false
@@ -194,7 +195,7 @@ module _ (unit : Unit) where
       by true is =
           let (rule, owner) = both (nat_eq other.rule site.rule) (same_owner other.owner site.owner) is in
           absurd (apart (sym other_number
-          ∙ ap₂ (λ r o. r * s.seats + owner_number o) (eqb-true other.rule site.rule rule)
+          ∙ ap₂ (λ r o. site_number unit s.seats (record { rule = r; owner = o })) (eqb-true other.rule site.rule rule)
           (one_owner other.owner site.owner owner)
           ∙ number))
 

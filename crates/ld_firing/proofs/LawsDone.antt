@@ -14,9 +14,8 @@ use Rattle.ld_names.specs.declared.rule.Rule.TheVariants.{CompletesActivity, Com
 use Rattle.ld_names.specs.Names.{number_at, names_of, named_by, rule_named}
 use Rattle.ld_names.specs.Rules.{Site, same_rule, rules_of}
 use Rattle.ld_names.specs.Things.{Entry, things_of}
-use Rattle.ld_expr.specs.Done.{mark_for, is_done}
+use Rattle.ld_expr.specs.Done.{mark_for, is_done, marked_owner}
 use Rattle.ld_expr.specs.Lookup.{is_some_and, completing_number}
-use Rattle.ld_expr.specs.Owners.{owner_of, is_person_rule}
 use Rattle.ld_expr.specs.Seen.{says_yes}
 use Rattle.ld_firing.specs.Actions.{site_firing}
 use Rattle.ld_rules.specs.LawWords.{is_marked, is_for_good}
@@ -72,7 +71,7 @@ completes_for_good unit id n is = by (named_by (names_of unit) id) is
 
 -- Where marks for good of the owner, or of the run, stay, what is done stays done.
 pub done_stays : (unit : Unit) (s t : RunState) (owner : Owner) (id : List ℕ)
-    → ((rule : ℕ) → is_for_good unit rule ≡ true → is_marked s rule (owner_of (is_person_rule unit rule) owner) ≡ true → is_marked t rule (owner_of (is_person_rule unit rule) owner) ≡ true)
+    → ((rule : ℕ) → is_for_good unit rule ≡ true → is_marked s rule (marked_owner (rules_of unit) rule owner) ≡ true → is_marked t rule (marked_owner (rules_of unit) rule owner) ≡ true)
     → is_done unit (seen_in unit s) owner id ≡ true → is_done unit (seen_in unit t) owner id ≡ true
 unfolding cell_of
 done_stays unit s t owner id stays done = by (completing_number unit id) refl done
@@ -86,4 +85,4 @@ done_stays unit s t owner id stays done = by (completing_number unit id) refl do
 pub firing_leaves_done : (unit : Unit) (s : RunState) (site : Site) (owner : Owner) (id : List ℕ)
     → is_done unit (seen_in unit s) owner id ≡ true → is_done unit (seen_in unit (site_firing unit s site).state) owner id ≡ true
 firing_leaves_done unit s site owner id done =
-    done_stays unit s (site_firing unit s site).state owner id (λ rule good told. firing_latches unit s site rule (owner_of (is_person_rule unit rule) owner) good told) done
+    done_stays unit s (site_firing unit s site).state owner id (λ rule good told. firing_latches unit s site rule (marked_owner (rules_of unit) rule owner) good told) done

@@ -5,8 +5,7 @@ use Rattle.ld_cascade.specs.System.{due}
 use Rattle.ld_cascade.specs.Settling.{step, visited, after_sweeps}
 use Rattle.ld_model.specs.declared.unit.Unit.{Unit}
 use Rattle.ld_names.specs.declared.rule.Rule.{Rule}
-use Rattle.ld_names.specs.Rules.{Site, kind_of}
-use Rattle.ld_expr.specs.Owners.{is_for_persons}
+use Rattle.ld_names.specs.Rules.{Site, kind_of, is_for_persons}
 use Rattle.ld_firing.specs.Actions.{Doing, nothing_done, firing_by, site_firing}
 use Rattle.ld_firing.specs.RunSettling.{Settlement, settlement_after, turns_within, run_settling}
 use Rattle.ld_state.specs.RunState.{RunState, seen_in}

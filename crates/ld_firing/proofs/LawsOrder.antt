@@ -19,13 +19,12 @@ use Rattle.ld_walk.specs.declared.place.Place.TheVariants.{Act}
 use Rattle.ld_names.specs.declared.rule.Rule.{Rule}
 use Rattle.ld_names.specs.declared.rule.Rule.TheVariants.{CompletesActivity, CompletesStructure, OpensAct, CompletesPart, CompletesAct, CompletesPlay, CompletesUnit, JudgesCondition}
 use Rattle.ld_names.specs.Names.{thing_number}
-use Rattle.ld_names.specs.Rules.{Site, kind_of}
+use Rattle.ld_names.specs.Rules.{Site, kind_of, is_for_persons}
 use Rattle.ld_names.specs.Things.{Entry, things_of}
 use Rattle.ld_refs.specs.Checks.{IsValid}
 use Rattle.ld_refs.specs.Extents.{act_at}
 use Rattle.ld_expr.specs.Done.{is_done}
 use Rattle.ld_expr.specs.Lookup.{is_some_and}
-use Rattle.ld_expr.specs.Owners.{is_for_persons}
 use Rattle.ld_expr.specs.Seen.{says_yes, act_opened_cell, mark_cell}
 use Rattle.ld_expr.specs.Terms.{term_value, cell_of_property}
 use Rattle.ld_firing.specs.Actions.{Doing, nothing_done, with_write, with_change, if_fitting, change_for, targets_of, with_visible, set_visible, do_action, actions_of, opened_by, with_opening, firing_by, site_firing}

@@ -25,9 +25,7 @@ pub mod Progressing
 pub mod ReadsByMark
 pub mod RulesThere
 pub mod Seats
-pub mod SeatsAscent
 pub mod SeatsKept
-pub mod SeatsNumbers
 pub mod SeatsSweep
 pub mod SlotsThere
 pub mod Sites

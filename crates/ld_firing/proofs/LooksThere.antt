@@ -35,17 +35,17 @@ use Rattle.ld_firing.proofs.CellsThere.{AreCells, both_are_cells, one_is_cell, s
 use Rattle.ld_firing.proofs.Named.{IsThing, thing_number_is, is_run_place, done_there, run_done_there, member_looks_there, members_looks_there, property_looks_there, run_property_looks_there}
 use Rattle.ld_firing.proofs.MetChecks.{AreMet, met_left, met_right, IsAllowed, allowed_by, NamesSuch, activity_allowed, play_allowed, part_allowed, of_run}
 
--- The owner who speaks in a completion rule: the run, or one of so many persons.
+-- The owner who speaks in a completion rule: the run, or one of this many persons.
 pub data IsSpeaker (persons : ℕ) : Bool → Owner → Type 0 where
   run_speaks : IsSpeaker persons true Run
   one_speaks : (p : ℕ) → p < persons → IsSpeaker persons false (of_person p)
 
 -- The cells that a completion rule speaks of are there, and the last act is one.
-pub record IsReady (unit : Unit) (persons : ℕ) (by_run : Bool) (c : Completing) : Type 0 where
-  pub speaker : IsSpeaker persons by_run c.owner
-  pub chosen : AreCells unit persons (cell_list c.chosen)
-  pub start : AreCells unit persons (cell_list c.start)
-  pub last : AreCells unit persons (list_from (done_looks unit Run) c.last_act)
+pub record IsReady (unit : Unit) (seen : Seen) (by_run : Bool) (c : Completing) : Type 0 where
+  pub speaker : IsSpeaker seen.persons by_run c.owner
+  pub chosen : AreCells unit seen.persons (cell_list c.chosen)
+  pub start : AreCells unit seen.persons (cell_list c.start)
+  pub last : AreCells unit seen.persons (list_from (done_looks unit seen Run) c.last_act)
 
 pub no_cells : (unit : Unit) (persons : ℕ) → AreCells unit persons []
 no_cells unit persons c inside = absurd inside
@@ -67,42 +67,42 @@ looks_of_thing unit persons id place cell thing inside =
     (sym (thing_number_is unit id place thing))
     (one_is_cell unit persons (cell thing.number) inside)
 
-module _ (unit : Unit) (persons p : ℕ) (below : p < persons) where
+module _ (unit : Unit) (seen : Seen) (p : ℕ) (below : p < seen.persons) where
   opened_looks_there : (id : List ℕ) → IsAllowed unit wanted.Activity id
-      → AreCells unit persons (list_from (λ thing. opened_cell thing (of_person p) ∷ []) (thing_number unit id))
+      → AreCells unit seen.persons (list_from (λ thing. opened_cell thing (of_person p) ∷ []) (thing_number unit id))
   opened_looks_there id allowed =
       let named = activity_allowed unit id allowed in
       let thing = named.thing in
-      looks_of_thing unit persons id named.place (λ n. opened_cell n (of_person p)) thing
-      (opened_there unit persons thing.number thing.entry p thing.at (ap is_activity_place thing.placed ∙ named.such) below)
+      looks_of_thing unit seen.persons id named.place (λ n. opened_cell n (of_person p)) thing
+      (opened_there unit seen.persons thing.number thing.entry p thing.at (ap is_activity_place thing.placed ∙ named.such) below)
 
   mutual
     pub term_there : (at : At) (of_members clock : Bool) (term : TermOf)
         → AreMet unit (term_parts at of_members clock term)
-        → AreCells unit persons (term_looks unit (of_person p) term)
-    term_there at m clock (property_term id) met = property_looks_there unit persons p id below
-    term_there at m clock (literal_term _ _) met = no_cells unit persons
+        → AreCells unit seen.persons (term_looks unit seen (of_person p) term)
+    term_there at m clock (property_term id) met = property_looks_there unit seen.persons p id below
+    term_there at m clock (literal_term _ _) met = no_cells unit seen.persons
     term_there at m clock (list_term operator terms) met = terms_there (member at (list_operator_word operator)) m 0 terms met
     term_there at m clock (pair_term operator a b) met =
         let first = term_parts (nth at (pair_operator_word operator) 0) m false a in
         let second = term_parts (nth at (pair_operator_word operator) 1) m false b in
-        both_are_cells unit persons (term_looks unit (of_person p) a) (term_looks unit (of_person p) b)
+        both_are_cells unit seen.persons (term_looks unit seen (of_person p) a) (term_looks unit seen (of_person p) b)
         (term_there (nth at (pair_operator_word operator) 0) m false a (met_left unit first second met))
         (term_there (nth at (pair_operator_word operator) 1) m false b (met_right unit first second met))
-    term_there at m clock now_term met = one_is_cell unit persons Now (now_there unit persons)
+    term_there at m clock now_term met = one_is_cell unit seen.persons Now (now_there unit seen.persons)
     term_there at m clock (opened_term id) met =
         opened_looks_there id (allowed_by unit wanted.Activity (member at (codes "datetime-activity-started")) id
         (met _ (inr (inl refl))).targets)
-    term_there at m clock started_term met = one_is_cell unit persons Started (started_there unit persons)
+    term_there at m clock started_term met = one_is_cell unit seen.persons Started (started_there unit seen.persons)
 
     terms_there : (at : At) (of_members : Bool) (n : ℕ) (terms : TermsOf)
         → AreMet unit (terms_parts at of_members n terms)
-        → AreCells unit persons (terms_looks unit (of_person p) terms)
-    terms_there at m n no_term met = no_cells unit persons
+        → AreCells unit seen.persons (terms_looks unit seen (of_person p) terms)
+    terms_there at m n no_term met = no_cells unit seen.persons
     terms_there at m n (term_and term terms) met =
         let first = term_parts (item_at at n) m false term in
         let second = terms_parts at m (n + 1) terms in
-        both_are_cells unit persons (term_looks unit (of_person p) term) (terms_looks unit (of_person p) terms)
+        both_are_cells unit seen.persons (term_looks unit seen (of_person p) term) (terms_looks unit seen (of_person p) terms)
         (term_there (item_at at n) m false term (met_left unit first second met))
         (terms_there at m (n + 1) terms (met_right unit first second met))
 
@@ -128,14 +128,14 @@ module _ (unit : Unit) (seen : Seen) where
     test_there at m (compare_test comparison a b) met p below =
         let first = term_parts (nth at (comparison_word comparison) 0) m _ a in
         let second = term_parts (nth at (comparison_word comparison) 1) m _ b in
-        both_are_cells unit seen.persons (term_looks unit (of_person p) a) (term_looks unit (of_person p) b)
-        (term_there unit seen.persons p below (nth at (comparison_word comparison) 0) m _ a (met_left unit first second met))
-        (term_there unit seen.persons p below (nth at (comparison_word comparison) 1) m _ b (met_right unit first second met))
+        both_are_cells unit seen.persons (term_looks unit seen (of_person p) a) (term_looks unit seen (of_person p) b)
+        (term_there unit seen p below (nth at (comparison_word comparison) 0) m _ a (met_left unit first second met))
+        (term_there unit seen p below (nth at (comparison_word comparison) 1) m _ b (met_right unit first second met))
     test_there at m (all_test tests) met p below = tests_there (member at (codes "and")) m 0 tests met p below
     test_there at m (any_test tests) met p below = tests_there (member at (codes "or")) m 0 tests met p below
     test_there at m (not_test test) met p below = test_there (member at (codes "not")) m test met p below
     test_there at m (no_value_test property) met p below = property_looks_there unit seen.persons p property below
-    test_there at m (member_test role) met p below = member_looks_there unit seen.persons p role below
+    test_there at m (member_test role) met p below = member_looks_there unit seen p role below
     test_there at m (users_test role test) met p below =
         both_are_cells unit seen.persons (members_looks unit seen role)
         (flat_map (λ q. test_looks unit seen (of_person q) test) (members_of unit seen role))
@@ -143,7 +143,7 @@ module _ (unit : Unit) (seen : Seen) where
         (of_members_there (λ q. test_looks unit seen (of_person q) test) role
         (test_there (member (member at (codes "users-in-role")) (codes "expression")) true test
         (λ part inside. met part (in_right (within_members at m) _ part (inr inside)))))
-    test_there at m (done_test thing) met p below = done_there unit seen.persons p thing below
+    test_there at m (done_test thing) met p below = done_there unit seen p thing below
 
     tests_there : (at : At) (of_members : Bool) (n : ℕ) (tests : TestsOf)
         → AreMet unit (tests_parts at of_members n tests) → (p : ℕ) → p < seen.persons
@@ -160,7 +160,7 @@ module _ (unit : Unit) (seen : Seen) where
 
   value_set_there : (at : At) (by_run : Bool) (owner : Owner) (property : List ℕ) (text : Option (List ℕ))
       → IsSpeaker seen.persons by_run owner → AreMet unit (value_set_parts at by_run property text)
-      → AreCells unit seen.persons (property_looks unit owner property)
+      → AreCells unit seen.persons (property_looks unit seen owner property)
   unfolding value_set_parts
   value_set_there at by_run owner property text run_speaks met =
       run_property_looks_there unit seen.persons property
@@ -171,20 +171,20 @@ module _ (unit : Unit) (seen : Seen) where
   run_list_there : (at : At) (name : List ℕ) (want : Wanted) (ids : List (List ℕ))
       → ((id : List ℕ) → IsAllowed unit want id → NamesSuch unit is_run_place id)
       → AreMet unit (references_parts at name want ids)
-      → AreCells unit seen.persons (all_done_looks unit Run ids)
+      → AreCells unit seen.persons (all_done_looks unit seen Run ids)
   run_list_there at name want [] such met c inside = absurd inside
   run_list_there at name want (first ∷ rest) such met c inside =
-      let by = from_flat_map (done_looks unit Run) (first ∷ rest) c inside in
+      let by = from_flat_map (done_looks unit seen Run) (first ∷ rest) c inside in
       let none = nothing_of_each (nth_target_fault (names_of unit) want (member at name)) (first ∷ rest) 0 by.element (met _ (inl refl)).targets by.inside in
       let named = such by.element (allowed_by unit want (item_at (member at name) none.0) by.element none.1) in
-      run_done_there unit seen.persons by.element named.place named.thing named.such c by.gives
+      run_done_there unit seen by.element named.place named.thing named.such c by.gives
 
   part_wanted : (thing : Kind) (id : List ℕ) → IsAllowed unit (wanted_parts thing) id
       → NamesSuch unit is_run_place id
   part_wanted (kind.Thing (Act p a)) id allowed = part_allowed unit p a id allowed
   part_wanted _ id allowed = part_allowed unit 0 0 id allowed
 
-  completion_there : (at : At) (thing : Kind) (c : Completing) → IsReady unit seen.persons (is_of_run thing) c
+  completion_there : (at : At) (thing : Kind) (c : Completing) → IsReady unit seen (is_of_run thing) c
       → (completion : Completion) → AreMet unit (completed_parts at thing completion)
       → AreCells unit seen.persons (completion_looks unit seen c completion)
   unfolding completed_parts condition_true_parts
@@ -208,7 +208,7 @@ module _ (unit : Unit) (seen : Seen) where
       run_list_there at (codes "when-play-completed") wanted.Play plays (play_allowed unit) met
 
   completion_if_there : (at : At) (thing : Kind) (c : Completing)
-      → IsReady unit seen.persons (is_of_run thing) c → (completion : Option Completion)
+      → IsReady unit seen (is_of_run thing) c → (completion : Option Completion)
       → AreMet unit (completion_parts at thing completion)
       → AreCells unit seen.persons (completion_looks_if unit seen c completion)
   unfolding completion_parts
@@ -216,7 +216,7 @@ module _ (unit : Unit) (seen : Seen) where
   completion_if_there at thing c ready (Some completion) met =
       completion_there (member at (codes "complete")) thing c ready completion (λ part inside. met part (inr inside))
 
-  pub ending_there : (at : At) (thing : Kind) (c : Completing) → IsReady unit seen.persons (is_of_run thing) c
+  pub ending_there : (at : At) (thing : Kind) (c : Completing) → IsReady unit seen (is_of_run thing) c
       → (completion : Option Completion) (follows : Option OnCompletion)
       → AreMet unit (ending_parts at thing completion follows)
       → AreCells unit seen.persons (completion_looks_if unit seen c completion)

@@ -44,7 +44,7 @@ slots_of_item unit persons cells xs i x within is all = slots_of_one unit person
 
 -- ---- steps
 
--- Each of so many took so much.
+-- Each of these took at most that.
 pub steps_of_each : (start before now cost n : ℕ) → before ≤ start + cost * n → now ≤ before + cost → now ≤ start + cost * (n + 1)
 steps_of_each start before now cost n so_far one =
     let more : n + 1 ≡ suc n = omega arith in

@@ -11,7 +11,7 @@ use Rattle.ld_names.specs.Names.{thing_number}
 use Rattle.ld_expr.specs.Looks.{term_looks, terms_looks}
 use Rattle.ld_expr.specs.Lookup.{is_some_and, list_from}
 use Rattle.ld_expr.specs.Owners.{fits_property}
-use Rattle.ld_expr.specs.Seen.{opened_cell}
+use Rattle.ld_expr.specs.Seen.{Seen, opened_cell}
 use Rattle.ld_expr.specs.Terms.{cell_of_property}
 use Rattle.ld_firing.specs.Costs.{term_leaves, terms_leaves}
 
@@ -50,21 +50,21 @@ one_look cell (Some x) = omega arith
 
 mutual
   -- A term looks at no more cells than it has leaves.
-  pub looks_within : (unit : Unit) (owner : Owner) (term : TermOf) → length (term_looks unit owner term) ≤ term_leaves term
-  looks_within unit owner (property_term id) = one_look (λ cell. cell) (cell_of_property unit owner id)
-  looks_within unit owner (literal_term kind text) = omega arith
-  looks_within unit owner (list_term operator terms) = all_looks_within unit owner terms
-  looks_within unit owner (pair_term operator a b) =
-      omega (arith, length-append (term_looks unit owner a) (term_looks unit owner b), looks_within unit owner a, looks_within unit owner b)
-  looks_within unit owner now_term = omega arith
-  looks_within unit owner (opened_term id) = one_look (λ thing. opened_cell thing owner) (thing_number unit id)
-  looks_within unit owner started_term = omega arith
+  pub looks_within : (unit : Unit) (seen : Seen) (owner : Owner) (term : TermOf) → length (term_looks unit seen owner term) ≤ term_leaves term
+  looks_within unit seen owner (property_term id) = one_look (λ cell. cell) (cell_of_property unit owner id)
+  looks_within unit seen owner (literal_term kind text) = omega arith
+  looks_within unit seen owner (list_term operator terms) = all_looks_within unit seen owner terms
+  looks_within unit seen owner (pair_term operator a b) =
+      omega (arith, length-append (term_looks unit seen owner a) (term_looks unit seen owner b), looks_within unit seen owner a, looks_within unit seen owner b)
+  looks_within unit seen owner now_term = omega arith
+  looks_within unit seen owner (opened_term id) = one_look (λ thing. opened_cell thing owner) (thing_number unit id)
+  looks_within unit seen owner started_term = omega arith
 
-  all_looks_within : (unit : Unit) (owner : Owner) (terms : TermsOf) → length (terms_looks unit owner terms) ≤ terms_leaves terms
-  all_looks_within unit owner no_term = omega arith
-  all_looks_within unit owner (term_and term terms) =
-      omega (arith, length-append (term_looks unit owner term) (terms_looks unit owner terms), looks_within unit owner term, all_looks_within unit owner terms)
+  all_looks_within : (unit : Unit) (seen : Seen) (owner : Owner) (terms : TermsOf) → length (terms_looks unit seen owner terms) ≤ terms_leaves terms
+  all_looks_within unit seen owner no_term = omega arith
+  all_looks_within unit seen owner (term_and term terms) =
+      omega (arith, length-append (term_looks unit seen owner term) (terms_looks unit seen owner terms), looks_within unit seen owner term, all_looks_within unit seen owner terms)
 
-pub worked_out : (unit : Unit) (owner : Owner) (term : TermOf) (old new : ℕ) → new ≤ old + length (term_looks unit owner term)
+pub worked_out : (unit : Unit) (seen : Seen) (owner : Owner) (term : TermOf) (old new : ℕ) → new ≤ old + length (term_looks unit seen owner term)
     → new ≤ old + term_leaves term
-worked_out unit owner term old new within = omega (arith, within, looks_within unit owner term)
+worked_out unit seen owner term old new within = omega (arith, within, looks_within unit seen owner term)

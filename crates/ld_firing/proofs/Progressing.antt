@@ -15,7 +15,6 @@ use Rattle.ld_base.specs.declared.fired.Fired.{Fired}
 use Rattle.ld_base.specs.Numbers.{numbers_below}
 use Rattle.ld_value.specs.Datum.{Datum, text_datum, truth_datum, number_datum, moment_datum, span_datum, same_datum, same_truth}
 use Rattle.ld_model.specs.declared.cell.CellName.{CellName}
-use Rattle.ld_model.specs.Properties.{is_personal}
 use Rattle.ld_model.specs.declared.cell.CellName.TheVariants.{Now}
 use Rattle.ld_model.specs.declared.cell.Owner.{Owner}
 use Rattle.ld_model.specs.declared.cell.Owner.TheVariants.{Run}
@@ -29,12 +28,14 @@ use Rattle.ld_model.specs.declared.unit.Unit.{Unit}
 use Rattle.ld_names.specs.Names.{thing_number}
 use Rattle.ld_names.specs.Rules.{Site}
 use Rattle.ld_names.specs.declared.rule.Rule.{Rule}
+use Rattle.ld_names.specs.Holders.{holder_of}
+use Rattle.ld_names.specs.declared.holder.Holder.TheVariants.{Persons as HeldByPersons}
 use Rattle.ld_rules.specs.SiteTests.{rule_of, site_test}
 use Rattle.ld_expr.specs.Lookup.{property_number}
-use Rattle.ld_expr.specs.Owners.{of_person, owner_of}
+use Rattle.ld_expr.specs.Owners.{of_person, value_owner}
 use Rattle.ld_expr.specs.Seen.{property_cell, visibility_cell, act_opened_cell, mark_cell}
 use Rattle.ld_expr.specs.Terms.{term_value, cell_of_property}
-use Rattle.ld_firing.specs.Actions.{Doing, nothing_done, differs, with_write, with_change, actions_if, do_action, if_fitting, change_for, firing_by, rule_effect, site_firing, is_of_persons, owners_of_change, do_change, do_notify, notice_now, set_visible, with_opening, with_visible}
+use Rattle.ld_firing.specs.Actions.{Doing, nothing_done, differs, with_write, with_change, actions_if, do_action, if_fitting, change_for, firing_by, rule_effect, site_firing, holder_named, owners_of_change, do_change, do_notify, notice_now, set_visible, with_opening, with_visible}
 use Rattle.ld_firing.specs.Progress.{Progress, progress_of, progress_by, Does}
 use Rattle.ld_firing.specs.RunSystem.{slots_named}
 use Rattle.ld_state.specs.Layout.{slot_in}
@@ -191,13 +192,13 @@ pub property_plain : (unit : Unit) (owner : Owner) (id : List ℕ) (cell : CellN
 property_plain unit owner id cell is = by (property_number unit id) is
   where
     of_property : (n : ℕ) (property : Option Property)
-        → (property >>= λ one. Some (property_cell n (owner_of (is_personal one.kind) owner))) ≡ Some cell
+        → (property >>= λ one. Some (property_cell n (value_owner (holder_of unit one) owner))) ≡ Some cell
         → is_following cell ≡ false
     of_property n None is = none_is_some is
     of_property n (Some one) is = ap is_following (sym (some_same is))
 
     by : (number : Option ℕ)
-        → (number >>= λ n. slice_get unit.properties n >>= λ one. Some (property_cell n (owner_of (is_personal one.kind) owner))) ≡ Some cell
+        → (number >>= λ n. slice_get unit.properties n >>= λ one. Some (property_cell n (value_owner (holder_of unit one) owner))) ≡ Some cell
         → is_following cell ≡ false
     by None is = none_is_some is
     by (Some n) is = of_property n (slice_get unit.properties n) is
@@ -254,30 +255,17 @@ module _ (unit : Unit) (change : ChangeOf) (owner : Owner) where
         ∙ without_value doing (cell_of_property unit owner change.property)));
   }
 
-owners_alone : (n p : ℕ) (owner : Owner) (own : Bool) → owner ≡ of_person p → owners_of_change n owner own ≡ owner ∷ []
-owners_alone n p owner own is =
-    subst (λ (one : Owner). owners_of_change n one own ≡ one ∷ []) (sym is) refl
-
--- A change that is made for a person alone.
-pub changed_by_person : {unit : Unit} {q r : Progress} (change : ChangeOf) (owner : Owner) (p : ℕ) → owner ≡ of_person p
+-- A change that is made for the owner alone, however many persons there are.
+pub changed_alone : {unit : Unit} {q r : Progress} (change : ChangeOf) (owner : Owner)
+    → ((n : ℕ) → owners_of_change (holder_named unit change.property) n owner ≡ owner ∷ [])
     → Does unit q r (λ doing. change_for unit change doing owner) → Does unit q r (λ doing. do_change unit owner doing change)
-changed_by_person {unit = unit} change owner p is does =
+changed_alone {unit = unit} change owner alone does =
     does_same (λ doing. change_for unit change doing owner) (λ doing. do_change unit owner doing change)
-    (λ doing. ap (fold (change_for unit change) doing)
-    (sym (owners_alone (length doing.state.persons) p owner (is_of_persons unit change.property) is))) does
-
--- A change that is made for the run as a whole.
-pub changed_by_run : {unit : Unit} {q r : Progress} (change : ChangeOf) (owner : Owner) → owner ≡ Run
-    → is_of_persons unit change.property ≡ false → Does unit q r (λ doing. change_for unit change doing Run)
-    → Does unit q r (λ doing. do_change unit owner doing change)
-changed_by_run {unit = unit} {q = q} {r = r} change owner is run does =
-    subst (λ (one : Owner). Does unit q r (λ doing. do_change unit one doing change)) (sym is)
-    (does_same (λ doing. change_for unit change doing Run) (λ doing. do_change unit Run doing change)
-    (λ doing. ap (λ own. fold (change_for unit change) doing (owners_of_change (length doing.state.persons) Run own)) (sym run)) does)
+    (λ doing. ap (fold (change_for unit change) doing) (sym (alone (length doing.state.persons)))) does
 
 -- A change that is made for each person.
 pub changed_by_all : {unit : Unit} {q r : Progress} (change : ChangeOf) (owner : Owner) (n : ℕ) → owner ≡ Run
-    → is_of_persons unit change.property ≡ true → length q.run.persons ≡ n
+    → holder_named unit change.property ≡ HeldByPersons → length q.run.persons ≡ n
     → Does unit q r (λ doing. fold (change_for unit change) doing (map of_person (numbers_below n)))
     → Does unit q r (λ doing. do_change unit owner doing change)
 changed_by_all {unit = unit} {q = q} {r = r} change owner n is all count does =
@@ -289,7 +277,7 @@ changed_by_all {unit = unit} {q = q} {r = r} change owner n is all count does =
         does.each before doing same
         ∙ ap (λ k. progress_by unit before (fold (change_for unit change) doing (map of_person (numbers_below k))))
         (sym count ∙ ap (λ (p : Progress). length p.run.persons) same)
-        ∙ ap (λ own. progress_by unit before (fold (change_for unit change) doing (owners_of_change (length doing.state.persons) Run own)))
+        ∙ ap (λ holder. progress_by unit before (fold (change_for unit change) doing (owners_of_change holder (length doing.state.persons) Run)))
         (sym all)
 
 -- ---- notices

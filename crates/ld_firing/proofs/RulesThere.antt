@@ -26,12 +26,12 @@ use Rattle.ld_walk.specs.declared.place.Place.TheVariants.{Play, Act, Activity}
 use Rattle.ld_parts.specs.Listing.{ending_parts, parts_before_items, activity_parts_at, role_part_parts, act_parts, act_parts_at, play_parts, play_parts_at, method_at, method_parts, condition_parts_at}
 use Rattle.ld_names.specs.declared.rule.Rule.{Rule}
 use Rattle.ld_names.specs.declared.rule.Rule.TheVariants.{CompletesActivity, CompletesStructure, OpensAct, CompletesPart, CompletesAct, CompletesPlay, CompletesUnit, JudgesCondition}
-use Rattle.ld_names.specs.Rules.{Site, kind_of}
+use Rattle.ld_names.specs.Rules.{Site, kind_of, is_for_persons}
 use Rattle.ld_refs.specs.Extents.{play_at, act_at, role_part_at}
 use Rattle.ld_expr.specs.Looks.{done_looks, members_looks, test_looks}
 use Rattle.ld_expr.specs.Lookup.{is_some_and, list_from, environment_named}
 use Rattle.ld_expr.specs.Membership.{members_of}
-use Rattle.ld_expr.specs.Owners.{of_person, is_for_persons}
+use Rattle.ld_expr.specs.Owners.{of_person}
 use Rattle.ld_expr.specs.Seen.{Seen, member_cell, chosen_cell, opened_cell, act_opened_cell}
 use Rattle.ld_state.specs.RunCells.{all_cells, cell_if, is_act_place, is_activity_place}
 use Rattle.ld_rules.specs.SiteLooks.{cell_list, all_done_looks, completion_looks_if, role_reaches, reaching_roles, site_activity_looks, site_target_looks, site_part_looks, site_act_looks, person_looks, run_looks, rule_looks, looks_by, open_looks, site_looks}
@@ -164,10 +164,10 @@ module _ (unit : Unit) (meets : MeetsChecks unit) where
 
     -- What each person looks at of a list of things.
     all_done_there : (p : ℕ) (ids : List (List ℕ)) → p < seen.persons
-        → AreCells unit seen.persons (all_done_looks unit (of_person p) ids)
+        → AreCells unit seen.persons (all_done_looks unit seen (of_person p) ids)
     all_done_there p ids below c inside =
-        let by = from_flat_map (done_looks unit (of_person p)) ids c inside in
-        done_there unit seen.persons p by.element below c by.gives
+        let by = from_flat_map (done_looks unit seen (of_person p)) ids c inside in
+        done_there unit seen p by.element below c by.gives
 
     person_there : (p : ℕ) → p < seen.persons → (rule : Rule)
         → AreCells unit seen.persons (person_looks unit seen p rule)
@@ -175,7 +175,7 @@ module _ (unit : Unit) (meets : MeetsChecks unit) where
         cells_from unit seen.persons (site_activity_looks unit seen p) (slice_get unit.activities n)
         (λ activity at. activity_there n p activity at below)
     person_there p below (CompletesStructure n) =
-        cells_from unit seen.persons (λ structure. all_done_looks unit (of_person p) structure.children)
+        cells_from unit seen.persons (λ structure. all_done_looks unit seen (of_person p) structure.children)
         (slice_get unit.structures n) (λ structure at. all_done_there p structure.children below)
     person_there p below (JudgesCondition n) =
         cells_from unit seen.persons (λ condition. test_looks unit seen (of_person p) condition.test)
@@ -199,20 +199,20 @@ module _ (unit : Unit) (meets : MeetsChecks unit) where
         (opening_there unit seen.persons thing.number thing.entry thing.at (ap is_act_place thing.placed))
 
     act_done_there : (p a : ℕ) (act : ActOf) → IsAct unit p a act
-        → AreCells unit seen.persons (done_looks unit Run act.identifier)
-    act_done_there p a act found = run_done_there unit seen.persons act.identifier (Act p a) (act_is p a act found) refl
+        → AreCells unit seen.persons (done_looks unit seen Run act.identifier)
+    act_done_there p a act found = run_done_there unit seen act.identifier (Act p a) (act_is p a act found) refl
 
     part_there : (p a : ℕ) (act : ActOf) (part : RolePartOf) → IsAct unit p a act
         → AreCells unit seen.persons (site_part_looks unit seen act part)
     part_there p a act part found =
-        let looks = flat_map (λ q. done_looks unit (of_person q) part.target) (members_of unit seen part.role) in
+        let looks = flat_map (λ q. done_looks unit seen (of_person q) part.target) (members_of unit seen part.role) in
         both_are_cells unit seen.persons (cell_list (opening_cell unit act))
         (members_looks unit seen part.role ++ site_target_looks unit seen part) (opening_looked p a act found)
         (both_are_cells unit seen.persons (members_looks unit seen part.role) (site_target_looks unit seen part)
         (members_looks_there unit seen part.role)
         (cells_unless unit seen.persons (is_some (environment_named unit part.target)) looks
-        (of_members_there unit seen (λ q. done_looks unit (of_person q) part.target) part.role
-        (λ q below. done_there unit seen.persons q part.target below))))
+        (of_members_there unit seen (λ q. done_looks unit seen (of_person q) part.target) part.role
+        (λ q below. done_there unit seen q part.target below))))
 
     act_there : (p a : ℕ) (act : ActOf) → IsAct unit p a act
         → AreCells unit seen.persons (site_act_looks unit seen act)
@@ -225,11 +225,11 @@ module _ (unit : Unit) (meets : MeetsChecks unit) where
         act.complete act.on_completion (act_met p a act found))
 
     last_done_there : (p : ℕ) (play : PlayOf) → slice_get unit.method.plays p ≡ Some play
-        → AreCells unit seen.persons (list_from (done_looks unit Run) (option_map (λ act. act.identifier) (last_or None play.acts)))
+        → AreCells unit seen.persons (list_from (done_looks unit seen Run) (option_map (λ act. act.identifier) (last_or None play.acts)))
     last_done_there p play at = by (last_or None play.acts) refl
       where
         by : (last : Option ActOf) → last_or None play.acts ≡ last
-            → AreCells unit seen.persons (list_from (done_looks unit Run) (option_map (λ act. act.identifier) last))
+            → AreCells unit seen.persons (list_from (done_looks unit seen Run) (option_map (λ act. act.identifier) last))
         by None is c inside = absurd inside
         by (Some act) is c inside = elim (last_in play.acts None act is) [
           | inl none ↦ none_is_some none
@@ -253,7 +253,7 @@ module _ (unit : Unit) (meets : MeetsChecks unit) where
     run_there : (rule : Rule) → AreCells unit seen.persons (run_looks unit seen rule)
     run_there (OpensAct p zero) = no_cells unit seen.persons
     run_there (OpensAct p (suc a)) =
-        cells_from unit seen.persons (λ act. done_looks unit Run act.identifier) (act_at unit p a)
+        cells_from unit seen.persons (λ act. done_looks unit seen Run act.identifier) (act_at unit p a)
         (λ act is. act_done_there p a act (act_of unit p a act is))
     run_there (CompletesPart p a r) =
         cells_from unit seen.persons (λ act. list_from (site_part_looks unit seen act) (role_part_at unit p a r)) (act_at unit p a)

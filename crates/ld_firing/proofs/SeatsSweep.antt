@@ -1,5 +1,5 @@
 -- A sweep over the numbers below the count visits the sites in their order, and does nothing else.
-use Rattle.std.proofs.Common.{◌≡◌, ℕ, zero, suc, ◌+◌, ◌*◌, List, [], ◌∷◌, ◌++◌, fold, map, length, find, filter_map, sum_by, Bool, true, false, cond, Option, Some, None, nat_eq, refl, sym, ap, ◌∙◌, arith, append_assoc, append-nil, zero-add}
+use Rattle.std.proofs.Common.{◌≡◌, ℕ, zero, suc, ◌+◌, List, [], ◌∷◌, ◌++◌, fold, map, length, find, filter_map, sum_by, Bool, true, false, cond, Option, Some, None, nat_eq, refl, sym, ap, ◌∙◌, arith, append_assoc, append-nil, zero-add}
 use Rattle.std.specs.List.{range_with_len, cons_option}
 use Rattle.std.specs.Option.{option_map_or}
 use Rattle.std.proofs.lemmas.Bool.{eqb-true}
@@ -9,15 +9,15 @@ use Rattle.ld_base.specs.Numbers.{numbers_below}
 use Rattle.ld_cascade.specs.System.{System, due}
 use Rattle.ld_cascade.specs.Settling.{Firing, step, fired, visited, fired_below, swept, sweep_firings, sums_of, counted}
 use Rattle.ld_model.specs.declared.unit.Unit.{Unit}
-use Rattle.ld_names.specs.Rules.{Site, sites_of, rules_of}
+use Rattle.ld_names.specs.Rules.{Site, sites_of}
+use Rattle.ld_names.specs.SiteNumbers.{numbered_site, site_count, site_number}
+use Rattle.ld_names.proofs.SitesNumbered.{is_numbering, sites_in_order}
 use Rattle.ld_firing.specs.Actions.{nothing_done, site_firing}
 use Rattle.ld_state.specs.RunState.{RunState, seen_in}
-use Rattle.ld_firing.specs.RunSystem.{run_system, site_at, site_number, verdict_in}
+use Rattle.ld_firing.specs.RunSystem.{run_system, site_at, verdict_in}
 use Rattle.ld_rules.specs.SiteTests.{site_test, site_mark}
 use Rattle.ld_firing.specs.SiteWalk.{HasSeats, SiteFiring, is_due, after_visit, visit_firings, walked, walk_firings, all_sites, with_number, walk_sums}
-use Rattle.ld_firing.proofs.SeatsAscent.{numbered}
 use Rattle.ld_firing.proofs.SeatsKept.{visit_keeps_persons, visit_keeps_seats}
-use Rattle.ld_firing.proofs.SeatsNumbers.{sites_in_order}
 
 -- ---- visits of numbers, in any system
 
@@ -56,13 +56,9 @@ fired_numbers y s (suc n) =
 
 -- ---- visits of the numbers of sites
 
--- The site of this number, in a run with so many seats and persons.
-abbrev site_by : Unit → ℕ → ℕ → ℕ → Option Site
-site_by unit seats persons number = numbered (site_number seats) (sites_of unit persons) number
-
-same_site : (unit : Unit) (s : RunState) (seats persons i : ℕ) → s.seats ≡ seats → length s.persons ≡ persons → site_at unit s i ≡ site_by unit seats persons i
+same_site : (unit : Unit) (s : RunState) (seats persons i : ℕ) → s.seats ≡ seats → length s.persons ≡ persons → site_at unit s i ≡ numbered_site unit seats persons i
 same_site unit s seats persons i with_seats with_persons =
-    ap (λ k. site_by unit k (length s.persons) i) with_seats ∙ ap (λ k. site_by unit seats k i) with_persons
+    ap (λ k. numbered_site unit k (length s.persons) i) with_seats ∙ ap (λ k. numbered_site unit seats k i) with_persons
 
 -- What the visit of a number does, by the site that it has.
 abbrev due_by : Unit → RunState → Option Site → Bool
@@ -74,25 +70,25 @@ after_by unit s found = cond (due_by unit s found) (option_map_or (site_firing u
 step_by : (unit : Unit) (s : RunState) (i : ℕ) → step (run_system unit) s i ≡ after_by unit s (site_at unit s i)
 step_by unit s i = refl
 
-step_is : (unit : Unit) (s : RunState) (seats persons i : ℕ) → s.seats ≡ seats → length s.persons ≡ persons → step (run_system unit) s i ≡ after_by unit s (site_by unit seats persons i)
+step_is : (unit : Unit) (s : RunState) (seats persons i : ℕ) → s.seats ≡ seats → length s.persons ≡ persons → step (run_system unit) s i ≡ after_by unit s (numbered_site unit seats persons i)
 step_is unit s seats persons i with_seats with_persons = ap (after_by unit s) (same_site unit s seats persons i with_seats with_persons)
 
-states_walk : (unit : Unit) (s : RunState) (seats persons : ℕ) (numbers : List ℕ) → s.seats ≡ seats → length s.persons ≡ persons → fold (step (run_system unit)) s numbers ≡ walked unit s (filter_map (site_by unit seats persons) numbers)
+states_walk : (unit : Unit) (s : RunState) (seats persons : ℕ) (numbers : List ℕ) → s.seats ≡ seats → length s.persons ≡ persons → fold (step (run_system unit)) s numbers ≡ walked unit s (filter_map (numbered_site unit seats persons) numbers)
 states_walk unit s seats persons [] with_seats with_persons = refl
 states_walk unit s seats persons (i ∷ numbers) with_seats with_persons =
     ap (λ t. fold (step (run_system unit)) t numbers) (step_is unit s seats persons i with_seats with_persons)
-    ∙ by (site_by unit seats persons i) (λ t t_seats t_persons. states_walk unit t seats persons numbers t_seats t_persons)
+    ∙ by (numbered_site unit seats persons i) (λ t t_seats t_persons. states_walk unit t seats persons numbers t_seats t_persons)
   where
-    by : (found : Option Site) → ((t : RunState) → t.seats ≡ seats → length t.persons ≡ persons → fold (step (run_system unit)) t numbers ≡ walked unit t (filter_map (site_by unit seats persons) numbers)) → fold (step (run_system unit)) (after_by unit s found) numbers ≡ walked unit s (cons_option found (filter_map (site_by unit seats persons) numbers))
+    by : (found : Option Site) → ((t : RunState) → t.seats ≡ seats → length t.persons ≡ persons → fold (step (run_system unit)) t numbers ≡ walked unit t (filter_map (numbered_site unit seats persons) numbers)) → fold (step (run_system unit)) (after_by unit s found) numbers ≡ walked unit s (cons_option found (filter_map (numbered_site unit seats persons) numbers))
     by None rest = rest s with_seats with_persons
     by (Some site) rest = rest (after_visit unit s site) (visit_keeps_seats unit s site ∙ with_seats) (ap length (visit_keeps_persons unit s site) ∙ with_persons)
 
 -- A sweep is a walk over all sites.
 pub sweep_walks : (unit : Unit) (s : RunState) → HasSeats s → swept (run_system unit) s ≡ walked unit s (all_sites unit s)
 sweep_walks unit s seats =
-    visited_numbers (run_system unit) s (length (rules_of unit) * s.seats)
-    ∙ states_walk unit s s.seats (length s.persons) (numbers_below (length (rules_of unit) * s.seats)) refl refl
-    ∙ ap (walked unit s) (sites_in_order unit s.seats (length s.persons) seats.seat seats.seated)
+    visited_numbers (run_system unit) s (site_count unit s.seats)
+    ∙ states_walk unit s s.seats (length s.persons) (numbers_below (site_count unit s.seats)) refl refl
+    ∙ ap (walked unit s) (sites_in_order unit s.seats (length s.persons) (is_numbering unit s.seats (length s.persons) seats.seat seats.seated))
 
 -- ---- firings
 
@@ -104,42 +100,42 @@ found_passes test (y ∷ xs) x found = by (test y) refl (found_passes test xs x)
     by true passes rest here = let same : y ≡ x = cc in ap test (sym same) ∙ passes
     by false fails rest later = rest later
 
-has_number : (unit : Unit) (seats persons i : ℕ) (site : Site) → site_by unit seats persons i ≡ Some site → site_number seats site ≡ i
-has_number unit seats persons i site found = eqb-true (site_number seats site) i (found_passes (λ x. nat_eq (site_number seats x) i) (sites_of unit persons) site found)
+has_number : (unit : Unit) (seats persons i : ℕ) (site : Site) → numbered_site unit seats persons i ≡ Some site → site_number unit seats site ≡ i
+has_number unit seats persons i site found = eqb-true (site_number unit seats site) i (found_passes (λ x. nat_eq (site_number unit seats x) i) (sites_of unit persons) site found)
 
 abbrev fired_by : (unit : Unit) → RunState → ℕ → Option Site → List (Firing (run_system unit))
 fired_by unit s i found = cond (due_by unit s found) (record { before = s; site = i } ∷ []) []
 
-fired_is : (unit : Unit) (s : RunState) (seats persons i : ℕ) → s.seats ≡ seats → length s.persons ≡ persons → fired (run_system unit) s i ≡ fired_by unit s i (site_by unit seats persons i)
+fired_is : (unit : Unit) (s : RunState) (seats persons i : ℕ) → s.seats ≡ seats → length s.persons ≡ persons → fired (run_system unit) s i ≡ fired_by unit s i (numbered_site unit seats persons i)
 fired_is unit s seats persons i with_seats with_persons = ap (fired_by unit s i) (same_site unit s seats persons i with_seats with_persons)
 
-firing_numbered : (unit : Unit) (s : RunState) (seats i : ℕ) (site : Site) → site_number seats site ≡ i → fired_by unit s i (Some site) ≡ map (with_number unit seats) (visit_firings unit s site)
+firing_numbered : (unit : Unit) (s : RunState) (seats i : ℕ) (site : Site) → site_number unit seats site ≡ i → fired_by unit s i (Some site) ≡ map (with_number unit seats) (visit_firings unit s site)
 firing_numbered unit s seats i site number = by (is_due unit s site)
   where
     by : (b : Bool) → cond b (record { before = s; site = i } ∷ []) [] ≡ map (with_number unit seats) (cond b (record { before = s; site = site } ∷ []) [])
     by true = ap (λ k. record { before = s; site = k } ∷ []) (sym number)
     by false = refl
 
-firings_walk : (unit : Unit) (s : RunState) (seats persons : ℕ) (numbers : List ℕ) → s.seats ≡ seats → length s.persons ≡ persons → firings_at (run_system unit) s numbers ≡ map (with_number unit seats) (walk_firings unit s (filter_map (site_by unit seats persons) numbers))
+firings_walk : (unit : Unit) (s : RunState) (seats persons : ℕ) (numbers : List ℕ) → s.seats ≡ seats → length s.persons ≡ persons → firings_at (run_system unit) s numbers ≡ map (with_number unit seats) (walk_firings unit s (filter_map (numbered_site unit seats persons) numbers))
 firings_walk unit s seats persons [] with_seats with_persons = refl
 firings_walk unit s seats persons (i ∷ numbers) with_seats with_persons =
     ap (λ first. first ++ firings_at (run_system unit) (step (run_system unit) s i) numbers) (fired_is unit s seats persons i with_seats with_persons)
-    ∙ ap (λ t. fired_by unit s i (site_by unit seats persons i) ++ firings_at (run_system unit) t numbers) (step_is unit s seats persons i with_seats with_persons)
-    ∙ by (site_by unit seats persons i) refl (λ t t_seats t_persons. firings_walk unit t seats persons numbers t_seats t_persons)
+    ∙ ap (λ t. fired_by unit s i (numbered_site unit seats persons i) ++ firings_at (run_system unit) t numbers) (step_is unit s seats persons i with_seats with_persons)
+    ∙ by (numbered_site unit seats persons i) refl (λ t t_seats t_persons. firings_walk unit t seats persons numbers t_seats t_persons)
   where
-    by : (found : Option Site) → site_by unit seats persons i ≡ found → ((t : RunState) → t.seats ≡ seats → length t.persons ≡ persons → firings_at (run_system unit) t numbers ≡ map (with_number unit seats) (walk_firings unit t (filter_map (site_by unit seats persons) numbers))) → fired_by unit s i found ++ firings_at (run_system unit) (after_by unit s found) numbers ≡ map (with_number unit seats) (walk_firings unit s (cons_option found (filter_map (site_by unit seats persons) numbers)))
+    by : (found : Option Site) → numbered_site unit seats persons i ≡ found → ((t : RunState) → t.seats ≡ seats → length t.persons ≡ persons → firings_at (run_system unit) t numbers ≡ map (with_number unit seats) (walk_firings unit t (filter_map (numbered_site unit seats persons) numbers))) → fired_by unit s i found ++ firings_at (run_system unit) (after_by unit s found) numbers ≡ map (with_number unit seats) (walk_firings unit s (cons_option found (filter_map (numbered_site unit seats persons) numbers)))
     by None is rest = rest s with_seats with_persons
     by (Some site) is rest =
         ap (λ first. first ++ firings_at (run_system unit) (after_visit unit s site) numbers) (firing_numbered unit s seats i site (has_number unit seats persons i site is))
         ∙ ap (λ later. map (with_number unit seats) (visit_firings unit s site) ++ later) (rest (after_visit unit s site) (visit_keeps_seats unit s site ∙ with_seats) (ap length (visit_keeps_persons unit s site) ∙ with_persons))
-        ∙ sym (map-append (with_number unit seats) (visit_firings unit s site) (walk_firings unit (after_visit unit s site) (filter_map (site_by unit seats persons) numbers)))
+        ∙ sym (map-append (with_number unit seats) (visit_firings unit s site) (walk_firings unit (after_visit unit s site) (filter_map (numbered_site unit seats persons) numbers)))
 
 -- The firings of a sweep are those of the walk.
 pub sweep_fires : (unit : Unit) (s : RunState) → HasSeats s → sweep_firings (run_system unit) s ≡ map (with_number unit s.seats) (walk_firings unit s (all_sites unit s))
 sweep_fires unit s seats =
-    fired_numbers (run_system unit) s (length (rules_of unit) * s.seats)
-    ∙ firings_walk unit s s.seats (length s.persons) (numbers_below (length (rules_of unit) * s.seats)) refl refl
-    ∙ ap (λ sites. map (with_number unit s.seats) (walk_firings unit s sites)) (sites_in_order unit s.seats (length s.persons) seats.seat seats.seated)
+    fired_numbers (run_system unit) s (site_count unit s.seats)
+    ∙ firings_walk unit s s.seats (length s.persons) (numbers_below (site_count unit s.seats)) refl refl
+    ∙ ap (λ sites. map (with_number unit s.seats) (walk_firings unit s sites)) (sites_in_order unit s.seats (length s.persons) (is_numbering unit s.seats (length s.persons) seats.seat seats.seated))
 
 -- ---- sums
 
@@ -154,30 +150,30 @@ by_number unit of_number f = of_number f.before f.site
 abbrev by_site : (RunState → Site → ℕ) → SiteFiring → ℕ
 by_site of_site f = of_site f.before f.site
 
-sum_walk : (unit : Unit) (seats persons : ℕ) (of_number : RunState → ℕ → ℕ) (of_site : RunState → Site → ℕ) → Measures unit of_number of_site → (s : RunState) (numbers : List ℕ) → s.seats ≡ seats → length s.persons ≡ persons → sum_by (by_number unit of_number) (firings_at (run_system unit) s numbers) ≡ sum_by (by_site of_site) (walk_firings unit s (filter_map (site_by unit seats persons) numbers))
+sum_walk : (unit : Unit) (seats persons : ℕ) (of_number : RunState → ℕ → ℕ) (of_site : RunState → Site → ℕ) → Measures unit of_number of_site → (s : RunState) (numbers : List ℕ) → s.seats ≡ seats → length s.persons ≡ persons → sum_by (by_number unit of_number) (firings_at (run_system unit) s numbers) ≡ sum_by (by_site of_site) (walk_firings unit s (filter_map (numbered_site unit seats persons) numbers))
 sum_walk unit seats persons of_number of_site measures s [] with_seats with_persons = refl
 sum_walk unit seats persons of_number of_site measures s (i ∷ numbers) with_seats with_persons =
     sum_by-append (by_number unit of_number) (fired (run_system unit) s i) (firings_at (run_system unit) (step (run_system unit) s i) numbers)
     ∙ ap (λ first. sum_by (by_number unit of_number) first + sum_by (by_number unit of_number) (firings_at (run_system unit) (step (run_system unit) s i) numbers)) (fired_is unit s seats persons i with_seats with_persons)
-    ∙ ap (λ t. sum_by (by_number unit of_number) (fired_by unit s i (site_by unit seats persons i)) + sum_by (by_number unit of_number) (firings_at (run_system unit) t numbers)) (step_is unit s seats persons i with_seats with_persons)
-    ∙ by (site_by unit seats persons i) refl (λ t t_seats t_persons. sum_walk unit seats persons of_number of_site measures t numbers t_seats t_persons)
+    ∙ ap (λ t. sum_by (by_number unit of_number) (fired_by unit s i (numbered_site unit seats persons i)) + sum_by (by_number unit of_number) (firings_at (run_system unit) t numbers)) (step_is unit s seats persons i with_seats with_persons)
+    ∙ by (numbered_site unit seats persons i) refl (λ t t_seats t_persons. sum_walk unit seats persons of_number of_site measures t numbers t_seats t_persons)
   where
     one : (site : Site) → of_number s i ≡ of_site s site → (b : Bool) → sum_by (by_number unit of_number) (cond b (record { before = s; site = i } ∷ []) []) ≡ sum_by (by_site of_site) (cond b (record { before = s; site = site } ∷ []) [])
     one site same true = ap (λ k. 0 + k) same
     one site same false = refl
 
-    by : (found : Option Site) → site_by unit seats persons i ≡ found → ((t : RunState) → t.seats ≡ seats → length t.persons ≡ persons → sum_by (by_number unit of_number) (firings_at (run_system unit) t numbers) ≡ sum_by (by_site of_site) (walk_firings unit t (filter_map (site_by unit seats persons) numbers))) → sum_by (by_number unit of_number) (fired_by unit s i found) + sum_by (by_number unit of_number) (firings_at (run_system unit) (after_by unit s found) numbers) ≡ sum_by (by_site of_site) (walk_firings unit s (cons_option found (filter_map (site_by unit seats persons) numbers)))
+    by : (found : Option Site) → numbered_site unit seats persons i ≡ found → ((t : RunState) → t.seats ≡ seats → length t.persons ≡ persons → sum_by (by_number unit of_number) (firings_at (run_system unit) t numbers) ≡ sum_by (by_site of_site) (walk_firings unit t (filter_map (numbered_site unit seats persons) numbers))) → sum_by (by_number unit of_number) (fired_by unit s i found) + sum_by (by_number unit of_number) (firings_at (run_system unit) (after_by unit s found) numbers) ≡ sum_by (by_site of_site) (walk_firings unit s (cons_option found (filter_map (numbered_site unit seats persons) numbers)))
     by None is rest = zero-add (sum_by (by_number unit of_number) (firings_at (run_system unit) s numbers)) ∙ rest s with_seats with_persons
     by (Some site) is rest =
         ap (λ first. first + sum_by (by_number unit of_number) (firings_at (run_system unit) (after_visit unit s site) numbers)) (one site (measures s i site (same_site unit s seats persons i with_seats with_persons ∙ is)) (is_due unit s site))
         ∙ ap (λ later. sum_by (by_site of_site) (visit_firings unit s site) + later) (rest (after_visit unit s site) (visit_keeps_seats unit s site ∙ with_seats) (ap length (visit_keeps_persons unit s site) ∙ with_persons))
-        ∙ sym (sum_by-append (by_site of_site) (visit_firings unit s site) (walk_firings unit (after_visit unit s site) (filter_map (site_by unit seats persons) numbers)))
+        ∙ sym (sum_by-append (by_site of_site) (visit_firings unit s site) (walk_firings unit (after_visit unit s site) (filter_map (numbered_site unit seats persons) numbers)))
 
 sweep_sum : (unit : Unit) (of_number : RunState → ℕ → ℕ) (of_site : RunState → Site → ℕ) (s : RunState) → Measures unit of_number of_site → HasSeats s → sum_by (by_number unit of_number) (sweep_firings (run_system unit) s) ≡ sum_by (by_site of_site) (walk_firings unit s (all_sites unit s))
 sweep_sum unit of_number of_site s measures seats =
-    ap (sum_by (by_number unit of_number)) (fired_numbers (run_system unit) s (length (rules_of unit) * s.seats))
-    ∙ sum_walk unit s.seats (length s.persons) of_number of_site measures s (numbers_below (length (rules_of unit) * s.seats)) refl refl
-    ∙ ap (λ sites. sum_by (by_site of_site) (walk_firings unit s sites)) (sites_in_order unit s.seats (length s.persons) seats.seat seats.seated)
+    ap (sum_by (by_number unit of_number)) (fired_numbers (run_system unit) s (site_count unit s.seats))
+    ∙ sum_walk unit s.seats (length s.persons) of_number of_site measures s (numbers_below (site_count unit s.seats)) refl refl
+    ∙ ap (λ sites. sum_by (by_site of_site) (walk_firings unit s sites)) (sites_in_order unit s.seats (length s.persons) (is_numbering unit s.seats (length s.persons) seats.seat seats.seated))
 
 -- The sums of a sweep are those of the walk.
 pub sweep_sums : (unit : Unit) (s : RunState) → HasSeats s → sums_of (run_system unit) (sweep_firings (run_system unit) s) ≡ walk_sums unit (walk_firings unit s (all_sites unit s))

@@ -1,7 +1,6 @@
 -- The sites of a run by their numbers: each has a rule, an owner that the run has, and a number below the count.
-use Rattle.std.proofs.Common.{◌≡◌, refl, ap, ap₂, subst, ◌∙◌, ℕ, suc, ◌+◌, ◌*◌, ◌<◌, ◌≤◌, inl, inr, length, find, slice_get, Option, Some, None, Bool, true, false, is_some, nat_eq, arith, mul-le-mul_right, suc-mul}
+use Rattle.std.proofs.Common.{◌≡◌, refl, ap, ap₂, subst, ◌∙◌, ℕ, ◌<◌, ◌≤◌, inl, inr, length, slice_get, Option, Some, None, Bool, true, false, is_some, nat_eq, Contains}
 use Rattle.std.proofs.lemmas.Bool.{eqb-true}
-use Rattle.std.proofs.lemmas.Option.{slice_get_within}
 use Rattle.std.specs.Option.{option_map_or}
 use Rattle.ld_base.specs.Numbers.{numbers_below}
 use Rattle.ld_model.specs.declared.cell.Owner.{Owner}
@@ -10,27 +9,20 @@ use Rattle.ld_model.specs.declared.unit.Unit.{Unit}
 use Rattle.ld_names.specs.declared.rule.Rule.{Rule}
 use Rattle.ld_names.specs.declared.rule.RuleKind.{RuleKind}
 use Rattle.ld_names.specs.declared.rule.RuleKind.TheVariants.{Person as OfPerson, Run as OfRun}
-use Rattle.ld_names.specs.Rules.{Site, rules_of, kind_of, person_site, sites_by_kind, sites_of_rule, sites_of}
-use Rattle.ld_expr.specs.Owners.{is_for_persons}
+use Rattle.ld_names.specs.Rules.{Site, rules_of, kind_of, person_site, sites_by_kind, sites_of_rule, sites_of, is_for_persons}
+use Rattle.ld_names.specs.SiteNumbers.{numbered_site, site_count, site_number}
+use Rattle.ld_names.proofs.SitesNumbered.{is_numbering}
 use Rattle.ld_firing.specs.Actions.{Doing, nothing_done, site_firing}
 use Rattle.ld_state.specs.RunState.{RunState}
-use Rattle.ld_firing.specs.RunSystem.{owner_number, site_number, site_at, of_site, firing_at}
+use Rattle.ld_firing.specs.RunSystem.{site_at, of_site, firing_at}
 use Rattle.ld_rules.specs.SiteTests.{rule_of}
-use Rattle.ld_state.proofs.Elements.{IsIn, is_below, from_numbered, from_map}
+use Rattle.ld_state.proofs.Elements.{IsIn, contains_from_in, in_from_contains, is_below, from_each, from_map}
 use Rattle.ld_firing.proofs.Found.{chosen_by}
 
--- A run of so many persons has the owner: for what each person has, one of them, else the run.
+-- A run of this many persons has the owner: for what each person has, one of them, else the run.
 pub data IsOwner (persons : ℕ) : Bool → Owner → Type 0 where
   a_person : (p : ℕ) → p < persons → IsOwner persons true (Person (record { 0 = p }))
   the_run : IsOwner persons false Run
-
--- The site of a number, its rule, and that the run has its owner.
-pub record HasSite (unit : Unit) (s : RunState) (i : ℕ) (site : Site) : Type 0 where
-  pub at : site_at unit s i ≡ Some site
-  pub number : site_number s.seats site ≡ i
-  pub rule : Rule
-  pub ruled : rule_of unit site ≡ Some rule
-  pub owned : IsOwner (length s.persons) (is_for_persons (kind_of rule)) site.owner
 
 -- What is a site of the rule of a number.
 pub record IsOfRule (persons n : ℕ) (kind : RuleKind) (site : Site) : Type 0 where
@@ -46,18 +38,41 @@ of_rule persons n OfPerson site inside =
 of_rule persons n OfRun site (inl is) = subst (λ found. IsOfRule persons n OfRun found) is (record { number = refl; owned = the_run })
 of_rule persons n OfRun site (inr later) = absurd later
 
+-- The rule of a site of a run, whose owner the run has.
+pub record HasRule (unit : Unit) (persons : ℕ) (site : Site) : Type 0 where
+  pub rule : Rule
+  pub ruled : rule_of unit site ≡ Some rule
+  pub owned : IsOwner persons (is_for_persons (kind_of rule)) site.owner
+
+pub rule_listed : (unit : Unit) (persons : ℕ) (site : Site) → Contains (sites_of unit persons) site
+    → HasRule unit persons site
+rule_listed unit persons site there =
+    let by = from_each (sites_of_rule persons) (rules_of unit) site (in_from_contains (sites_of unit persons) site there) in
+    let mine = of_rule persons by.number (kind_of by.element) site by.inside in
+    record { rule = by.element; ruled = ap (slice_get (rules_of unit)) mine.number ∙ by.at; owned = mine.owned }
+
+-- The site of a number, its rule, and that the run has its owner.
+pub record HasSite (unit : Unit) (s : RunState) (i : ℕ) (site : Site) : Type 0 where
+  pub at : site_at unit s i ≡ Some site
+  pub number : site_number unit s.seats site ≡ i
+  pub there : Contains (sites_of unit (length s.persons)) site
+  pub rule : Rule
+  pub ruled : rule_of unit site ≡ Some rule
+  pub owned : IsOwner (length s.persons) (is_for_persons (kind_of rule)) site.owner
+
 pub site_found : (unit : Unit) (s : RunState) (i : ℕ) (site : Site) → site_at unit s i ≡ Some site
     → HasSite unit s i site
 site_found unit s i site at =
-    let chosen = chosen_by (λ one. nat_eq (site_number s.seats one) i) (sites_of unit (length s.persons)) site at in
-    let by = from_numbered (sites_of_rule (length s.persons)) (rules_of unit) 0 site chosen.inside in
-    let mine = of_rule (length s.persons) (0 + by.number) (kind_of by.element) site by.inside in
+    let chosen = chosen_by (λ one. nat_eq (site_number unit s.seats one) i) (sites_of unit (length s.persons)) site at in
+    let there = contains_from_in (sites_of unit (length s.persons)) site chosen.inside in
+    let has = rule_listed unit (length s.persons) site there in
     record {
       at = at;
-      number = eqb-true (site_number s.seats site) i chosen.passes;
-      rule = by.element;
-      ruled = ap (slice_get (rules_of unit)) mine.number ∙ ap (slice_get (rules_of unit)) (omega arith) ∙ by.at;
-      owned = mine.owned;
+      number = eqb-true (site_number unit s.seats site) i chosen.passes;
+      there = there;
+      rule = has.rule;
+      ruled = has.ruled;
+      owned = has.owned;
     }
 
 -- ---- a number that is one of a site
@@ -84,28 +99,15 @@ said_of_none unit s i said other at = ap (λ o. option_map_or said o other) at
 pub same_site_at : (unit : Unit) (s t : RunState) (i : ℕ) → s.seats ≡ t.seats → s.persons ≡ t.persons
     → site_at unit s i ≡ site_at unit t i
 same_site_at unit s t i seats persons =
-    ap₂ (λ n ps. find (λ site. nat_eq (site_number n site) i) (sites_of unit (length ps))) seats persons
+    ap₂ (λ n ps. numbered_site unit n (length ps) i) seats persons
 
 -- ---- the count
 
-owner_below : (persons seats : ℕ) (own : Bool) (owner : Owner) → 0 < seats → persons ≤ seats
-    → IsOwner persons own owner → owner_number owner < seats
-owner_below persons seats own owner seat seated (a_person p below) = omega (arith, below, seated)
-owner_below persons seats own owner seat seated the_run = seat
-
-number_below : (rule rules seats owner : ℕ) → rule < rules → owner < seats
-    → rule * seats + owner < rules * seats
-number_below rule rules seats owner lower inside =
-    let whole : suc rule * seats ≤ rules * seats = mul-le-mul_right seats (omega (arith, lower)) in
-    omega (arith, whole, inside, suc-mul rule seats)
-
 pub site_below : (unit : Unit) (s : RunState) (i : ℕ) (site : Site) → 0 < s.seats → length s.persons ≤ s.seats
-    → HasSite unit s i site → i < length (rules_of unit) * s.seats
+    → HasSite unit s i site → i < site_count unit s.seats
 site_below unit s i site seat seated has =
-    subst (λ n. n < length (rules_of unit) * s.seats) has.number
-    (number_below site.rule (length (rules_of unit)) s.seats (owner_number site.owner)
-    (slice_get_within (rules_of unit) site.rule has.rule has.ruled)
-    (owner_below (length s.persons) s.seats (is_for_persons (kind_of has.rule)) site.owner seat seated has.owned))
+    subst (λ n. n < site_count unit s.seats) has.number
+    ((is_numbering unit s.seats (length s.persons) seat seated).below site has.there)
 
 -- ---- what a firing leaves
 

@@ -1,42 +1,30 @@
 -- The sites of a run: each has the number that it is found by.
-use Rattle.std.proofs.Common.{◌≡◌, refl, sym, ap, subst, ℕ, ◌+◌, ◌*◌, ◌<◌, ◌≤◌, inl, inr, List, [], ◌∷◌, length, map, slice_get, Some, Contains, arith}
-use Rattle.std.proofs.lemmas.Bool.{eq-eqb, ne_eqb}
+use Rattle.std.proofs.Common.{◌≡◌, refl, sym, ap, subst, ℕ, ◌<◌, ◌≤◌, inl, [], ◌∷◌, length, map, slice_get, Some, Contains, arith}
 use Rattle.ld_base.specs.Numbers.{numbers_below}
 use Rattle.ld_model.specs.declared.cell.Owner.TheVariants.{Run}
 use Rattle.ld_model.specs.declared.unit.Unit.{Unit}
 use Rattle.ld_names.specs.declared.rule.Rule.{Rule}
 use Rattle.ld_names.specs.declared.rule.RuleKind.TheVariants.{Person as OfPerson, Run as OfRun}
+use Rattle.ld_names.specs.SiteNumbers.{site_number}
+use Rattle.ld_names.proofs.SitesNumbered.{is_numbering, site_numbered as numbers_site}
 use Rattle.ld_names.specs.Rules.{Site, kind_of, person_site, rules_of, sites_by_kind, sites_of, sites_of_rule}
 use Rattle.ld_state.specs.RunState.{RunState}
 use Rattle.ld_state.specs.StateView.{StateView, run_of}
-use Rattle.ld_state.proofs.Elements.{IsIn, contains_from_in, in_below, in_each, in_from_contains, in_map}
-use Rattle.ld_firing.specs.RunSystem.{IsSoundRun, site_at, site_number}
+use Rattle.ld_state.proofs.Elements.{IsIn, contains_from_in, in_below, in_each, in_map}
+use Rattle.ld_firing.specs.RunSystem.{IsSoundRun, site_at}
 use Rattle.ld_firing.specs.SiteWalk.{HasSeats}
-use Rattle.ld_firing.proofs.SeatsAscent.{Ascends, numbered}
-use Rattle.ld_firing.proofs.SeatsNumbers.{rules_ascend}
 use Rattle.ld_state.proofs.SeenSame.{persons_counted}
 
 -- ---- numbers
-
--- Where numbers ascend, an element is the first that has its number.
-found_by_number : {X : Type 0} (number : X → ℕ) (a b : ℕ) (xs : List X) (x : X) → Ascends number a xs b → IsIn xs x → (a ≤ number x) × (numbered number xs (number x) ≡ Some x)
-found_by_number number a b [] x ascends inside = absurd inside
-found_by_number number a b (y ∷ ys) x ascends (inl is) =
-    (omega (arith, ascends.0, ap number is), rw (eq-eqb (number y) (number x) (ap number is)) (ap Some is))
-found_by_number number a b (y ∷ ys) x ascends (inr later) =
-    let rest = found_by_number number (number y + 1) b ys x ascends.1 later in
-    (omega (arith, ascends.0, rest.0), rw (ne_eqb (number y) (number x) (λ same. omega (arith, same, rest.0))) rest.1)
 
 pub seats_of : (unit : Unit) (s : RunState) → IsSoundRun unit s → HasSeats s
 seats_of unit s sound = record { seat = sound.seat; seated = sound.seated }
 
 -- A site is the one of its number.
 pub site_numbered : (unit : Unit) (s : RunState) (site : Site) → HasSeats s → Contains (sites_of unit (length s.persons)) site
-    → site_at unit s (site_number s.seats site) ≡ Some site
+    → site_at unit s (site_number unit s.seats site) ≡ Some site
 site_numbered unit s site seats there =
-    (found_by_number (site_number s.seats) (0 * s.seats) ((0 + length (rules_of unit)) * s.seats) (sites_of unit (length s.persons)) site
-    (rules_ascend s.seats (length s.persons) 0 (rules_of unit) seats.seat seats.seated)
-    (in_from_contains (sites_of unit (length s.persons)) site there)).1
+    numbers_site unit s.seats (length s.persons) site (is_numbering unit s.seats (length s.persons) seats.seat seats.seated) there
 
 -- ---- which sites there are
 

@@ -55,7 +55,7 @@ busy A (x ∷ xs) some = by (length (x ∷ xs) == 0) refl
     by true none = absurd (omega (arith, eqb-true (length (x ∷ xs)) 0 none))
     by false is = is
 
--- A settling of so many turns.
+-- A settling of this many turns.
 pub turns_of_settling : (y : System) (s : y.Situation) (budget turns : ℕ) → Settles y s budget turns → turns_within y s budget ≡ Some turns
 turns_of_settling y s budget turns settles =
     first_found (is_quiet_after y s) (budget + 1) 0 turns (omega arith) (omega (arith, settles.within))

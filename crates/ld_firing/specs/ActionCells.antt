@@ -10,13 +10,14 @@ use Rattle.ld_model.specs.declared.condition.Action.TheVariants.{Show, Hide, Cha
 use Rattle.ld_model.specs.declared.unit.Unit.{Unit}
 use Rattle.ld_names.specs.declared.rule.Rule.{Rule}
 use Rattle.ld_names.specs.Names.{thing_number}
-use Rattle.ld_expr.specs.Looks.{property_looks}
 use Rattle.ld_expr.specs.Lookup.{list_from}
 use Rattle.ld_expr.specs.Seen.{visibility_cell, act_opened_cell, mark_cell}
-use Rattle.ld_firing.specs.Actions.{actions_of, is_of_persons, opened_by, owners_of_change}
+use Rattle.ld_expr.specs.Terms.{cell_of_property}
+use Rattle.ld_firing.specs.Actions.{actions_of, holder_named, opened_by, owners_of_change}
 use Rattle.ld_state.specs.RunCells.{slot_of}
+use Rattle.ld_rules.specs.SiteLooks.{cell_list}
 
--- A run with so many persons has the cell.
+-- A run with this many persons has the cell.
 abbrev pub has_slot : Unit → ℕ → CellName → Bool
 has_slot unit persons cell = is_some (slot_of unit persons cell)
 
@@ -29,14 +30,14 @@ abbrev pub visible_cells : Unit → Owner → List ℕ → List CellName
 visible_cells unit Run id = []
 visible_cells unit (Person p) id = list_from (λ thing. visibility_cell thing p.0 ∷ []) (thing_number unit id)
 
--- The owner's value of the property.
+-- The value of the property that is meant where the owner speaks.
 abbrev pub change_cells : Unit → ChangeOf → Owner → List CellName
-change_cells unit change owner = property_looks unit owner change.property
+change_cells unit change owner = cell_list (cell_of_property unit owner change.property)
 
 -- The same for all for whom the change is made.
 abbrev pub all_change_cells : Unit → ℕ → Owner → ChangeOf → List CellName
 all_change_cells unit persons owner change =
-    flat_map (change_cells unit change) (owners_of_change persons owner (is_of_persons unit change.property))
+    flat_map (change_cells unit change) (owners_of_change (holder_named unit change.property) persons owner)
 
 -- The cells of one action at a site of the owner; a notice writes none.
 abbrev pub action_cells : Unit → ℕ → Owner → Action → List CellName

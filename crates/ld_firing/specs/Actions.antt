@@ -1,11 +1,10 @@
 -- What a firing does: acts open, properties change, things are shown and hidden, notices are sent.
 use Rattle.std.specs.Prelude.{ℕ, pos, List, [], ◌∷◌, ◌++◌, map, filter, fold, length, Option, Some, None, Bool, true, false, not, ◌+◌, unwrap_or, slice_get}
 use Rattle.std.specs.List.{list_any}
-use Rattle.std.specs.Option.{option_eq}
+use Rattle.std.specs.Option.{option_eq, option_map_or}
 use Rattle.ld_base.specs.Maybe.{◌>>=◌, provided}
 use Rattle.ld_base.specs.Numbers.{numbers_below}
 use Rattle.ld_value.specs.Datum.{Datum, truth_datum, same_datum}
-use Rattle.ld_model.specs.Properties.{is_personal}
 use Rattle.ld_model.specs.declared.cell.CellName.{CellName}
 use Rattle.ld_model.specs.declared.cell.CellName.TheVariants.{Now}
 use Rattle.ld_model.specs.declared.cell.Owner.{Owner}
@@ -19,10 +18,13 @@ use Rattle.ld_model.specs.declared.condition.Condition.{Condition}
 use Rattle.ld_model.specs.declared.unit.Unit.{Unit}
 use Rattle.ld_names.specs.declared.rule.Rule.{Rule}
 use Rattle.ld_names.specs.declared.rule.Rule.TheVariants.{CompletesActivity, CompletesStructure, OpensAct, CompletesPart, CompletesAct, CompletesPlay, CompletesUnit, JudgesCondition}
+use Rattle.ld_names.specs.Holders.{holder_of}
 use Rattle.ld_names.specs.Names.{thing_number}
+use Rattle.ld_names.specs.declared.holder.Holder.{Holder}
+use Rattle.ld_names.specs.declared.holder.Holder.TheVariants.{Run as HeldByRun, Persons as HeldByPersons}
 use Rattle.ld_names.specs.Rules.{Site}
 use Rattle.ld_refs.specs.Extents.{act_at, play_at}
-use Rattle.ld_expr.specs.Lookup.{is_some_and, list_from, property_of}
+use Rattle.ld_expr.specs.Lookup.{list_from, property_of}
 use Rattle.ld_expr.specs.Membership.{is_member_of}
 use Rattle.ld_expr.specs.Owners.{of_person, fits_property}
 use Rattle.ld_expr.specs.Seen.{Seen, everyone, moment_of_value, visibility_cell, act_opened_cell}
@@ -73,18 +75,20 @@ change_for unit change doing owner =
     with_change doing (cell_of_property unit owner change.property)
     (value >>= if_fitting unit change.property)
 
--- For whom a change is made: at the run's site of a personal property for each person, else for the owner.
-abbrev pub owners_of_change : ℕ → Owner → Bool → List Owner
-owners_of_change persons Run true = map of_person (numbers_below persons)
-owners_of_change persons owner _ = owner ∷ []
+-- For whom a change of the holder's value is made at a site of the owner: at the run's site, where each
+-- person has a value, for each person, else for the owner.
+abbrev pub owners_of_change : Holder → ℕ → Owner → List Owner
+owners_of_change HeldByRun persons owner = owner ∷ []
+owners_of_change HeldByPersons persons Run = map of_person (numbers_below persons)
+owners_of_change HeldByPersons persons (Person p) = Person p ∷ []
 
--- The property of this identifier is one of which each person has a value of the person's own.
-abbrev pub is_of_persons : Unit → List ℕ → Bool
-is_of_persons unit id = is_some_and (λ property. is_personal property.kind) (property_of unit id)
+-- Who has values of the property of this identifier; where it names none, no person has one.
+abbrev pub holder_named : Unit → List ℕ → Holder
+holder_named unit id = option_map_or (holder_of unit) (property_of unit id) HeldByRun
 
 -- For whom the change is made at a site of the owner, in this state.
 abbrev pub targets_of : Unit → RunState → Owner → ChangeOf → List Owner
-targets_of unit s owner change = owners_of_change (length s.persons) owner (is_of_persons unit change.property)
+targets_of unit s owner change = owners_of_change (holder_named unit change.property) (length s.persons) owner
 
 -- The change is made for each of them, one after another, each time in what was left before.
 abbrev pub do_change : Unit → Owner → Doing → ChangeOf → Doing
@@ -164,7 +168,13 @@ actions_of unit (JudgesCondition c) verdict = list_from (branch_of verdict) (sli
 -- The thing that a firing opens: an act.
 abbrev pub opened_by : Unit → Rule → Option ℕ
 opened_by unit (OpensAct p a) = act_at unit p a >>= λ act. thing_number unit act.identifier
-opened_by unit _ = None
+opened_by unit (CompletesActivity _) = None
+opened_by unit (CompletesStructure _) = None
+opened_by unit (CompletesPart _ _ _) = None
+opened_by unit (CompletesAct _ _) = None
+opened_by unit (CompletesPlay _) = None
+opened_by unit CompletesUnit = None
+opened_by unit (JudgesCondition _) = None
 
 -- The act was opened now.
 abbrev pub with_opening : Doing → Option ℕ → Doing

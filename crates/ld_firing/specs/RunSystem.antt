@@ -1,15 +1,14 @@
 -- The sites of a unit's runs as a system: what the settling of a run goes by.
-use Rattle.std.specs.Prelude.{ℕ, ◌+◌, ◌*◌, ◌<◌, ◌≤◌, ◌≡◌, List, length, map, find, filter_map, Option, Some, None, Bool, true, false, is_some, nat_eq, slice_get}
+use Rattle.std.specs.Prelude.{ℕ, ◌<◌, ◌≤◌, ◌≡◌, List, length, map, filter_map, Option, Some, None, Bool, true, false, is_some, slice_get}
 use Rattle.std.specs.Option.{option_map_or}
 use Rattle.ld_base.specs.Maybe.{◌>>=◌}
 use Rattle.ld_cascade.specs.System.{System}
 use Rattle.ld_value.specs.Datum.{Datum, truth_datum}
 use Rattle.ld_model.specs.declared.cell.CellName.{CellName}
-use Rattle.ld_model.specs.declared.cell.Owner.{Owner}
-use Rattle.ld_model.specs.declared.cell.Owner.TheVariants.{Run, Person}
 use Rattle.ld_model.specs.declared.unit.Unit.{Unit}
 use Rattle.ld_names.specs.Identifiers.{all_differ}
-use Rattle.ld_names.specs.Rules.{Site, sites_of, rules_of}
+use Rattle.ld_names.specs.Rules.{Site}
+use Rattle.ld_names.specs.SiteNumbers.{numbered_site, site_count}
 use Rattle.ld_refs.specs.Checks.{IsValid}
 use Rattle.ld_expr.specs.Lookup.{list_from}
 use Rattle.ld_roles.specs.Roster.{Persons}
@@ -20,22 +19,11 @@ use Rattle.ld_state.specs.RunState.{RunState, seen_in, cell_of}
 use Rattle.ld_rules.specs.SiteLooks.{site_looks, open_looks}
 use Rattle.ld_rules.specs.SiteTests.{site_test, site_mark}
 
--- ---- numbers of sites
-
--- The owner's place among the seats: 0 for the run, and for a person the person's number.
-abbrev pub owner_number : Owner → ℕ
-owner_number Run = 0
-owner_number (Person p) = p.0
-
--- Each rule has as many numbers as the run has seats, so that sites stand in the order of their numbers,
--- and keep them when a person joins.
-abbrev pub site_number : ℕ → Site → ℕ
-site_number seats site = site.rule * seats + owner_number site.owner
+-- ---- sites by their numbers
 
 -- The site of this number.
 abbrev pub site_at : Unit → RunState → ℕ → Option Site
-site_at unit s number =
-    find (λ site. nat_eq (site_number s.seats site) number) (sites_of unit (length s.persons))
+site_at unit s number = numbered_site unit s.seats (length s.persons) number
 
 -- What is said of the site of this number, or of a number that is none.
 abbrev pub of_site : {A : Type 0} → Unit → RunState → ℕ → (Site → A) → A → A
@@ -95,7 +83,7 @@ run_system unit = record {
   setting = λ s. record { seats = s.seats; persons = s.persons };
   GrowsTo = IsGrown;
   is_site = λ s i. is_some (site_at unit s i);
-  count = λ s. length (rules_of unit) * s.seats;
+  count = λ s. site_count unit s.seats;
   slots = λ s. length (all_cells unit (length s.persons));
   content = content_of unit;
   test = λ s i. of_site unit s i (site_test unit (seen_in unit s)) false;

@@ -4,11 +4,11 @@ use Rattle.ld_model.specs.declared.cell.CellName.{CellName}
 use Rattle.ld_firing.specs.RunSettling.{Settlement}
 use Rattle.ld_state.specs.RunState.{RunState}
 
--- The same run with so many seats.
+-- The same run with this many seats.
 abbrev pub reseated : ℕ → RunState → RunState
 reseated seats s = record s { seats = seats }
 
--- The same settlement, whose state has so many seats.
+-- The same settlement, whose state has this many seats.
 abbrev pub settlement_reseated : ℕ → Settlement → Settlement
 settlement_reseated seats x = record x { state = reseated seats x.state }
 

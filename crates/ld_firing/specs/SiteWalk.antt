@@ -5,9 +5,10 @@ use Rattle.ld_cascade.specs.System.{due}
 use Rattle.ld_cascade.specs.Settling.{Firing, Sums}
 use Rattle.ld_model.specs.declared.unit.Unit.{Unit}
 use Rattle.ld_names.specs.Rules.{Site, sites_of}
+use Rattle.ld_names.specs.SiteNumbers.{site_number}
 use Rattle.ld_firing.specs.Actions.{site_firing}
 use Rattle.ld_state.specs.RunState.{RunState, seen_in}
-use Rattle.ld_firing.specs.RunSystem.{run_system, site_number, verdict_in}
+use Rattle.ld_firing.specs.RunSystem.{run_system, verdict_in}
 use Rattle.ld_rules.specs.SiteTests.{site_test, site_mark}
 
 -- There is a seat, and one for each person.
@@ -56,4 +57,4 @@ all_sites unit s = sites_of unit (length s.persons)
 
 -- The firing in the words of the system, where a site is a number.
 abbrev pub with_number : (unit : Unit) → ℕ → SiteFiring → Firing (run_system unit)
-with_number unit seats f = record { before = f.before; site = site_number seats f.site }
+with_number unit seats f = record { before = f.before; site = site_number unit seats f.site }

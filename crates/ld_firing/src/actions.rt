@@ -9,16 +9,11 @@ ghost use Rattle.ld_firing.specs.Costs.{action_cost};
 ghost use Rattle.ld_firing.specs.Progress.{Does, progress_of};
 
 use crate::actor::Actor;
-use ld_base::fired::Fired;
-use ld_base::id::Id;
-use ld_base::memory::NoMemory;
-use ld_base::steps::Steps;
-use ld_expr::cells::thing_number;
-use ld_model::cell::{CellName, Owner};
-use ld_model::completion::{Change, Notice, OnCompletion};
-use ld_model::condition::Action;
-use ld_state::state::State;
-use ld_value::value::Value;
+use ld_base::{Fired, Id, NoMemory, Steps};
+use ld_expr::thing_number;
+use ld_model::{Action, CellName, Change, Notice, OnCompletion, Owner};
+use ld_state::State;
+use ld_value::Value;
 use std::sync::ledger::Ledger;
 
 impl<'a> Actor<'a> {
@@ -212,8 +207,9 @@ impl<'a> Actor<'a> {
         ensures rows { state.new.rows ≡ state.old.rows }
         ensures kept { state.new.kept ≡ state.old.kept }
     {
-        let Owner::Person(person) = self.owner else {
-            return Ok(());
+        let person = match self.owner {
+            Owner::Person(person) => person,
+            Owner::Run => return Ok(()),
         };
         let Some(thing) = thing_number(self.unit, self.names, thing) else {
             return Ok(());

@@ -8,12 +8,11 @@ ghost use Rattle.ld_firing.specs.ActionCells.{has_slot};
 ghost use Rattle.ld_firing.specs.Actions.{with_write};
 ghost use Rattle.ld_firing.specs.Progress.{Does, progress_of};
 
-use ld_base::memory::NoMemory;
-use ld_model::cell::{CellName, Owner};
-use ld_model::unit::Unit;
-use ld_names::names::Names;
-use ld_state::state::State;
-use ld_value::value::Value;
+use ld_base::NoMemory;
+use ld_model::{CellName, Owner, Unit};
+use ld_names::Names;
+use ld_state::State;
+use ld_value::Value;
 use std::alloc::Global;
 
 /// An owner who acts in the runs of a unit: the run, or one person.

@@ -2,7 +2,6 @@
 ghost use Rattle.std.specs.Prelude.{◌≡◌, ◌+◌, ◌*◌, ◌≤◌, ◌<◌, flat_map, fold, length, map, IfOk, IfSome, OnOk, option_map};
 ghost use Rattle.ld_base.specs.Maybe.{◌>>=◌ as ◌then◌};
 ghost use Rattle.ld_base.specs.Numbers.{numbers_below};
-ghost use Rattle.ld_model.specs.Properties.{is_personal};
 ghost use Rattle.ld_expr.specs.Lookup.{is_some_and, property_number, property_of};
 ghost use Rattle.ld_expr.specs.Owners.{fits_property, of_person};
 ghost use Rattle.ld_expr.specs.Terms.{term_value};
@@ -10,26 +9,18 @@ ghost use Rattle.ld_value.specs.Datum.{datum_of};
 ghost use Rattle.ld_state.specs.RunState.{seen_in};
 ghost use Rattle.ld_state.specs.StateView.{IsStateOf, run_of};
 ghost use Rattle.ld_firing.specs.ActionCells.{HasSlots, all_change_cells, change_cells};
-ghost use Rattle.ld_firing.specs.Actions.{change_for, do_change, if_fitting, is_of_persons, owners_of_change};
+ghost use Rattle.ld_firing.specs.Actions.{change_for, do_change, holder_named, if_fitting, owners_of_change};
 ghost use Rattle.ld_firing.specs.Costs.{term_leaves};
 ghost use Rattle.ld_firing.specs.Progress.{Does, progress_of};
 
 use crate::actor::Actor;
-use ld_base::fired::Fired;
-use ld_base::id::Id;
-use ld_base::memory::NoMemory;
-use ld_base::numbers::{PersonNo, PropNo};
-use ld_base::steps::Steps;
-use ld_expr::cells::cell_of_property;
-use ld_expr::scope::Scope;
-use ld_model::cell::Owner;
-use ld_model::completion::Change;
-use ld_model::property::PropertyKind;
-use ld_model::view::View;
-use ld_names::names::Named;
-use ld_state::state::State;
+use ld_base::{Fired, Id, NoMemory, PersonNo, PropNo, Steps};
+use ld_expr::{Scope, cell_of_property};
+use ld_model::{Change, Owner, View};
+use ld_names::{Holder, Named};
+use ld_state::State;
+use ld_value::Value;
 use ld_value::fits::fits;
-use ld_value::value::Value;
 use std::sync::ledger::Ledger;
 
 impl<'a> Actor<'a> {
@@ -54,16 +45,17 @@ impl<'a> Actor<'a> {
         ensures rows { state.new.rows ≡ state.old.rows }
         ensures kept { state.new.kept ≡ state.old.kept }
         ensures cost { steps.new ≤ steps.old + (term_leaves change.now.value + 2)
-            * length (owners_of_change (length state.old.rows) self.now.owner
-            (is_of_persons self.now.unit.now change.now.property)) }
+            * length (owners_of_change (holder_named self.now.unit.now change.now.property)
+            (length state.old.rows) self.now.owner) }
     {
-        let Owner::Run = self.owner else {
-            return self.change_for(change, self.owner, state, changed, fired, steps);
-        };
-        if self.is_of_persons(&change.property) {
-            return self.change_for_everyone(change, state, changed, fired, steps);
+        let owner = self.owner;
+        match self.holder(&change.property) {
+            Holder::Run => self.change_for(change, owner, state, changed, fired, steps),
+            Holder::Persons => match owner {
+                Owner::Run => self.change_for_everyone(change, state, changed, fired, steps),
+                Owner::Person(_) => self.change_for(change, owner, state, changed, fired, steps),
+            },
         }
-        self.change_for(change, Owner::Run, state, changed, fired, steps)
     }
 
     /// Makes the change for each person.
@@ -170,14 +162,18 @@ impl<'a> Actor<'a> {
         fits(property.datatype, self.names.limits(number), value)
     }
 
-    /// Whether each person has a value of the property that the identifier names.
-    fn is_of_persons(&self, id: &Id) -> bool
-        ensures { result ≡ is_of_persons self.now.unit.now id.now }
+    /// Who has values of the property that the identifier names; where it names none, no person has
+    /// one.
+    fn holder(&self, id: &Id) -> Holder
+        ensures { result ≡ holder_named self.now.unit.now id.now }
     {
         let Some(number) = self.property_number(id) else {
-            return false;
+            return Holder::Run;
         };
-        is_personal(self.unit.properties.as_slice()[number.0 as usize].kind)
+        Holder::of(
+            self.unit,
+            &self.unit.properties.as_slice()[number.0 as usize],
+        )
     }
 
     /// The number of the property that the identifier names.
@@ -204,14 +200,4 @@ fn reject(fired: &mut Fired) -> Result<(), NoMemory>
     };
     fired.rejected = rejected;
     Ok(())
-}
-
-/// Whether each person has a value of a property of the kind.
-fn is_personal(kind: PropertyKind) -> bool
-    ensures { result ≡ is_personal kind }
-{
-    match kind {
-        PropertyKind::LocPers | PropertyKind::GlobPers => true,
-        PropertyKind::Loc | PropertyKind::LocRole | PropertyKind::Glob => false,
-    }
 }

@@ -16,27 +16,20 @@ ghost use Rattle.ld_rules.specs.SiteTests.{site_test};
 ghost use Rattle.ld_rules.specs.SiteView.{site_of};
 
 use crate::actor::Actor;
-use ld_base::fired::Fired;
-use ld_base::memory::NoMemory;
-use ld_base::numbers::{RuleNo, ThingNo};
-use ld_base::steps::Steps;
-use ld_expr::cells::thing_number;
-use ld_model::cell::CellName;
-use ld_model::condition::{Action, Condition};
-use ld_model::view::View;
-use ld_names::rule::Rule;
-use ld_rules::method_rules::act_at;
-use ld_rules::prepared::PreparedUnit;
-use ld_rules::site::Site;
-use ld_state::state::State;
-use ld_value::value::Value;
+use ld_base::{Fired, NoMemory, RuleNo, Steps, ThingNo};
+use ld_expr::thing_number;
+use ld_model::{Action, CellName, Condition, View};
+use ld_names::Rule;
+use ld_rules::{PreparedUnit, Site, act_at};
+use ld_state::State;
+use ld_value::Value;
 use std::alloc::Global;
 use std::sync::ledger::Ledger;
 
 /// Fires the site: its mark becomes the verdict, which is what its test says, and what its rule
 /// wants then follows. The slots of the cells that get another value are told, in order and with
-/// repeats. After want of memory the state is another one of the same persons, with the same mark:
-/// it has to be taken back. (docs/MEANING.md, "Firing, sweeping, settling")
+/// repeats. After running out of memory the state is another one of the same persons, with the same
+/// savepoint: it has to be rolled back. (docs/MEANING.md, "Firing, sweeping, settling")
 pub fn fire<L: Ledger>(
     alloc: Global,
     unit: &PreparedUnit,

@@ -6,3 +6,5 @@ mod actor;
 mod changes;
 pub mod firing;
 mod notices;
+
+pub use firing::fire;

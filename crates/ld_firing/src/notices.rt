@@ -13,22 +13,11 @@ ghost use Rattle.ld_firing.specs.Actions.{do_notify, notice_now, recipients};
 ghost use Rattle.ld_firing.specs.Progress.{Does, progress_of};
 
 use crate::actor::Actor;
-use ld_base::fired::Fired;
-use ld_base::id::Id;
-use ld_base::memory::NoMemory;
-use ld_base::numbers::{PersonList, PersonNo, ThingNo};
-use ld_base::plain_text::PlainText;
-use ld_base::steps::Steps;
-use ld_base::text::Text;
-use ld_expr::cells::thing_number;
-use ld_expr::scope::Scope;
-use ld_model::cell::CellName;
-use ld_model::completion::Notice;
-use ld_model::view::View;
-use ld_state::notice::OutNotice;
-use ld_state::state::State;
-use ld_value::moment::Moment;
-use ld_value::value::Value;
+use ld_base::{Fired, Id, NoMemory, PersonList, PersonNo, PlainText, Steps, Text, ThingNo};
+use ld_expr::{Scope, thing_number};
+use ld_model::{CellName, Notice, View};
+use ld_state::{OutNotice, State};
+use ld_value::{Moment, Value};
 use std::alloc::Global;
 use std::sync::ledger::Ledger;
 

@@ -84,7 +84,7 @@ pub record IsFirstToDiffer (store : Store) (pairs : List (List ℕ × Declaratio
   pub differs : Differs store pair
   pub before : AllByRecursion (Agrees store) (take place pairs)
 
--- The fault tells of the first pair that differs, or of want of memory.
+-- The fault tells of the first pair that differs, or that memory ran out.
 abbrev pub IsTold : Store → List (List ℕ × Declaration) → DeclareFault → Type 0
 IsTold store pairs (declaring.Differs place) = IsFirstToDiffer store pairs place
 IsTold store pairs declaring.NoMemory = Unit {0}
@@ -134,7 +134,7 @@ put_in store key value =
 abbrev pub spend : Store → Store
 spend store = record store { spare = store.spare - 1 }
 
--- The store with so many writes to spare, or more where it had more.
+-- The store with this many writes to spare, or more where it had more.
 abbrev pub reserve_in : Store → ℕ → Store
 reserve_in store writes = record store { spare = max store.spare writes }
 
@@ -164,7 +164,7 @@ set_declared (Some d) key text = set_value (suits d.kind (is_some key.person)) (
 abbrev pub set_answer : Store → Key → List ℕ → Result Datum SetFault
 set_answer store key text = set_declared (declared_at store key.uri) key text
 
--- The fault is the answer's, or tells of want of memory.
+-- The fault is the answer's, or tells that memory ran out.
 abbrev pub IsRefused : {A : Type 0} → Result A SetFault → SetFault → Type 0
 IsRefused answer fault = fault ≢ setting.NoMemory → answer ≡ Err fault
 

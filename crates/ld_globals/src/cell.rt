@@ -1,5 +1,5 @@
 //! What is kept of a key.
-use ld_value::value::Value;
+use ld_value::Value;
 
 /// The value of a key, and the number of the write that gave it, counted from 1.
 #[derive(Drop)]

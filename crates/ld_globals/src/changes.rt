@@ -9,8 +9,7 @@ use crate::cell::Cell;
 use crate::declared::Declared;
 use crate::key_number::KeyNumber;
 use indexmap::{IndexMap, IndexSet};
-use ld_base::id::Id;
-use ld_base::text::Text;
+use ld_base::{Id, Text};
 use lru::Iter;
 use std::marker::Model;
 

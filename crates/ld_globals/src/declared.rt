@@ -5,12 +5,8 @@ ghost use Rattle.ld_value.specs.Datum.{datum_of, same_datum};
 ghost use Rattle.ld_value.specs.Values.{restrictions_of};
 ghost use Rattle.ld_globals.specs.Declarations.{declaration_of, suits as is_suited};
 
-use ld_base::id::Id;
-use ld_base::items::Items;
-use ld_base::text::Text;
-use ld_value::kind::Kind;
-use ld_value::limits::Limits;
-use ld_value::value::{Value, same_value};
+use ld_base::{Id, Items, Text};
+use ld_value::{Kind, Limits, Value, same_value};
 
 /// Whether a global property has one value for all, or one for each person.
 #[derive(Clone, Copy, Debug, PartialEq, Eq)]

@@ -8,7 +8,7 @@ ghost use Rattle.ld_globals.specs.declared.declared.Declared.{Declared};
 
 use crate::declared::{Declared, same_declared};
 use indexmap::IndexMap;
-use ld_base::text::Text;
+use ld_base::Text;
 
 /// The place of the first pair whose uri is declared with other contents.
 pub(crate) fn first_to_differ(

@@ -1,7 +1,7 @@
 //! What a call of the store can be refused for.
 ghost use Rattle.std.specs.Prelude.{◌≡◌};
 
-use ld_base::memory::NoMemory;
+use ld_base::NoMemory;
 
 /// Why a list was not declared.
 #[derive(Clone, Copy, Debug, PartialEq, Eq)]

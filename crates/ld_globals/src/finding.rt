@@ -7,13 +7,13 @@ ghost use Rattle.ld_globals.specs.Kept.{IsFound};
 
 use crate::declared::Declared;
 use indexmap::IndexMap;
-use ld_base::text::Text;
+use ld_base::Text;
 use std::cell::Cell;
 
 /// The place where a uri was found last, and whether the last search through the map that found one
-/// found it at the place remembered then, or right behind it. If so, the next uri is looked for right
-/// behind the remembered place and at it, before the map is searched. No contract speaks of this:
-/// whoever looks there compares the uri.
+/// found it at the place remembered then, or right behind it. If so, the next uri is looked for
+/// right behind the remembered place and at it, before the map is searched. No contract speaks of
+/// this: whoever looks there compares the uri.
 #[derive(Drop)]
 pub(crate) struct Guess {
     last: Cell<usize>,
@@ -83,7 +83,7 @@ fn search_uri<'a>(
     Some((number, contents))
 }
 
-/// The place behind this one of so many; behind the last one comes the first.
+/// The place behind this one, of `len` places; after the last one comes the first.
 fn place_behind(place: usize, len: usize) -> usize {
     let behind = place.wrapping_add(1);
     if behind < len {

@@ -2,7 +2,7 @@
 ghost use Rattle.std.specs.Prelude.{◌≡◌, option_copied};
 ghost use Rattle.ld_globals.specs.Given.{IsLent, given_text};
 
-use ld_base::id::Id;
+use ld_base::Id;
 
 /// The person of a key that is to be written: none, one whose identifier the store may keep, or
 /// one whose identifier it may only copy.

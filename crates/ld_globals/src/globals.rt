@@ -21,11 +21,8 @@ use crate::reading::read_declared;
 use crate::recency::Recency;
 use crate::writing::{has_value, next_number, number_person, write_cell};
 use indexmap::{IndexMap, IndexSet};
-use ld_base::id::Id;
-use ld_base::memory::NoMemory;
-use ld_base::steps::Steps;
-use ld_base::text::Text;
-use ld_value::value::Value;
+use ld_base::{Id, NoMemory, Steps, Text};
+use ld_value::Value;
 use std::alloc::Global;
 use std::marker::Model;
 use std::sync::ledger::Ledger;
@@ -138,7 +135,7 @@ impl Globals {
         }
     }
 
-    /// Makes sure that so many writes need no memory. Where memory is wanting the store stays as
+    /// Makes sure that this many writes need no memory. Where memory runs out the store stays as
     /// it was.
     pub fn reserve(&mut self, writes: u32) -> Result<(), NoMemory>
         ensures ok { OnOk result (self.new ≡ reserve_in self.old writes) }
@@ -186,7 +183,7 @@ impl Globals {
     }
 
     /// Gives the key the value. It takes one of the writes that are to spare, and no memory but for
-    /// the copy of a person's identifier who has no number. Where memory is wanting for that the
+    /// the copy of a person's identifier who has no number. Where memory runs out for that the
     /// store stays as it was.
     fn give(&mut self, uri: &Text, person: Given<'_>, value: Option<Value>) -> Result<(), NoMemory>
         requires spare { 0 < self.old.spare }
@@ -264,7 +261,7 @@ impl Globals {
         Ok(())
     }
 
-    /// Makes room for so many writes, as `reserve` does.
+    /// Makes room for this many writes, as `reserve` does.
     fn make_room(&mut self, room: usize) -> Result<(), NoMemory>
         ensures ok { OnOk result (self.new ≡ reserve_in self.old room) }
         ensures err { OnErr result (self.new ≡ self.old) }

@@ -10,8 +10,7 @@ ghost use Rattle.ld_globals.specs.Store.{same_key};
 use crate::cell::Cell;
 use crate::declared::Declared;
 use indexmap::{IndexMap, IndexSet};
-use ld_base::id::Id;
-use ld_base::text::Text;
+use ld_base::{Id, Text};
 
 /// A key by the number of its uri and, where it has a person, the person's number.
 #[derive(Clone, Copy, Debug, PartialEq, Eq, Hash)]

@@ -14,3 +14,7 @@ mod key_number;
 mod reading;
 mod recency;
 mod writing;
+
+pub use declared::{Declared, DeclaredList, GlobalKind};
+pub use faults::{DeclareFault, GlobalFault, SetFault};
+pub use globals::Globals;

@@ -6,11 +6,9 @@ ghost use Rattle.ld_globals.specs.Store.{IsRefused};
 
 use crate::declared::{Declared, suits};
 use crate::faults::SetFault;
-use ld_base::id::Id;
-use ld_value::fault::ValueFault;
+use ld_base::Id;
 use ld_value::fits::fits;
-use ld_value::read::read_value;
-use ld_value::value::Value;
+use ld_value::{Value, ValueFault, read_value};
 use std::alloc::Global;
 
 /// The value of the text for a key that is declared so, if it may be set to it.

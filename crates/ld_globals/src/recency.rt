@@ -5,8 +5,7 @@ ghost use Rattle.std.specs.Map.{keys_of, lookup, remove_entry};
 ghost use Rattle.ld_globals.specs.Kept.{is_later, walk_left};
 ghost use Rattle.ld_globals.specs.Recent.{Grows, IsRecency};
 
-use ld_base::memory::NoMemory;
-use ld_base::steps::Steps;
+use ld_base::{NoMemory, Steps};
 use lru::{Iter, LruCache};
 use std::alloc::Global;
 use std::marker::Model;
@@ -77,7 +76,7 @@ impl Recency {
         count_later(cache.iter(), bound, steps)
     }
 
-    /// Has at least so many slots. What is added was never used; where memory is wanting only
+    /// Has at least this many slots. What is added was never used; where memory runs out only
     /// some may be.
     pub(crate) fn grow_to(&mut self, len: usize) -> Result<(), NoMemory>
         ensures ok { OnOk result (len ≤ length self.new) }

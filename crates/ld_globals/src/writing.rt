@@ -16,9 +16,8 @@ use crate::declared::same_optional;
 use crate::given::Given;
 use crate::key_number::KeyNumber;
 use indexmap::{IndexMap, IndexSet};
-use ld_base::id::Id;
-use ld_base::memory::NoMemory;
-use ld_value::value::Value;
+use ld_base::{Id, NoMemory};
+use ld_value::Value;
 
 /// Whether the key whose cell has this slot, or that was never written and has this initial value,
 /// has the value.
@@ -41,7 +40,7 @@ pub(crate) fn has_value(
 }
 
 /// The number of the person, who is given one where none is known. It takes no memory where a
-/// number is known or the identifier may be kept; where memory is wanting nothing changes.
+/// number is known or the identifier may be kept; where memory runs out nothing changes.
 pub(crate) fn number_person(
     persons: &mut IndexSet<Id>,
     known: Option<Option<usize>>,

@@ -44,7 +44,7 @@ walk_meets next fits at (x ∷ xs) (suc left) f le =
     ∙ (ap (λ (z : ℕ). z ∷ walk left next (get_or next z none_at)) here
     ∙ ap (λ (z : List ℕ). x ∷ z) (walk_meets next fits (get_or next x none_at) xs left f.2 (omega arith)))
 
--- numbers that do not come again, each below a number, are at most so many
+-- numbers that do not come again, each below a number, are at most this many
 all_apart : (xs : List ℕ) (x : ℕ) → (Among xs x → ⊥) → AllByRecursion (λ y. eqb x y ≡ false) xs
 all_apart [] x new = tt
 all_apart (y ∷ ys) x new = (ne_eqb x y (λ e. new (inl (sym e))), all_apart ys x (λ h. new (inr h)))

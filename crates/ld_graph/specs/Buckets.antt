@@ -31,7 +31,7 @@ pub record IsSlotList (slots before heads : List ℕ) (room slots_room before_ro
   pub slots_within : room ≤ slots_room
   pub before_within : room ≤ before_room
 
--- the buckets of the first slots of a list, so many of them, are empty, and the others as they were or empty
+-- the buckets of the first `count` slots of a list are empty, and the others as they were or empty
 pub record Emptied (slots old heads : List ℕ) (count : ℕ) : Type 0 where
   pub len : length heads ≡ length old
   pub gone : (k : ℕ) → k < count → get_or heads (bucket_at slots (length old) k) 0 ≡ 0

@@ -31,7 +31,7 @@ pub record HaveColumns (edges : List Edge) (slots sites nexts befores site_nexts
   pub befores_are : befores_of edges ≡ befores
   pub site_nexts_are : site_nexts_of edges ≡ site_nexts
 
--- what callers see of edges, so many sites, so many slots, a number of free edges and the sites that are open
+-- what callers see of edges, this many sites, this many slots, a number of free edges and the sites that are open
 abbrev pub seen : List Edge → ℕ → ℕ → ℕ → List Bool → Edges
 seen edges sites slots spare opened =
     record { rows = rows_of (slots_of edges) (edge_sites edges) sites; slots = slots; spare = spare; opened = opened }

@@ -44,7 +44,7 @@ slots_of_site [] sites site = []
 slots_of_site (s ∷ slots) [] site = []
 slots_of_site (s ∷ slots) (t ∷ sites) site = cond (eqb t site) (s ∷ slots_of_site slots sites site) (slots_of_site slots sites site)
 
--- the slots of each site, for so many sites
+-- the slots of each site, for this many sites
 abbrev pub rows_of : List ℕ → List ℕ → ℕ → List (List ℕ)
 rows_of slots sites count = map (slots_of_site slots sites) (range_with_len 0 count)
 

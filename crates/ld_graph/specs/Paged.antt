@@ -12,7 +12,7 @@ pub record Paged : Type 0 where
 abbrev pub paged_entry : List ℕ → List ℕ → ℕ → ℕ
 paged_entry pages entries site = get_or entries (get_or pages (site / 16) none_at * 16 + site % 16) none_at
 
--- the entries of the sites, so many of them
+-- the entries of the first `sites` sites
 abbrev pub entries_of : List ℕ → List ℕ → ℕ → List ℕ
 entries_of pages entries sites = map (paged_entry pages entries) (range_with_len 0 sites)
 
@@ -20,7 +20,7 @@ entries_of pages entries sites = map (paged_entry pages entries) (range_with_len
 abbrev pub has_page : List ℕ → ℕ → Bool
 has_page pages site = ltb (get_or pages (site / 16) none_at) none_at
 
--- which sites have one, of so many
+-- which sites have one, of this many
 abbrev pub opened_of : List ℕ → ℕ → List Bool
 opened_of pages sites = map (has_page pages) (range_with_len 0 sites)
 
@@ -36,7 +36,7 @@ pub record ArePages (pages entries : List ℕ) (sites : ℕ) : Type 0 where
   pub apart : (p q : ℕ) → get_or pages p none_at ≢ none_at → get_or pages p none_at ≡ get_or pages q none_at → p ≡ q
   pub beyond : (i : ℕ) → sites ≤ i → paged_entry pages entries i ≡ none_at
 
--- what the graph sees of pages, entries and so many sites
+-- what the graph sees of pages, entries and this many sites
 abbrev pub paged : List ℕ → List ℕ → ℕ → Paged
 paged pages entries sites = record { items = entries_of pages entries sites; opened = opened_of pages sites }
 

@@ -3,7 +3,7 @@ use Rattle.ld_graph.specs.declared.edge.Edge.{Edge}
 use Rattle.ld_graph.specs.Linked.{none_at}
 use Rattle.ld_graph.specs.Columns.{edge_sites, nexts_of}
 
--- the edges that one meets along the links, so many of them at most
+-- the edges that one meets along the links, at most `left` of them
 abbrev pub walk : ℕ → List ℕ → ℕ → List ℕ
 walk zero next at = []
 walk (suc left) next at = cond (ltb at (length next)) (at ∷ walk left next (get_or next at none_at)) []

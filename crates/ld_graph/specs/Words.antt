@@ -22,11 +22,11 @@ AreLevels [] = Unit {0}
 AreLevels (lower ∷ above) =
     (length lower ≤ 2 ^ 32) × (0 < length (lowest above) → Marks lower (lowest above)) × AreLevels above
 
--- the first bits of a row, so many of them
+-- the first `count` bits of a row
 abbrev pub bits_of : List ℕ → ℕ → List Bool
 bits_of words count = map (bit words) (range_with_len 0 count)
 
--- levels whose lowest bits are a table of so many numbers: there is room for these, and no bit is set beyond
+-- levels whose lowest bits are a table of this many numbers: there is room for these, and no bit is set beyond
 pub record IsTable (levels : List (List ℕ)) (range : ℕ) : Type 0 where
   pub levels_there : 0 < length levels
   pub are_levels : AreLevels levels

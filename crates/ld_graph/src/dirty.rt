@@ -4,7 +4,7 @@ ghost use Rattle.ld_graph.specs.Table.{has};
 
 use crate::level::Level;
 use crate::levels::{clear_at, grow, next_at, set_at};
-use ld_base::memory::NoMemory;
+use ld_base::NoMemory;
 use std::alloc::Global;
 use std::marker::Model;
 
@@ -90,8 +90,8 @@ impl Dirty {
         Some(next as u32)
     }
 
-    /// Brings the sites below the number into range. The set stays the same, also where memory is
-    /// wanting, and the range never falls.
+    /// Brings the sites below the number into range. The set stays the same, also where memory
+    /// runs out, and the range never falls.
     pub fn grow(&mut self, sites: u32) -> Result<(), NoMemory>
         ensures ok { IfOk result (λ _. length self.new ≡ max (length self.old) sites) }
         ensures err { OnErr result (self.new ≡ self.old) }

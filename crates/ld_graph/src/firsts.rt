@@ -5,7 +5,7 @@ ghost use Rattle.ld_graph.specs.Paged.{Widens};
 ghost use Rattle.ld_graph.specs.Table.{has};
 
 use crate::edge::NONE;
-use ld_base::memory::NoMemory;
+use ld_base::NoMemory;
 use std::alloc::Global;
 use std::marker::Model;
 
@@ -68,7 +68,7 @@ impl Firsts {
         Ok(())
     }
 
-    /// Opens the site. Where memory is wanting nothing changes.
+    /// Opens the site. Where memory runs out nothing changes.
     pub(crate) fn open(&mut self, site: u32) -> Result<(), NoMemory>
         requires { site < length self.old.items }
         ensures ok { IfOk result (λ _. has self.new.opened site ≡ true) }
@@ -117,7 +117,7 @@ impl Firsts {
     }
 }
 
-/// Adds a page whose sites have no edge. Where memory is wanting nothing changes.
+/// Adds a page whose sites have no edge. Where memory runs out nothing changes.
 fn add_page(entries: &mut Vec<u32>) -> Result<(), NoMemory>
     ensures ok { IfOk result (λ _. entries.new.items ≡ entries.old.items ++ replicate 16 none_at) }
     ensures err { OnErr result (entries.new.items ≡ entries.old.items) }
@@ -138,7 +138,7 @@ fn reserve_first_pages(entries: &mut Vec<u32>) -> Result<(), NoMemory>
     Ok(())
 }
 
-/// Brings at least so many numbers into the list; the new ones are `NONE`.
+/// Brings at least this many numbers into the list; the new ones are `NONE`.
 fn pad(list: &mut Vec<u32>, len: usize) -> Result<(), NoMemory>
     ensures ok { IfOk result (λ _. len ≤ length list.new.items) }
     ensures rest { (more : ℕ) × (list.new.items ≡ list.old.items ++ replicate more none_at) }

@@ -10,7 +10,7 @@ use crate::firsts::Firsts;
 use crate::part::part;
 use crate::readers::{Readers, set_all};
 use crate::slots::SlotList;
-use ld_base::memory::NoMemory;
+use ld_base::NoMemory;
 use std::alloc::Global;
 use std::marker::Model;
 
@@ -67,8 +67,8 @@ impl Graph {
         }
     }
 
-    /// Brings the slots and the sites below these numbers into range, and makes room for so many
-    /// more edges. The edges stay, also where memory is wanting, and neither ranges nor room fall.
+    /// Brings the slots and the sites below these numbers into range, and makes room for this many
+    /// more edges. The edges stay, also where memory runs out, and neither ranges nor room fall.
     pub fn reserve(&mut self, slots: u32, sites: u32, edges: u32) -> Result<(), NoMemory>
         ensures slots { IfOk result (λ _. slots ≤ self.new.slots) }
         ensures sites { IfOk result (λ _. sites ≤ length self.new.rows) }
@@ -84,7 +84,7 @@ impl Graph {
         self.grow_edges(edges)
     }
 
-    /// Opens the site: it can be given edges from then on. Where memory is wanting nothing changes.
+    /// Opens the site: it can be given edges from then on. Where memory runs out nothing changes.
     pub fn open(&mut self, site: u32) -> Result<(), NoMemory>
         requires { site < length self.old.rows }
         ensures ok { IfOk result (λ _. IsOpen self.new site) }
@@ -97,9 +97,9 @@ impl Graph {
         self.site_firsts.open(site)
     }
 
-    /// The site, which has to be open, has edges to these slots afterwards and to no others. It takes
-    /// no memory, and costs what the site's old edges and these slots are, whatever else the graph
-    /// holds.
+    /// The site, which has to be open, has edges to these slots afterwards and to no others. It
+    /// takes no memory, and costs what the site's old edges and these slots are, whatever else the
+    /// graph holds.
     pub fn relink(&mut self, site: u32, slots: &SlotList)
         requires site { site < length self.old.rows }
         requires opened { IsOpen self.old site }
@@ -217,7 +217,7 @@ impl Graph {
         self.site_firsts.grow(sites)
     }
 
-    /// Makes room for so many more edges.
+    /// Makes room for this many more edges.
     fn grow_edges(&mut self, edges: u32) -> Result<(), NoMemory>
         ensures ok { IfOk result (λ _. edges ≤ self.new.spare) }
         ensures grows { Grows self.old self.new }
@@ -228,7 +228,7 @@ impl Graph {
         Ok(())
     }
 
-    /// Makes room for one more edge. Where memory is wanting nothing changes.
+    /// Makes room for one more edge. Where memory runs out nothing changes.
     fn add_free(&mut self) -> Result<(), NoMemory>
         ensures ok { IfOk result (λ _. self.new.spare ≡ self.old.spare + 1) }
         ensures err { OnErr result (self.new ≡ self.old) }

@@ -2,7 +2,7 @@
 ghost use Rattle.std.specs.Prelude.{◌≡◌, ◌≢◌, ℕ, ◌+◌, ◌*◌, ◌/◌, ◌<◌, ◌≤◌, max, true, false, List, [], length, IfOk, IfSome, IfNone};
 ghost use Rattle.ld_graph.specs.Words.{bit};
 
-use ld_base::memory::NoMemory;
+use ld_base::NoMemory;
 use std::alloc::Global;
 use std::marker::Model;
 
@@ -68,7 +68,7 @@ impl Level {
         Some(from / 64 * 64 + rest.trailing_zeros() as usize)
     }
 
-    /// Brings at least so many words into the row. Where memory is wanting no bit changes.
+    /// Brings at least this many words into the row. Where memory runs out no bit changes.
     pub(crate) fn grow(&mut self, words: usize) -> Result<(), NoMemory>
         ensures ok { IfOk result (λ _. words ≤ length self.new) }
         ensures keeps { length self.old ≤ length self.new }

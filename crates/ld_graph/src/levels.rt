@@ -4,7 +4,7 @@ ghost use Rattle.std.specs.Prelude.{◌≡◌, ◌≢◌, ℕ, ◌+◌, ◌*◌,
 ghost use Rattle.ld_graph.specs.Words.{bit, lowest, AreLevels};
 
 use crate::level::Level;
-use ld_base::memory::NoMemory;
+use ld_base::NoMemory;
 
 /// So few words of a level are looked at one by one, also to know that all are zero: no other level
 /// marks them.
@@ -78,7 +78,7 @@ fn are_in_use(levels: &[Level]) -> bool
     level.len() > 0
 }
 
-/// Whether the levels above are to mark so many words of this one: they do already, or it has no
+/// Whether the levels above are to mark this many words of this one: they do already, or it has no
 /// word yet and one of them would say too little.
 fn are_to_mark(lower: &Level, above: &[Level], words: usize) -> bool
     ensures yes { result ≡ true → (0 < length (lowest above.now))
@@ -91,8 +91,8 @@ fn are_to_mark(lower: &Level, above: &[Level], words: usize) -> bool
     lower.len() == 0 && words > FEW
 }
 
-/// Brings at least so many words into the lowest level, and what marks them into those above. Where
-/// memory is wanting no bit changes.
+/// Brings at least this many words into the lowest level, and what marks them into those above.
+/// Where memory runs out no bit changes.
 pub(crate) fn grow(levels: &mut [Level], words: usize) -> Result<(), NoMemory>
     requires levels { AreLevels levels.old }
     requires fits { words ≤ 2 ^ 32 }

@@ -10,3 +10,7 @@ mod levels;
 mod part;
 pub mod readers;
 pub mod slots;
+
+pub use dirty::Dirty;
+pub use graph::Graph;
+pub use slots::SlotList;

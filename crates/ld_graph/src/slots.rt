@@ -3,7 +3,7 @@ ghost use Rattle.std.specs.Prelude.{◌≡◌, ◌<◌, ◌≤◌, ◌⊎◌, tr
 ghost use Rattle.ld_graph.specs.Slots.{AreDistinct};
 ghost use Rattle.ld_graph.specs.Buckets.{bucket_of, Emptied};
 
-use ld_base::memory::NoMemory;
+use ld_base::NoMemory;
 use std::alloc::Global;
 use std::marker::Model;
 
@@ -159,7 +159,7 @@ impl SlotList {
     }
 }
 
-/// How many buckets a list with room for so many slots has.
+/// How many buckets a list with room for this many slots has.
 fn bucket_count(room: u32) -> usize
     ensures { 0 < result }
 {

@@ -21,8 +21,7 @@ use crate::node::Node;
 use crate::read::is_in_range;
 use crate::tree::OwnedTree;
 use json::{Reader, Scratch};
-use ld_base::memory::NoMemory;
-use ld_base::text::Text;
+use ld_base::{NoMemory, Text};
 use serde_json::Value;
 use std::alloc::Global;
 use std::marker::Model;
@@ -127,7 +126,7 @@ impl<'a> Doc<'a> {
     }
 
     /// Appends the document as JSON with no white space and its members in byte order. Where memory
-    /// is wanting the bytes stay as they were. What is printed is read as the same tree again,
+    /// runs out the bytes stay as they were. What is printed is read as the same tree again,
     /// unless it nests deeper than documents may.
     pub fn print(&self, alloc: Global, out: &mut Text) -> Result<(), NoMemory>
         requires { has_float self.now ≡ false }
@@ -155,7 +154,7 @@ fn reread(alloc: Global, text: &str) -> Result<Value, NoMemory>
     }
 }
 
-/// Appends the tree as JSON. Where memory is wanting the bytes stay as they were.
+/// Appends the tree as JSON. Where memory runs out the bytes stay as they were.
 fn print_tree(alloc: Global, tree: &Value, out: &mut Text) -> Result<(), NoMemory>
     requires { has_float (view tree.now) ≡ false }
     ensures ok { OnOk result (out.new.bytes ≡ out.old.bytes ++ compact_text (view tree.now)) }

@@ -4,8 +4,7 @@ ghost use Rattle.ld_json.specs.Places.{printed_place};
 
 use crate::code::Code;
 use crate::file::FileNo;
-use ld_base::memory::NoMemory;
-use ld_base::text::Text;
+use ld_base::{NoMemory, Text};
 use std::alloc::{AllocError, AllocFailed};
 use std::fmt;
 
@@ -37,7 +36,7 @@ impl fmt::Debug for Fault {
     }
 }
 
-/// Why a unit was not read: its first fault, or want of memory.
+/// Why a unit was not read: its first fault, or that memory ran out.
 #[derive(Debug, Drop)]
 pub enum ReadFault {
     Refused(Fault),

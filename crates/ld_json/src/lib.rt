@@ -16,7 +16,7 @@
 //! Contracts see a node as its file, its place and its tree. What may be wrong with it is a list of
 //! faults, in the order in which they are looked for (`specs/Access.antt`). A
 //! reader over nodes says `faultless` (it gives a value only where its list is empty) and `first`
-//! (a refusal is the first of its list, or want of memory).
+//! (a refusal is the first of its list, or that memory ran out).
 #![tactic(auto)]
 
 mod built;
@@ -32,3 +32,12 @@ pub mod place;
 pub mod print;
 mod read;
 mod tree;
+
+pub use code::Code;
+pub use doc::{Doc, DocFault, document};
+pub use docs::{Docs, Scratches};
+pub use fault::{Fault, ReadFault};
+pub use file::FileNo;
+pub use node::Node;
+pub use place::push_item;
+pub use print::{is_plain, print_text};

@@ -15,8 +15,7 @@ use crate::fault::{Fault, ReadFault};
 use crate::file::FileNo;
 use crate::place::{push_item, push_member};
 use crate::tree::{OwnedTree, Tree};
-use ld_base::memory::NoMemory;
-use ld_base::text::Text;
+use ld_base::{NoMemory, Text};
 use std::alloc::Global;
 use std::marker::Model;
 

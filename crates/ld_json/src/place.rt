@@ -4,11 +4,10 @@ ghost use Rattle.std.specs.Char.{encode_utf8};
 ghost use Rattle.ld_base.specs.Roomy.{KeepsRoom};
 ghost use Rattle.ld_json.specs.Places.{escaped, member_place, item_place};
 
-use ld_base::memory::NoMemory;
-use ld_base::text::Text;
+use ld_base::{NoMemory, Text};
 use std::alloc::Global;
 
-/// Goes on with a place to the member of this name. Where memory is wanting the bytes stay as they
+/// Goes on with a place to the member of this name. Where memory runs out the bytes stay as they
 /// were.
 pub fn push_member(alloc: Global, name: &str, place: &mut Text) -> Result<(), NoMemory>
     ensures ok { OnOk result (place.new.bytes ≡ member_place place.old.bytes name.now) }
@@ -20,7 +19,7 @@ pub fn push_member(alloc: Global, name: &str, place: &mut Text) -> Result<(), No
     place.push(step.as_str())
 }
 
-/// Goes on with a place to the element at this index, counted from 0. Where memory is wanting the
+/// Goes on with a place to the element at this index, counted from 0. Where memory runs out the
 /// bytes stay as they were.
 pub fn push_item(alloc: Global, index: usize, place: &mut Text) -> Result<(), NoMemory>
     ensures ok { OnOk result (place.new.bytes ≡ item_place place.old.bytes index) }

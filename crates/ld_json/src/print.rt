@@ -7,12 +7,11 @@ ghost use Rattle.ld_json.specs.Plain.{is_plain, is_plain_byte};
 ghost use Rattle.ld_json.specs.Print.{json_text};
 
 use crate::doc::Doc;
-use ld_base::memory::NoMemory;
-use ld_base::text::Text;
+use ld_base::{NoMemory, Text};
 use serde_json::Value;
 use std::alloc::Global;
 
-/// Appends the text as a JSON text. Where memory is wanting the bytes stay as they were.
+/// Appends the text as a JSON text. Where memory runs out the bytes stay as they were.
 pub fn print_text(alloc: Global, text: &str, out: &mut Text) -> Result<(), NoMemory>
     ensures ok { OnOk result (out.new.bytes ≡ out.old.bytes ++ json_text text.now) }
     ensures err { OnErr result (out.new.bytes ≡ out.old.bytes) }
@@ -25,7 +24,7 @@ pub fn print_text(alloc: Global, text: &str, out: &mut Text) -> Result<(), NoMem
     Doc::of(tree).print(alloc, out)
 }
 
-/// Appends the text between quotes. Where memory is wanting the bytes stay as they were.
+/// Appends the text between quotes. Where memory runs out the bytes stay as they were.
 fn push_quoted(text: &str, out: &mut Text) -> Result<(), NoMemory>
     ensures ok { OnOk result (out.new.bytes ≡ out.old.bytes ++ 34 ∷ (text.now ++ 34 ∷ [])) }
     ensures err { OnErr result (out.new.bytes ≡ out.old.bytes) }

@@ -8,10 +8,9 @@ use Rattle.ld_model.specs.declared.cell.Owner.TheVariants.{Run}
 use Rattle.ld_model.specs.declared.unit.Unit.{Unit}
 use Rattle.ld_names.specs.declared.rule.Rule.{Rule}
 use Rattle.ld_names.specs.declared.rule.Rule.TheVariants.{CompletesActivity, CompletesStructure, OpensAct, CompletesPart, CompletesAct, CompletesPlay, CompletesUnit, JudgesCondition}
-use Rattle.ld_names.specs.Rules.{Site, kind_of}
+use Rattle.ld_names.specs.Rules.{Site, kind_of, is_for_persons}
 use Rattle.ld_lines.specs.declared.command.RunCommand.{RunCommand}
 use Rattle.ld_expr.specs.Lookup.{is_some_and}
-use Rattle.ld_expr.specs.Owners.{is_for_persons}
 use Rattle.ld_expr.specs.Seen.{says_yes, act_opened_cell}
 use Rattle.ld_state.specs.GlobalValues.{GlobalValues}
 use Rattle.ld_state.specs.RunState.{RunState}

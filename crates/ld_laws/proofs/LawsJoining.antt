@@ -1,10 +1,11 @@
 -- What a person who joins leaves as it was: the cells of the run and of the others, who is a member of which role,
 -- and so all that the others are shown.
 use mathlib.Core.Path.{fun_ext}
-use Rattle.std.proofs.Common.{◌≡◌, refl, ap, ap₂, subst, ◌∙◌, ℕ, ◌+◌, ◌<◌, ℤ, List, [], ◌∷◌, ◌++◌, map, flat_map, filter, length, Option, Some, None, Ok, Bool, true, false, cond, codes, decimal, is_some, option_map, length-append, sym, nat_lt, ◌&&◌}
+use Rattle.std.proofs.Common.{◌≡◌, refl, ap, ap₂, subst, ◌∙◌, ℕ, ◌+◌, ◌<◌, ℤ, List, [], ◌∷◌, ◌++◌, map, flat_map, filter, length, Option, Some, None, Ok, Bool, true, false, cond, codes, decimal, is_some, option_map, length-append, slice_get, sym, nat_lt, ◌&&◌}
 use Rattle.std.specs.Prelude.{⊤}
 use Rattle.std.proofs.lemmas.Bool.{ltb-false}
 use Rattle.std.proofs.lemmas.Option.{slice_get_past}
+use Rattle.std.specs.Option.{option_map_or}
 use Rattle.ld_base.specs.Maybe.{◌>>=◌, provided}
 use Rattle.ld_value.specs.Datum.{truth_datum}
 use Rattle.ld_base.specs.Numbers.{numbers_below}
@@ -19,11 +20,15 @@ use Rattle.ld_model.specs.declared.method.Play.{Play}
 use Rattle.ld_model.specs.declared.method.RolePart.{RolePart}
 use Rattle.ld_model.specs.declared.unit.Unit.{Unit}
 use Rattle.ld_names.specs.Names.{role_number, thing_number}
+use Rattle.ld_names.specs.Rules.{kind_of, rules_of}
+use Rattle.ld_names.specs.declared.rule.Rule.{Rule}
+use Rattle.ld_names.specs.declared.rule.RuleKind.{RuleKind}
+use Rattle.ld_names.specs.declared.rule.RuleKind.TheVariants.{Person as OfPerson, Run as OfRun}
 use Rattle.ld_lines.specs.declared.command.RunCommand.TheVariants.{Enrol}
 use Rattle.ld_expr.specs.Done.{is_done, mark_for}
 use Rattle.ld_expr.specs.Lookup.{completing_number, is_some_and}
 use Rattle.ld_expr.specs.Membership.{is_member, members}
-use Rattle.ld_expr.specs.Owners.{of_person, owner_of, is_person_rule}
+use Rattle.ld_expr.specs.Owners.{mark_owner, of_person}
 use Rattle.ld_expr.specs.Seen.{Seen, everyone, says_yes, visibility_cell, act_opened_cell, mark_cell}
 use Rattle.ld_roles.specs.Membership.{is_member_among, is_member_by}
 use Rattle.ld_roles.specs.RoleBounds.{role_bounds}
@@ -113,11 +118,17 @@ module _ (unit : Unit) (store : GlobalValues) (s : RunState) (moment : ℤ) (nam
   seen_done : (owner : Owner) (id : List ℕ) → HasOwner s owner → is_done unit after owner id ≡ is_done unit before owner id
   seen_done owner id has =
       same_if (λ n. says_yes (after.value (mark_for unit owner n))) (λ n. says_yes (before.value (mark_for unit owner n))) (completing_number unit id)
-      (λ n is. by n (is_person_rule unit n))
+      (λ n is. by n (slice_get (rules_of unit) n))
     where
-      by : (n : ℕ) (own : Bool) → says_yes (after.value (mark_cell n (owner_of own owner))) ≡ says_yes (before.value (mark_cell n (owner_of own owner)))
-      by n true = ap says_yes (joining_leaves_seen unit store s moment name (mark_cell n owner) (not_joining s owner has) refl)
-      by n false = ap says_yes (joining_leaves_seen unit store s moment name (mark_cell n Run) refl refl)
+      by_kind : (n : ℕ) (kind : RuleKind) → says_yes (after.value (mark_cell n (mark_owner kind owner))) ≡ says_yes (before.value (mark_cell n (mark_owner kind owner)))
+      by_kind n OfPerson = ap says_yes (joining_leaves_seen unit store s moment name (mark_cell n owner) (not_joining s owner has) refl)
+      by_kind n OfRun = ap says_yes (joining_leaves_seen unit store s moment name (mark_cell n Run) refl refl)
+
+      by : (n : ℕ) (found : Option Rule)
+          → says_yes (after.value (mark_cell n (option_map_or (λ rule. mark_owner (kind_of rule) owner) found Run)))
+          ≡ says_yes (before.value (mark_cell n (option_map_or (λ rule. mark_owner (kind_of rule) owner) found Run)))
+      by n None = by_kind n OfRun
+      by n (Some rule) = by_kind n (kind_of rule)
 
   seen_act : (thing : ℕ) → after.value (act_opened_cell thing) ≡ before.value (act_opened_cell thing)
   seen_act thing = joining_leaves_seen unit store s moment name (act_opened_cell thing) refl refl
@@ -137,8 +148,8 @@ module _ (unit : Unit) (store : GlobalValues) (s : RunState) (moment : ℤ) (nam
   joining_leaves_tree p below = tree_same unit after before p (shows_same p below)
 
   -- and so is what is open for the person.
-  pub joining_leaves_open : (p : ℕ) (id : List ℕ) → p < length s.persons → is_open unit after p id ≡ is_open unit before p id
-  joining_leaves_open p id below = open_same unit after before p (shows_same p below) id
+  pub joining_leaves_open : (p thing : ℕ) → p < length s.persons → is_open unit after p thing ≡ is_open unit before p thing
+  joining_leaves_open p thing below = open_same unit after before p (shows_same p below) thing
 
   -- ---- the report
 

@@ -1,16 +1,19 @@
 -- In each state that a run comes to, an act but the first of its play is opened only where the act before it is
 -- done.
-use Rattle.std.proofs.Common.{◌≡◌, refl, sym, ap, ◌∙◌, ℕ, ℤ, Option, Some, None, Bool, true, false, cond, not, is_some, option_map, slice_get}
+use Rattle.std.proofs.Common.{◌≡◌, refl, sym, ap, ◌∙◌, ℕ, ℤ, Option, Some, None, Bool, true, false, cond, is_some, option_map, slice_get}
+use Rattle.std.specs.Option.{option_map_or}
 use Rattle.ld_base.specs.Maybe.{◌>>=◌}
 use Rattle.ld_value.specs.Datum.{Datum}
 use Rattle.ld_model.specs.declared.cell.Owner.TheVariants.{Run}
 use Rattle.ld_model.specs.declared.method.Act.{Act}
 use Rattle.ld_model.specs.declared.unit.Unit.{Unit}
 use Rattle.ld_names.specs.declared.rule.Rule.{Rule}
+use Rattle.ld_names.specs.declared.rule.RuleKind.{RuleKind}
+use Rattle.ld_names.specs.declared.rule.RuleKind.TheVariants.{Person as OfPerson, Run as OfRun}
 use Rattle.ld_names.specs.Names.{thing_number}
-use Rattle.ld_names.specs.Rules.{rules_of, kind_of}
+use Rattle.ld_names.specs.Rules.{rules_of, kind_of, is_for_run}
 use Rattle.ld_expr.specs.Lookup.{is_some_and}
-use Rattle.ld_expr.specs.Owners.{owner_of, is_for_persons, is_person_rule}
+use Rattle.ld_expr.specs.Owners.{mark_owner}
 use Rattle.ld_expr.specs.Seen.{says_yes, act_opened_cell, mark_cell}
 use Rattle.ld_state.specs.GlobalValues.{GlobalValues}
 use Rattle.ld_rules.specs.LawWords.{IsValid, IsInOrder, ActsOpenInOrder}
@@ -32,9 +35,14 @@ holds_if_reached unit P lasting first s (left_by t store moment asked d reached 
 
 -- ---- the same marks and openings
 
-run_either : (own : Bool) → owner_of own Run ≡ Run
-run_either true = refl
-run_either false = refl
+-- Where the run speaks, its own mark is meant.
+marked_by_run : (found : Option Rule) → option_map_or (λ rule. mark_owner (kind_of rule) Run) found Run ≡ Run
+marked_by_run None = refl
+marked_by_run (Some rule) = by (kind_of rule)
+  where
+    by : (kind : RuleKind) → mark_owner kind Run ≡ Run
+    by OfPerson = refl
+    by OfRun = refl
 
 same_opened : (unit : Unit) (s t : RunState) (act : Act) → ((thing : ℕ) → t.cells (act_opened_cell thing) ≡ s.cells (act_opened_cell thing)) → is_opened unit (seen_in unit t) act ≡ is_opened unit (seen_in unit s) act
 unfolding cell_of
@@ -50,8 +58,10 @@ in_order_too unit s t openings marks order = record {
   judged = λ rule p a ruled. let said = order.judged rule p a ruled in (said.0, marks rule ∙ said.1);
   ordered = λ p a before act at next opened.
       done_stays unit s t Run before.identifier
-      (λ rule good told. ap (λ owner. says_yes (t.cells (mark_cell rule owner))) (run_either (is_person_rule unit rule)) ∙ ap says_yes (marks rule)
-      ∙ sym (ap (λ owner. says_yes (s.cells (mark_cell rule owner))) (run_either (is_person_rule unit rule))) ∙ told)
+      (λ rule good told.
+      let of_run = marked_by_run (slice_get (rules_of unit) rule) in
+      ap (λ owner. says_yes (t.cells (mark_cell rule owner))) of_run ∙ ap says_yes (marks rule)
+      ∙ sym (ap (λ owner. says_yes (s.cells (mark_cell rule owner))) of_run) ∙ told)
       (order.ordered p a before act at next (sym (same_opened unit s t act openings) ∙ opened));
 }
 
@@ -89,7 +99,7 @@ order_at_first unit seats store moment = record {
   judged = λ rule p a ruled. (
     false,
     ap (λ b. cond b (slice_get (rules_of unit) rule >>= mark_begins) None)
-        (ap (λ (found : Option Rule). is_some_and (λ one. not (is_for_persons (kind_of one))) found) ruled)
+        (ap (λ (found : Option Rule). is_some_and (λ one. is_for_run (kind_of one)) found) ruled)
         ∙ ap (λ found. found >>= mark_begins) ruled,
   );
   ordered = λ p a before act at next opened. different (sym opened ∙ none_opened unit seats store moment act);

@@ -1,6 +1,6 @@
 -- What a person's tree says of activities: which are done is what the person's own marks say, and what is open is
 -- the person's and not done.
-use Rattle.std.proofs.Common.{◌≡◌, refl, sym, ap, ◌∙◌, ℕ, List, [], ◌∷◌, Bool, true, false, ◌&&◌, ◌||◌, codes, Contains, flat_map, inl, inr}
+use Rattle.std.proofs.Common.{◌≡◌, refl, sym, ap, ◌∙◌, ℕ, List, [], ◌∷◌, Bool, true, false, ◌&&◌, ◌||◌, codes, Contains, flat_map, slice_get, Some, inl, inr}
 use Rattle.std.specs.List.{list_any}
 use Rattle.std.specs.Str.{bytes_eq}
 use Rattle.std.proofs.lemmas.Bool.{or_cases}
@@ -9,7 +9,9 @@ use Rattle.ld_model.specs.declared.method.Act.{Act}
 use Rattle.ld_model.specs.declared.method.Play.{Play}
 use Rattle.ld_model.specs.declared.method.RolePart.{RolePart}
 use Rattle.ld_model.specs.declared.unit.Unit.{Unit}
+use Rattle.ld_names.specs.Names.{names_of}
 use Rattle.ld_expr.specs.Done.{is_done}
+use Rattle.ld_expr.specs.Lookup.{is_some_and}
 use Rattle.ld_expr.specs.Membership.{is_member_of}
 use Rattle.ld_expr.specs.Owners.{of_person}
 use Rattle.ld_expr.specs.Seen.{Seen}
@@ -108,21 +110,23 @@ opens_line id line tells = elim (or_cases (same_words line.words (codes "activit
 ]
 
 -- The line that says that it is open.
-open_line : (unit : Unit) (seen : Seen) (p : ℕ) (id : List ℕ) → is_open unit seen p id ≡ true → (line : TreeLine) × Contains (tree_lines unit seen p) line × (tells_open id line ≡ true)
+open_line : (unit : Unit) (seen : Seen) (p thing : ℕ) (id : List ℕ) → slice_get (names_of unit).things thing ≡ Some id → is_open unit seen p thing ≡ true → (line : TreeLine) × Contains (tree_lines unit seen p) line × (tells_open id line ≡ true)
 unfolding is_open
-open_line unit seen p id is = any_of (tells_open id) (tree_lines unit seen p) is
+open_line unit seen p thing id named is =
+    any_of (tells_open id) (tree_lines unit seen p)
+    (ap (is_some_and (λ one. list_any (tells_open one) (tree_lines unit seen p))) (sym named) ∙ is)
 
 -- What is open for a person is not done for the person.
-pub open_is_not_done : (unit : Unit) (seen : Seen) (p : ℕ) (id : List ℕ) → is_open unit seen p id ≡ true → is_done unit seen (of_person p) id ≡ false
-open_is_not_done unit seen p id is =
-    let found = open_line unit seen p id is in
+pub open_is_not_done : (unit : Unit) (seen : Seen) (p thing : ℕ) (id : List ℕ) → slice_get (names_of unit).things thing ≡ Some id → is_open unit seen p thing ≡ true → is_done unit seen (of_person p) id ≡ false
+open_is_not_done unit seen p thing id named is =
+    let found = open_line unit seen p thing id named is in
     let speaks = opens_line id found.0 found.2 in
     sym (tree_tells_done unit seen p found.0 speaks.word id (codes "open") found.1 speaks.begins speaks.words)
 
 -- It is the person's, by a role-part of an opened act, of whose role the person is a member.
-pub open_is_theirs : (unit : Unit) (seen : Seen) (p : ℕ) (id : List ℕ) → is_open unit seen p id ≡ true → IsTheirActivity unit seen p id
-open_is_theirs unit seen p id is =
-    let found = open_line unit seen p id is in
+pub open_is_theirs : (unit : Unit) (seen : Seen) (p thing : ℕ) (id : List ℕ) → slice_get (names_of unit).things thing ≡ Some id → is_open unit seen p thing ≡ true → IsTheirActivity unit seen p id
+open_is_theirs unit seen p thing id named is =
+    let found = open_line unit seen p thing id named is in
     each_in (OfActivities (TellsTheirs unit seen p)) (tree_lines unit seen p) found.0
     (each_line unit seen p (OfActivities (TellsTheirs unit seen p)) (tells_theirs unit seen p) (silent (TellsTheirs unit seen p)))
     (in_from_contains (tree_lines unit seen p) found.0 found.1) id (codes "open") (opens_line id found.0 found.2)

@@ -1,6 +1,6 @@
 -- Runs that differ in the cells of global properties alone do the same by each command, since these cells are
--- taken in anew before they are seen.
-use Rattle.std.proofs.Common.{◌≡◌, ℕ, ℤ, ◌+◌, ◌&&◌, List, [], unwrap_or, Option, None, Some, is_some, Result, Ok, Err, Bool, true, false, not, slice_get, if◌then◌else◌, refl, sym, ap, ◌∙◌}
+-- taken in again before they are seen.
+use Rattle.std.proofs.Common.{◌≡◌, ℕ, ℤ, ◌+◌, ◌&&◌, List, [], unwrap_or, Option, None, Some, is_some, Result, Ok, Err, Bool, false, slice_get, if◌then◌else◌, refl, sym, ap, ◌∙◌}
 use Rattle.ld_base.specs.Maybe.{◌>>=◌ as ◌and_then◌, provided}
 use Rattle.ld_value.specs.Datum.{Datum, moment_datum, same_truth}
 use Rattle.ld_model.specs.Cells.{CellMap, same_cell}
@@ -9,7 +9,10 @@ use Rattle.ld_model.specs.declared.cell.CellName.{CellName}
 use Rattle.ld_model.specs.declared.cell.CellName.TheVariants.{Prop, Vis, Member, Chosen, Opened, ActOpened, Started, Mark, Now, Roster}
 use Rattle.ld_model.specs.declared.cell.Owner.TheVariants.{Run, Person}
 use Rattle.ld_model.specs.declared.property.Property.{Property}
+use Rattle.ld_model.specs.declared.property.PropertyKind.{PropertyKind}
+use Rattle.ld_model.specs.declared.property.PropertyKind.TheVariants.{Loc, LocPers, LocRole, GlobPers, Glob}
 use Rattle.ld_model.specs.declared.unit.Unit.{Unit}
+use Rattle.ld_names.specs.Holders.{holder_by_kind, holder_of, is_held_by_run}
 use Rattle.ld_expr.specs.Lookup.{is_some_and}
 use Rattle.ld_expr.specs.Owners.{is_global}
 use Rattle.ld_lines.specs.declared.command.RunCommand.{RunCommand}
@@ -168,14 +171,22 @@ module _ (seats : ℕ) (unit : Unit) (store other : GlobalValues) (moment : ℤ)
   shared_same said None says = refl
   shared_same said (Some u) says = cc
 
+  -- As what the run's value of a property of this kind begins over a store.
+  abbrev begun_over : GlobalValues → Property → PropertyKind → Option Datum
+  begun_over values property kind =
+      let shared = if same_truth (is_personal kind) false then (property.uri and_then λ u. values u None) else None in
+      if is_held_by_run (holder_by_kind kind) then (if is_global kind then shared else initial_of property) else None
+
   -- The same of any property.
-  property_same : (said : GlobalValues) (property : Property) (global personal : Bool)
-      → ((provided global property and_then λ one. one.uri) and_then λ u. store_person [] personal Run and_then λ person. Some (said u person)) ≡ None
-      → (if not personal then (if global then (if same_truth personal false then (property.uri and_then λ u. store u None) else None) else initial_of property) else None)
-      ≡ (if not personal then (if global then (if same_truth personal false then (property.uri and_then λ u. other u None) else None) else initial_of property) else None)
-  property_same said property global true says = refl
-  property_same said property false false says = refl
-  property_same said property true false says = shared_same said property.uri says
+  property_same : (said : GlobalValues) (property : Property) (kind : PropertyKind)
+      → ((provided (is_global kind) property and_then λ one. one.uri)
+      and_then λ u. store_person [] (is_personal kind) Run and_then λ person. Some (said u person)) ≡ None
+      → begun_over store property kind ≡ begun_over other property kind
+  property_same said property Loc says = refl
+  property_same said property LocPers says = refl
+  property_same said property LocRole says = refl
+  property_same said property GlobPers says = refl
+  property_same said property Glob says = shared_same said property.uri says
 
   -- Each cell of which no store says anything begins the same over both stores.
   made_cells_same : (said : GlobalValues) (cell : CellName) → store_says unit said [] cell ≡ None
@@ -186,10 +197,10 @@ module _ (seats : ℕ) (unit : Unit) (store other : GlobalValues) (moment : ℤ)
     where
       by : (found : Option Property)
           → (found and_then λ property. (provided (is_global property.kind) property and_then λ one. one.uri) and_then λ u. store_person [] (is_personal property.kind) Run and_then λ person. Some (said u person)) ≡ None
-          → (if is_some_and (λ property. not (is_personal property.kind)) found then (found and_then property_begins store None) else None)
-          ≡ (if is_some_and (λ property. not (is_personal property.kind)) found then (found and_then property_begins other None) else None)
+          → (if is_some_and (λ property. is_held_by_run (holder_of unit property)) found then (found and_then property_begins store None) else None)
+          ≡ (if is_some_and (λ property. is_held_by_run (holder_of unit property)) found then (found and_then property_begins other None) else None)
       by None says = refl
-      by (Some property) says = property_same said property (is_global property.kind) (is_personal property.kind) says
+      by (Some property) says = property_same said property property.kind says
   made_cells_same said (Vis n p) says = refl
   made_cells_same said (Member r p) says = refl
   made_cells_same said (Chosen n owner) says = refl

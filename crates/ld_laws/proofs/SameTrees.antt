@@ -1,7 +1,7 @@
 -- Where two states of a run show a person the same things as visible, done and opened, and the same roles as the
 -- person's, the person's trees are the same.
 use mathlib.Core.Path.{fun_ext}
-use Rattle.std.proofs.Common.{◌≡◌, refl, ap, ◌∙◌, ℕ, zero, suc, ◌+◌, List, [], ◌∷◌, ◌++◌, flat_map, find, length, Option, Bool, true, ◌&&◌, ◌||◌, not, codes, if◌then◌else◌}
+use Rattle.std.proofs.Common.{◌≡◌, refl, ap, ◌∙◌, ℕ, zero, suc, ◌+◌, List, [], ◌∷◌, ◌++◌, flat_map, find, length, Option, Bool, true, ◌&&◌, ◌||◌, not, codes, slice_get, if◌then◌else◌}
 use Rattle.std.specs.List.{list_any}
 use Rattle.ld_model.specs.declared.activity.Activity.{Activity}
 use Rattle.ld_model.specs.declared.activity.Structure.{Structure}
@@ -14,8 +14,9 @@ use Rattle.ld_model.specs.declared.method.Act.{Act}
 use Rattle.ld_model.specs.declared.method.Play.{Play}
 use Rattle.ld_model.specs.declared.method.RolePart.{RolePart}
 use Rattle.ld_model.specs.declared.unit.Unit.{Unit}
+use Rattle.ld_names.specs.Names.{names_of}
 use Rattle.ld_expr.specs.Done.{is_done}
-use Rattle.ld_expr.specs.Lookup.{list_from, activity_named, structure_named, environment_named}
+use Rattle.ld_expr.specs.Lookup.{is_some_and, list_from, activity_named, structure_named, environment_named}
 use Rattle.ld_expr.specs.Membership.{is_member_of}
 use Rattle.ld_expr.specs.Owners.{of_person}
 use Rattle.ld_expr.specs.Seen.{Seen}
@@ -131,6 +132,6 @@ module _ (unit : Unit) (a b : Seen) (p : ℕ) (same : ShowsSame unit a b p) wher
       ∷ (once_done (status_by (same.completed unit.identifier i) true) (items_same 1 (feedback_of unit.method.on_completion) i)
       ++ each_same unit.method.plays play_same i)
 
-  pub open_same : (id : List ℕ) → is_open unit a p id ≡ is_open unit b p id
+  pub open_same : (thing : ℕ) → is_open unit a p thing ≡ is_open unit b p thing
   unfolding is_open
-  open_same id = ap (list_any (tells_open id)) tree_same
+  open_same thing = λ i. is_some_and (λ id. list_any (tells_open id) (tree_same i)) (slice_get (names_of unit).things thing)

@@ -1,4 +1,4 @@
--- A condition on all members of a role is judged anew when the members change.
+-- A condition on all members of a role is judged again when the members change.
 use Rattle.std.specs.Prelude.{◌≡◌, refl, List, [], ◌∷◌, ◌++◌, None, codes}
 use Rattle.std.specs.Fmt.{digits}
 use Rattle.json.specs.Print.{escape_byte}

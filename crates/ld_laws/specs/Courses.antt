@@ -217,7 +217,7 @@ setup unit =
     ∷ at 8 0 (Enrol (codes "ann"))
     ∷ at 8 0 (Assign (codes "ann") (codes "learner")) ∷ []
 
--- What is answered to lines about this course alone, where each run has so many seats. With all 200 of the
+-- What is answered to lines about this course alone, where each run has this many seats. With all 200 of the
 -- program it is the same, as long as no run is full: proofs/AllSeats.
 abbrev pub told : ℕ → Unit → List Line → List (List ℕ)
 told seats unit lines = replies (seated_world seats (unit ∷ [])) (map Some lines)

@@ -48,7 +48,7 @@ the_bytes =
     ++ codes "[\"2024-01-01T09:10:00Z\",\"complete\",\"r\",\"ann\",\"read\"]\n"
     ++ codes "[\"2024-01-01T09:11:00Z\",\"tree\",\"r\",\"ann\"]"
 
--- The text that answers the bytes, where each run has one seat and memory is never wanting.
+-- The text that answers the bytes, where each run has one seat and memory never runs out.
 abbrev the_text : List ℕ
 the_text =
     flat_map (λ reply. reply) (replies (seated_world 1 (the_course ∷ [])) (map line_of (lines_of the_bytes)))

@@ -48,7 +48,7 @@ unit_values unit store names = map (values_held store names) unit.properties
 -- ---- what is met
 
 -- What a run meets by a line: the published unit of which it is to be made, if there is one; the values that the
--- store holds for it just before; or nothing, where there is no such run. It takes in values anew by each of its
+-- store holds for it just before; or nothing, where there is no such run. It takes in values afresh at each of its
 -- lines, so those of the time at which it was made are none of what it meets.
 pub data Meeting : Type 0 where
   the_unit : Option Unit → Meeting
@@ -93,7 +93,7 @@ own_replies w name lines = told_to name lines (replies w lines)
 -- ---- the law
 
 -- If the run of this name meets the same in two histories, of whatever units and with whatever other lines, the
--- replies to the lines that name it are the same. Lines for which memory is wanting count as not given, and stand
+-- replies to the lines that name it are the same. Lines for which memory runs out count as not given, and stand
 -- in neither.
 abbrev pub MeetingsTellReplies : Type 0
 MeetingsTellReplies =

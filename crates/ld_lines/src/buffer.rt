@@ -4,8 +4,7 @@ ghost use Rattle.ld_base.specs.Outside.{Rose};
 ghost use Rattle.ld_lines.specs.Reading.{IsEnd};
 ghost use Rattle.ld_lines.specs.Window.{Window, Fills, TakesInto};
 
-use ld_base::memory::NoMemory;
-use ld_base::source::{Source, SourceFailed};
+use ld_base::{NoMemory, Source, SourceFailed};
 use std::alloc::Global;
 use std::marker::Model;
 

@@ -1,6 +1,5 @@
 //! What a line asks of one run.
-use ld_base::id::Id;
-use ld_base::plain_text::PlainText;
+use ld_base::{Id, PlainText};
 
 /// What a line asks of one run.
 #[derive(Drop)]

@@ -5,6 +5,6 @@
 pub enum LineFault {
     /// The bytes are no command line.
     BadLine,
-    /// Memory is wanting.
+    /// Memory ran out.
     NoMemory,
 }

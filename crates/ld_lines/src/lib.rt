@@ -14,3 +14,12 @@ pub mod refusal;
 pub mod stop;
 mod verbs;
 mod words;
+
+pub use command::RunCommand;
+pub use command_reader::CommandReader;
+pub use fault::LineFault;
+pub use line::Line;
+pub use lines::{LINE_LIMIT, Lines};
+pub use next::Next;
+pub use refusal::refusal_word;
+pub use stop::LineStop;

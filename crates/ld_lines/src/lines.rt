@@ -5,8 +5,7 @@ use crate::cut::Cut;
 use crate::next::Next;
 use crate::reader::Reader;
 use crate::stop::LineStop;
-use ld_base::memory::NoMemory;
-use ld_base::source::Source;
+use ld_base::{NoMemory, Source};
 use std::alloc::Global;
 use std::marker::Model;
 

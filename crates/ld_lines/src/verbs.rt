@@ -12,7 +12,7 @@ use crate::command::RunCommand;
 use crate::fault::LineFault;
 use crate::line::Line;
 use crate::words::Words;
-use ld_value::moment::Moment;
+use ld_value::Moment;
 
 /// The line that the words are, to the last of them.
 pub(crate) fn read_line(words: &mut Words<'_>) -> Result<Line, LineFault>

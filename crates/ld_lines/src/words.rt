@@ -6,10 +6,8 @@ ghost use Rattle.ld_lines.specs.Words.{identifier_in};
 
 use crate::fault::LineFault;
 use json::{Reader, Scratch, Token};
-use ld_base::id::Id;
-use ld_base::plain_text::PlainText;
-use ld_value::forms::is_uri;
-use ld_value::moment::{Moment, read_moment};
+use ld_base::{Id, PlainText};
+use ld_value::{Moment, is_uri, read_moment};
 use std::alloc::Global;
 
 /// The elements of a JSON array, which are read one after the other where they stand, and the

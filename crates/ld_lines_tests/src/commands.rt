@@ -1,9 +1,6 @@
 //! A line of each verb. The tables of lines that are no command stand in tests/lines.
-use ld_base::id::Id;
-use ld_lines::command::RunCommand;
-use ld_lines::command_reader::CommandReader;
-use ld_lines::fault::LineFault;
-use ld_lines::line::Line;
+use ld_base::Id;
+use ld_lines::{CommandReader, Line, LineFault, RunCommand};
 use std::alloc::Global;
 use std::test::Fail;
 

@@ -1,11 +1,8 @@
 //! Lines of small inputs and at the limit of a line, however the bytes come.
 ghost use Rattle.std.specs.Prelude.{◌<◌};
 
-use ld_base::items::Items;
-use ld_base::memory_source::MemorySource;
-use ld_lines::lines::Lines;
-use ld_lines::next::Next;
-use ld_lines::stop::LineStop;
+use ld_base::{Items, MemorySource};
+use ld_lines::{LineStop, Lines, Next};
 use std::alloc::Global;
 use std::test::Fail;
 

@@ -1,5 +1,5 @@
 //! Words of refusals.
-use ld_lines::refusal::refusal_word;
+use ld_lines::refusal_word;
 use std::test::Fail;
 
 #[test]

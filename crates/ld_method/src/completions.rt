@@ -6,16 +6,10 @@ ghost use Rattle.ld_json.specs.Access.{IsObject};
 ghost use Rattle.ld_shape.specs.Reading.{GivesOrSays};
 
 use crate::test_forms::MembersTest;
-use ld_json::fault::ReadFault;
-use ld_json::node::Node;
-use ld_model::completion::{Completion, OnCompletion};
-use ld_reader::changes::Follows;
-use ld_reader::completions::read_common;
-use ld_shape::lists::ListOf;
-use ld_shape::members::{needed_at, optional_at};
-use ld_shape::reads::Reads;
-use ld_shape::texts::Identifier;
-use ld_shape::values::True;
+use ld_json::{Node, ReadFault};
+use ld_model::{Completion, OnCompletion};
+use ld_reader::{Follows, read_common};
+use ld_shape::{Identifier, ListOf, Reads, True, needed_at, optional_at};
 use std::alloc::Global;
 
 /// When an act is completed.

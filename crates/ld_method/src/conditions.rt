@@ -4,15 +4,10 @@
 ghost use Rattle.ld_formats.specs.Conditions.{action, condition, conditions_document};
 
 use crate::test_forms::TestShape;
-use ld_json::code::Code;
-use ld_json::fault::ReadFault;
-use ld_json::node::Node;
-use ld_model::condition::{Action, Condition, ConditionList};
-use ld_reader::changes::{ChangeShape, NoticeShape};
-use ld_shape::lists::{ListOf, list_at};
-use ld_shape::members::needed_at;
-use ld_shape::reads::Reads;
-use ld_shape::texts::Identifier;
+use ld_json::{Code, Node, ReadFault};
+use ld_model::{Action, Condition, ConditionList};
+use ld_reader::{ChangeShape, NoticeShape};
+use ld_shape::{Identifier, ListOf, Reads, list_at, needed_at};
 use std::alloc::Global;
 
 /// What a condition does.

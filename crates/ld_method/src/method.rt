@@ -4,14 +4,11 @@
 ghost use Rattle.ld_formats.specs.Methods.{part_in_act, act, play, method};
 
 use crate::completions::{ActCompletion, PlayCompletion, UnitCompletion, ending_at};
-use ld_json::fault::ReadFault;
-use ld_json::node::Node;
-use ld_model::method::{Act, Method, Play, RolePart};
-use ld_shape::lists::ListOf;
-use ld_shape::members::{absent_at, default_at, needed_at, optional_at};
-use ld_shape::reads::Reads;
-use ld_shape::texts::{Identifier, Title};
-use ld_shape::values::Flag;
+use ld_json::{Node, ReadFault};
+use ld_model::{Act, Method, Play, RolePart};
+use ld_shape::{
+    Flag, Identifier, ListOf, Reads, Title, absent_at, default_at, needed_at, optional_at,
+};
 use std::alloc::Global;
 
 /// A role-part.

@@ -11,17 +11,11 @@ ghost use Rattle.ld_shape.specs.Objects.{needed_in};
 ghost use Rattle.ld_shape.specs.Reading.{GivesOrSays};
 ghost use Rattle.ld_shape.specs.Soles.{chosen, sole};
 
-use ld_base::id::Id;
-use ld_base::items::Items;
-use ld_json::code::Code;
-use ld_json::fault::ReadFault;
-use ld_json::node::Node;
-use ld_model::expression::{Term, Test, TestForm};
-use ld_reader::terms::TermShape;
-use ld_shape::lists::{PairOf, count_from};
-use ld_shape::members::needed_at;
-use ld_shape::reads::Reads;
-use ld_shape::texts::Identifier;
+use ld_base::{Id, Items};
+use ld_json::{Code, Node, ReadFault};
+use ld_model::{Term, Test, TestForm};
+use ld_reader::TermShape;
+use ld_shape::{Identifier, PairOf, Reads, count_from, needed_at};
 use std::alloc::Global;
 
 /// A test.

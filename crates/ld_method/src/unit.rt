@@ -7,20 +7,13 @@ ghost use Rattle.ld_shape.specs.Reading.{GivesOrSays};
 ghost use Rattle.ld_shape.specs.Words.{one_of};
 
 use crate::method::MethodShape;
-use ld_base::id::Id;
-use ld_base::plain_text::PlainText;
-use ld_json::code::Code;
-use ld_json::fault::ReadFault;
-use ld_json::node::Node;
-use ld_model::item::ItemList;
-use ld_model::method::Method;
-use ld_model::unit::Level;
-use ld_reader::items::ItemShape;
-use ld_shape::lists::list_at;
-use ld_shape::members::{default_at, needed_at, optional_at};
-use ld_shape::reads::Reads;
-use ld_shape::texts::{Identifier, Text, Title};
-use ld_shape::values::Number;
+use ld_base::{Id, PlainText};
+use ld_json::{Code, Node, ReadFault};
+use ld_model::{ItemList, Level, Method};
+use ld_reader::ItemShape;
+use ld_shape::{
+    Identifier, Number, Reads, Text, Title, default_at, list_at, needed_at, optional_at,
+};
 use std::alloc::Global;
 use std::marker::Model;
 

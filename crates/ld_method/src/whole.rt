@@ -8,13 +8,10 @@ ghost use Rattle.ld_shape.specs.Reading.{GivesOrSays};
 
 use crate::conditions::ConditionsDocument;
 use crate::unit::{Head, HeadShape};
-use ld_base::items::Items;
-use ld_json::docs::Docs;
-use ld_json::fault::ReadFault;
-use ld_json::file::FileNo;
-use ld_model::condition::ConditionList;
-use ld_model::unit::{Parts, Unit};
-use ld_shape::documents::{read_document_or, read_required};
+use ld_base::Items;
+use ld_json::{Docs, FileNo, ReadFault};
+use ld_model::{ConditionList, Parts, Unit};
+use ld_shape::{read_document_or, read_required};
 use std::alloc::Global;
 use std::mem::replace;
 

@@ -1,3 +1,4 @@
+pub mod Ascending
 pub mod Counted
 pub mod Differing
 pub mod Following
@@ -9,4 +10,5 @@ pub mod Numbered
 pub mod Rows
 pub mod SameRules
 pub mod Shown
+pub mod SitesNumbered
 pub mod Split

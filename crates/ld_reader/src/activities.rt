@@ -11,19 +11,12 @@ ghost use Rattle.ld_shape.specs.Words.{one_of};
 use crate::changes::Follows;
 use crate::completions::ActivityCompletion;
 use crate::items::ItemShape;
-use ld_base::items::Items;
-use ld_base::memory::NoMemory;
-use ld_json::code::Code;
-use ld_json::fault::ReadFault;
-use ld_json::node::Node;
-use ld_model::activity::{Activity, ActivityKind};
-use ld_model::completion::{Completion, OnCompletion};
-use ld_model::item::{ItemList, ReferenceList};
-use ld_shape::lists::list_at;
-use ld_shape::members::{default_at, known_or, needed_at, optional_at};
-use ld_shape::reads::Reads;
-use ld_shape::texts::{Identifier, Title};
-use ld_shape::values::Flag;
+use ld_base::{Items, NoMemory};
+use ld_json::{Code, Node, ReadFault};
+use ld_model::{Activity, ActivityKind, Completion, ItemList, OnCompletion, ReferenceList};
+use ld_shape::{
+    Flag, Identifier, Reads, Title, default_at, known_or, list_at, needed_at, optional_at,
+};
 use std::alloc::Global;
 
 /// The kind of an activity.

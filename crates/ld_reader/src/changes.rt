@@ -6,13 +6,9 @@ ghost use Rattle.ld_shape.specs.Reading.{GivesOrSays};
 
 use crate::items::ItemShape;
 use crate::terms::TermShape;
-use ld_json::fault::ReadFault;
-use ld_json::node::Node;
-use ld_model::completion::{Change, Notice, OnCompletion};
-use ld_shape::lists::{ListOf, list_at};
-use ld_shape::members::{needed_at, optional_at};
-use ld_shape::reads::Reads;
-use ld_shape::texts::{Identifier, Title};
+use ld_json::{Node, ReadFault};
+use ld_model::{Change, Notice, OnCompletion};
+use ld_shape::{Identifier, ListOf, Reads, Title, list_at, needed_at, optional_at};
 use std::alloc::Global;
 
 /// A change of a property.

@@ -8,16 +8,10 @@ ghost use Rattle.ld_json.specs.Access.{IsObject};
 ghost use Rattle.ld_shape.specs.Reading.{GivesOrSays};
 ghost use Rattle.ld_shape.specs.Soles.{chosen};
 
-use ld_base::id::Id;
-use ld_base::plain_text::PlainText;
-use ld_json::code::Code;
-use ld_json::fault::ReadFault;
-use ld_json::node::Node;
-use ld_model::completion::Completion;
-use ld_shape::members::{needed_at, optional_at};
-use ld_shape::reads::Reads;
-use ld_shape::texts::{Identifier, Seconds};
-use ld_shape::values::True;
+use ld_base::{Id, PlainText};
+use ld_json::{Code, Node, ReadFault};
+use ld_model::Completion;
+use ld_shape::{Identifier, Reads, Seconds, True, needed_at, optional_at};
 use std::alloc::Global;
 
 /// The text of a value.

@@ -5,15 +5,9 @@ ghost use Rattle.ld_formats.specs.Environments.{learning_object, service_words, 
 ghost use Rattle.ld_shape.specs.Words.{one_of};
 
 use crate::items::ItemShape;
-use ld_json::code::Code;
-use ld_json::fault::ReadFault;
-use ld_json::node::Node;
-use ld_model::environment::{Environment, LearningObject, Service, ServiceKind};
-use ld_shape::lists::list_at;
-use ld_shape::members::{default_at, needed_at, optional_at};
-use ld_shape::reads::Reads;
-use ld_shape::texts::{Identifier, Title};
-use ld_shape::values::Flag;
+use ld_json::{Code, Node, ReadFault};
+use ld_model::{Environment, LearningObject, Service, ServiceKind};
+use ld_shape::{Flag, Identifier, Reads, Title, default_at, list_at, needed_at, optional_at};
 use std::alloc::Global;
 
 /// A learning object.

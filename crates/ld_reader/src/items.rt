@@ -3,13 +3,9 @@
 
 ghost use Rattle.ld_formats.specs.Items.{item};
 
-use ld_json::fault::ReadFault;
-use ld_json::node::Node;
-use ld_model::item::Item;
-use ld_shape::members::{default_at, needed_at, optional_at};
-use ld_shape::reads::Reads;
-use ld_shape::texts::{Href, Identifier, Title};
-use ld_shape::values::Flag;
+use ld_json::{Node, ReadFault};
+use ld_model::Item;
+use ld_shape::{Flag, Href, Identifier, Reads, Title, default_at, needed_at, optional_at};
 use std::alloc::Global;
 
 /// An item.

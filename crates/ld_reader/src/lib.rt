@@ -16,6 +16,8 @@ pub mod roles;
 pub mod structures;
 pub mod terms;
 
-pub use changes::read_on_completion;
+pub use changes::{ChangeShape, Follows, NoticeShape, read_on_completion};
+pub use completions::{ActivityCompletion, read_common};
+pub use items::ItemShape;
 pub use parts::read_parts;
-pub use terms::read_term;
+pub use terms::{TermShape, read_term};

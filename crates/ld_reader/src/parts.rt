@@ -15,20 +15,10 @@ use crate::environments::EnvironmentShape;
 use crate::properties::PropertyShape;
 use crate::roles::RoleShape;
 use crate::structures::StructureShape;
-use ld_base::items::Items;
-use ld_json::docs::Docs;
-use ld_json::fault::ReadFault;
-use ld_json::file::FileNo;
-use ld_json::node::Node;
-use ld_model::activity::{ActivityList, StructureList};
-use ld_model::environment::EnvironmentList;
-use ld_model::property::PropertyList;
-use ld_model::role::RoleList;
-use ld_model::unit::Parts;
-use ld_shape::documents::{read_document_or, read_required};
-use ld_shape::lists::{ListOf, list_at};
-use ld_shape::members::needed_at;
-use ld_shape::reads::Reads;
+use ld_base::Items;
+use ld_json::{Docs, FileNo, Node, ReadFault};
+use ld_model::{ActivityList, EnvironmentList, Parts, PropertyList, RoleList, StructureList};
+use ld_shape::{ListOf, Reads, list_at, needed_at, read_document_or, read_required};
 use std::alloc::Global;
 
 /// The document of roles.

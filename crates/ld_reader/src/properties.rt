@@ -11,17 +11,11 @@ ghost use Rattle.ld_shape.specs.Words.{one_of};
 
 use crate::completions::ValueText;
 use crate::restrictions::RestrictionsShape;
-use ld_base::id::Id;
-use ld_base::memory::NoMemory;
-use ld_base::plain_text::PlainText;
-use ld_json::code::Code;
-use ld_json::fault::ReadFault;
-use ld_json::node::Node;
-use ld_model::property::{Property, PropertyKind, Restrictions};
-use ld_shape::members::{known_at, needed_at, optional_at};
-use ld_shape::reads::Reads;
-use ld_shape::texts::{Identifier, Title, Uri};
-use ld_value::kind::Kind;
+use ld_base::{Id, NoMemory, PlainText};
+use ld_json::{Code, Node, ReadFault};
+use ld_model::{Property, PropertyKind, Restrictions};
+use ld_shape::{Identifier, Reads, Title, Uri, known_at, needed_at, optional_at};
+use ld_value::Kind;
 use std::alloc::Global;
 use std::marker::PhantomData;
 

@@ -4,14 +4,10 @@
 ghost use Rattle.ld_formats.specs.Properties.{restrictions};
 
 use crate::completions::ValueText;
-use ld_base::items::Items;
-use ld_json::fault::ReadFault;
-use ld_json::node::Node;
-use ld_model::property::Restrictions;
-use ld_shape::lists::ListBetween;
-use ld_shape::members::{absent_at, default_at, optional_at};
-use ld_shape::reads::Reads;
-use ld_shape::values::Number;
+use ld_base::Items;
+use ld_json::{Node, ReadFault};
+use ld_model::Restrictions;
+use ld_shape::{ListBetween, Number, Reads, absent_at, default_at, optional_at};
 use std::alloc::Global;
 
 /// What restricts the values of a property.

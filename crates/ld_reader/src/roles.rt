@@ -11,16 +11,12 @@ ghost use Rattle.ld_shape.specs.Reading.{GivesOrSays, Gives};
 ghost use Rattle.ld_shape.specs.Recursion.{shape_of};
 ghost use Rattle.ld_shape.specs.Words.{one_of};
 
-use ld_base::memory::NoMemory;
-use ld_json::code::Code;
-use ld_json::fault::ReadFault;
-use ld_json::node::Node;
-use ld_model::role::{CreateNew, MatchPersons, Role, RoleKind};
-use ld_shape::lists::count_from;
-use ld_shape::members::{default_at, known_at, needed_at, optional_at};
-use ld_shape::reads::Reads;
-use ld_shape::texts::{Identifier, Title};
-use ld_shape::values::Number;
+use ld_base::NoMemory;
+use ld_json::{Code, Node, ReadFault};
+use ld_model::{CreateNew, MatchPersons, Role, RoleKind};
+use ld_shape::{
+    Identifier, Number, Reads, Title, count_from, default_at, known_at, needed_at, optional_at,
+};
 use std::alloc::Global;
 
 /// The kind of a role.

@@ -9,17 +9,13 @@ ghost use Rattle.ld_shape.specs.Objects.{only_members};
 ghost use Rattle.ld_shape.specs.Reading.{GivesOrSays};
 ghost use Rattle.ld_shape.specs.Words.{one_of};
 
-use ld_base::memory::NoMemory;
-use ld_json::code::Code;
-use ld_json::fault::ReadFault;
-use ld_json::node::Node;
-use ld_model::activity::{Structure, StructureKind};
-use ld_model::item::ReferenceList;
-use ld_shape::lists::{ListOf, list_at};
-use ld_shape::members::{absent_at, default_at, known_at, needed_at, optional_at};
-use ld_shape::reads::Reads;
-use ld_shape::texts::{Identifier, Title};
-use ld_shape::values::Flag;
+use ld_base::NoMemory;
+use ld_json::{Code, Node, ReadFault};
+use ld_model::{ReferenceList, Structure, StructureKind};
+use ld_shape::{
+    Flag, Identifier, ListOf, Reads, Title, absent_at, default_at, known_at, list_at, needed_at,
+    optional_at,
+};
 use std::alloc::Global;
 
 /// The kind of a structure.

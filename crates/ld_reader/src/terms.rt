@@ -11,16 +11,9 @@ ghost use Rattle.ld_shape.specs.Reading.{GivesOrSays, Gives, mapped};
 ghost use Rattle.ld_shape.specs.Soles.{chosen, sole};
 
 use crate::completions::ValueText;
-use ld_json::code::Code;
-use ld_json::fault::ReadFault;
-use ld_json::node::Node;
-use ld_model::expression::{Term, TermForm};
-use ld_model::making;
-use ld_shape::lists::{count_from, count_two};
-use ld_shape::members::needed_at;
-use ld_shape::reads::Reads;
-use ld_shape::texts::Identifier;
-use ld_shape::values::True;
+use ld_json::{Code, Node, ReadFault};
+use ld_model::{Term, TermForm, making};
+use ld_shape::{Identifier, Reads, True, count_from, count_two, needed_at};
 use std::alloc::Global;
 
 /// A term.

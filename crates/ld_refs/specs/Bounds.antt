@@ -10,7 +10,7 @@ use Rattle.ld_walk.specs.Kinds.{is_role, is_property_kind, is_environment, is_ob
 use Rattle.ld_parts.specs.Listing.{method_at}
 use Rattle.ld_walk.specs.Parts.{What, Declares, Follows, Leaf, LeftOut, Part}
 use Rattle.ld_walk.specs.Places.{fault_at}
-use Rattle.ld_names.specs.Rules.{rules_in}
+use Rattle.ld_names.specs.Names.{NameTable}
 use Rattle.ld_refs.specs.declared.checks.limits.Counted.{Counted}
 use Rattle.ld_refs.specs.declared.checks.limits.Counted.TheVariants as counted
 use Rattle.ld_types.specs.Faults.{fault_if}
@@ -59,7 +59,7 @@ abbrev pub declares : (Kind → Bool) → What → Bool
 declares test (Declares kind _ _) = test kind
 declares test _ = false
 
--- The objects of a kind that stand behind the first ones, of which so many are allowed.
+-- The objects of a kind that stand behind the first ones, of which this many are allowed.
 abbrev pub beyond : ℕ → (Kind → Bool) → List Part → List Told
 beyond limit test parts = map (λ part. fault_at TooMany part.at) (drop limit (filter (λ part. declares test part.what) parts))
 
@@ -92,11 +92,11 @@ is_leaf of_members_only _ = false
 abbrev pub leaves_in : Bool → List Part → ℕ
 leaves_in of_members_only parts = length (filter (λ part. is_leaf of_members_only part.what) parts)
 
--- The unit as a whole has more than so many.
+-- The unit as a whole has more than `limit`.
 abbrev pub over : ℕ → ℕ → List Told
 over limit count = fault_if (nat_lt limit count) TooMany method_at
 
 -- At most 600 rules, 4,000 leaves of expressions, 100 leaves that are asked of each member of a role.
-unfoldable pub count_faults : List Part → List Told
-count_faults parts =
-    over 600 (length (rules_in parts)) ++ (over 4000 (leaves_in false parts) ++ over 100 (leaves_in true parts))
+unfoldable pub count_faults : NameTable → List Part → List Told
+count_faults names parts =
+    over 600 (length names.rules) ++ (over 4000 (leaves_in false parts) ++ over 100 (leaves_in true parts))

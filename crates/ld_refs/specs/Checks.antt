@@ -6,7 +6,6 @@ use Rattle.ld_json.specs.Fault.{Told}
 use Rattle.ld_model.specs.declared.unit.Unit.{Unit}
 use Rattle.ld_parts.specs.Listing.{parts_of}
 use Rattle.ld_names.specs.Names.{NameTable, names_of}
-use Rattle.ld_names.specs.declared.rule.Rule.{Rule}
 use Rattle.ld_walk.specs.Parts.{Part}
 use Rattle.ld_refs.specs.Bounds.{level_faults, profile_faults, object_limit_faults, count_faults, leaves_in}
 use Rattle.ld_refs.specs.Extents.{size_faults}
@@ -24,7 +23,7 @@ meaning_faults unit names parts =
 
 -- The limits of objects, then of rules and leaves, then of sizes.
 unfoldable pub amount_faults : Unit → NameTable → List Part → List Told
-amount_faults unit names parts = object_limit_faults parts ++ (count_faults parts ++ size_faults unit names parts)
+amount_faults unit names parts = object_limit_faults parts ++ (count_faults names parts ++ size_faults unit names parts)
 
 -- Identifiers differ, and the names of what all runs share.
 unfoldable pub text_faults : List Part → List Told
@@ -49,5 +48,4 @@ leaves_of unit = leaves_in false (parts_of unit)
 pub record CheckedUnit : Type 0 where
   pub unit : Unit
   pub names : NameTable
-  pub rules : List Rule
   pub leaves : ℕ

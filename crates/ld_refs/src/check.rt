@@ -9,31 +9,29 @@ ghost use Rattle.ld_names.specs.Names.{names_of};
 ghost use Rattle.ld_names.specs.Rules.{rules_of};
 ghost use Rattle.ld_refs.specs.Checks.{IsValid, check_faults, leaves_of};
 
-use crate::checks::limits::Counts;
 use crate::stages::{check_amounts, check_meaning, check_texts};
-use ld_json::fault::ReadFault;
-use ld_model::unit::Unit;
-use ld_names::names::Names;
-use ld_names::rule::Rule;
-use ld_parts::listing::Listing;
+use ld_json::ReadFault;
+use ld_model::Unit;
+use ld_names::Names;
+use ld_parts::Listing;
 use std::alloc::Global;
 use std::marker::Model;
 
 /// A valid unit: each member has its form, and no check finds a fault in it.
-/// Beside it stand its names, its rules and the number of the leaves of its expressions.
+/// Beside it stand its names and the number of the leaves of its expressions.
 pub struct Checked {
     unit: Unit,
     names: Names,
-    counts: Counts,
+    leaves: u32,
 }
 
-// By hand, so that a function which lets one go calls this and is not proved over each field anew.
+// By hand, so that a function which lets one go calls this and is not proved over each field again.
 impl Drop for Checked {
     fn drop(self) {
         let Self {
             unit: _,
             names: _,
-            counts: _,
+            leaves: _,
         } = self;
     }
 }
@@ -54,13 +52,11 @@ impl Model for Checked {
     ghost view = { λ s. record {
       unit = s.unit;
       names = s.names;
-      rules = s.counts.rules.items;
-      leaves = s.counts.leaves;
+      leaves = s.leaves;
     } };
 
     ghost invariant = { λ s. IsValid s.unit × HasDistinctIdentifiers s.unit
-        × (s.names ≡ names_of s.unit) × (s.counts.rules.items ≡ rules_of s.unit) × (length s.counts.rules.items ≤ 600)
-        × (s.counts.leaves ≡ leaves_of s.unit) };
+        × (s.names ≡ names_of s.unit) × (length (rules_of s.unit) ≤ 600) × (s.leaves ≡ leaves_of s.unit) };
 }
 
 impl Checked {
@@ -84,31 +80,30 @@ impl Checked {
     pub fn rules(&self) -> u32
         ensures { result ≡ length (rules_of self.now.unit) }
     {
-        self.counts.rules.len() as u32
+        self.names.rules().len() as u32
     }
 
     /// The number of leaves of the unit's expressions. It takes no memory.
     pub fn leaves(&self) -> u32
         ensures { result ≡ leaves_of self.now.unit }
     {
-        self.counts.leaves
+        self.leaves
     }
 
-    /// The valid unit, its names and its rules in their order. It takes no memory.
-    pub fn into_parts(self) -> (Unit, Names, Vec<Rule>)
+    /// The valid unit and its names. It takes no memory.
+    pub fn into_parts(self) -> (Unit, Names)
         ensures unit { result.0 ≡ self.unit }
         ensures names { result.1 ≡ names_of self.unit }
-        ensures rules { result.2.items ≡ rules_of self.unit }
-        ensures few_rules { length result.2.items ≤ 600 }
+        ensures few_rules { length (rules_of self.unit) ≤ 600 }
         ensures valid { IsValid result.0 }
         ensures distinct { HasDistinctIdentifiers result.0 }
     {
         let Checked {
             unit,
             names,
-            counts,
+            leaves: _,
         } = self;
-        (unit, names, counts.rules)
+        (unit, names)
     }
 }
 
@@ -121,21 +116,20 @@ pub fn check(alloc: Global, unit: Unit) -> Result<Checked, ReadFault>
     ensures first { IfErr result (SaysFirst (check_faults unit)) }
 {
     match check_all(alloc, &unit) {
-        Ok((names, counts)) => Ok(Checked {
+        Ok((names, leaves)) => Ok(Checked {
             unit,
             names,
-            counts,
+            leaves,
         }),
         Err(fault) => Err(fault),
     }
 }
 
-/// The names of the unit and its counts, or its first fault.
-fn check_all(alloc: Global, unit: &Unit) -> Result<(Names, Counts), ReadFault>
+/// The names of the unit and the number of its leaves, or its first fault.
+fn check_all(alloc: Global, unit: &Unit) -> Result<(Names, u32), ReadFault>
     ensures names { IfOk result (λ both. both.0 ≡ names_of unit.now) }
-    ensures rules { IfOk result (λ both. both.1.rules.items ≡ rules_of unit.now) }
-    ensures few_rules { IfOk result (λ both. length both.1.rules.items ≤ 600) }
-    ensures leaves { IfOk result (λ both. both.1.leaves ≡ leaves_of unit.now) }
+    ensures few_rules { OnOk result (length (rules_of unit.now) ≤ 600) }
+    ensures leaves { IfOk result (λ both. both.1 ≡ leaves_of unit.now) }
     ensures distinct { OnOk result (HasDistinctIdentifiers unit.now) }
     ensures faultless { OnOk result (check_faults unit.now ≡ []) }
     ensures first { IfErr result (SaysFirst (check_faults unit.now)) }
@@ -144,6 +138,6 @@ fn check_all(alloc: Global, unit: &Unit) -> Result<(Names, Counts), ReadFault>
     check_texts(alloc, &listing)?;
     let names = Names::of(alloc, unit, &listing)?;
     let graphs = check_meaning(alloc, unit, &names, &listing)?;
-    let counts = check_amounts(alloc, unit, &names, &graphs, &listing)?;
-    Ok((names, counts))
+    let leaves = check_amounts(alloc, unit, &names, &graphs, &listing)?;
+    Ok((names, leaves))
 }

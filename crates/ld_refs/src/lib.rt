@@ -10,3 +10,5 @@ pub(crate) mod checks;
 pub mod laws;
 pub(crate) mod method;
 pub(crate) mod stages;
+
+pub use check::Checked;

@@ -2,8 +2,7 @@
 ghost use Rattle.std.specs.Prelude.{◌≡◌, option_copied};
 ghost use Rattle.ld_refs.specs.Extents.{act_at, play_at, role_part_at};
 
-use ld_model::method::{Act, Play, RolePart};
-use ld_model::unit::Unit;
+use ld_model::{Act, Play, RolePart, Unit};
 
 /// The play of this number.
 pub(crate) fn play_at(unit: &Unit, play: u32) -> Option<&Play>

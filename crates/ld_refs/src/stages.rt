@@ -3,7 +3,6 @@
 
 ghost use Rattle.std.specs.Prelude.{◌≡◌, ◌≤◌, [], false, IfErr, IfOk, OnOk, length};
 ghost use Rattle.ld_json.specs.Fault.{SaysFirst};
-ghost use Rattle.ld_names.specs.Rules.{rules_in};
 ghost use Rattle.ld_refs.specs.Bounds.{leaves_in};
 ghost use Rattle.ld_refs.specs.Checks.{amount_faults, meaning_faults, text_faults};
 ghost use Rattle.ld_refs.specs.Edges.{edges_of};
@@ -12,15 +11,15 @@ ghost use Rattle.ld_refs.specs.Reaching.{environment_graph, structure_graph};
 use crate::checks::cycles::{Graphs, check_cycles};
 use crate::checks::each::check_each;
 use crate::checks::extents::check_extents;
-use crate::checks::limits::{Counts, check_counts, check_objects};
+use crate::checks::limits::{check_counts, check_objects};
 use crate::checks::profile::{Levels, Profile};
 use crate::checks::repeats::{Texts, check_repeats};
 use crate::checks::targets::Targets;
-use ld_json::fault::ReadFault;
-use ld_model::unit::Unit;
-use ld_names::names::Names;
-use ld_parts::listing::Listing;
-use ld_types::typing::Typing;
+use ld_json::ReadFault;
+use ld_model::Unit;
+use ld_names::Names;
+use ld_parts::Listing;
+use ld_types::Typing;
 use std::alloc::Global;
 
 /// That identifiers differ, and the names of what all runs share.
@@ -56,26 +55,26 @@ pub(crate) fn check_meaning(
     Ok(graphs)
 }
 
-/// That the unit keeps to the limits of objects, of rules and leaves, and of sizes; its counts.
+/// That the unit keeps to the limits of objects, of rules and leaves, and of sizes; the
+/// number of its leaves.
 pub(crate) fn check_amounts(
     alloc: Global,
     unit: &Unit,
     names: &Names,
     graphs: &Graphs,
     listing: &Listing<'_>,
-) -> Result<Counts, ReadFault>
+) -> Result<u32, ReadFault>
     requires environments { edges_of graphs.now.environments.items
         ≡ environment_graph unit.now names.now }
     requires structures { edges_of graphs.now.structures.items
         ≡ structure_graph unit.now names.now }
-    ensures rules { IfOk result (λ counts. counts.rules.items ≡ rules_in listing.now) }
-    ensures few_rules { IfOk result (λ counts. length counts.rules.items ≤ 600) }
-    ensures leaves { IfOk result (λ counts. counts.leaves ≡ leaves_in false listing.now) }
+    ensures few_rules { OnOk result (length names.now.rules ≤ 600) }
+    ensures leaves { IfOk result (λ leaves. leaves ≡ leaves_in false listing.now) }
     ensures faultless { OnOk result (amount_faults unit.now names.now listing.now ≡ []) }
     ensures first { IfErr result (SaysFirst (amount_faults unit.now names.now listing.now)) }
 {
     check_objects(alloc, listing)?;
-    let counts = check_counts(alloc, listing)?;
+    let leaves = check_counts(alloc, names, listing)?;
     check_extents(alloc, unit, names, graphs, listing)?;
-    Ok(counts)
+    Ok(leaves)
 }

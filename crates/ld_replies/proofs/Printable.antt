@@ -15,7 +15,7 @@ use Rattle.ld_state.specs.RunState.{RunState, cell_of}
 use Rattle.ld_state.proofs.Elements.{contains_from_in}
 use Rattle.ld_firing.specs.RunSystem.{IsSoundRun}
 use Rattle.ld_firing.proofs.CellsThere.{now_there}
-use Rattle.ld_checks.specs.Checks.{admitted, fitting_value, in_time, last_moment, none_short, the_activity, the_cell, the_person, the_property, the_role}
+use Rattle.ld_checks.specs.Checks.{admitted, fitting_value, in_time, last_moment, none_short, the_activity, the_person, the_property, the_role}
 use Rattle.ld_replies.specs.Printing.{IsPrintable}
 use Rattle.ld_checks.specs.Refusals.{Refusal, MomentBack, NotStarted, StartedAlready, UnknownPerson, PersonExists, RunFull, UnknownRole, HoldsAlready, NotHeld, RoleFull, RoleExclusive, UnknownActivity, NotByChoice, UnknownProperty, BadValue, NotAllowed, ◌unless_refused◌ as ◌>>=◌, ◌>>◌, refuse_if}
 use Rattle.ld_replies.proofs.SeenInRuns.{suits_printable}
@@ -91,20 +91,20 @@ module _ (unit : Unit) (s : RunState) (formed : is_well_formed unit ≡ true) (d
       and_then _ _ timely (and_then _ _ (refuses _ StartedAlready tt) (and_then _ _ (shortage unit _ formed) (passes _)))
   prints (Open person activity) =
       and_then _ _ timely (and_then _ _ (refuses _ NotStarted tt) (with_it (the_person s person) _ (finds _ UnknownPerson tt) (λ p.
-      with_it (the_activity unit activity) _ (finds _ UnknownActivity tt) (λ thing. passes _))))
+      with_it (the_activity unit activity) _ (finds _ UnknownActivity tt) (λ found. passes _))))
   prints (Complete person activity) =
       and_then _ _ timely (and_then _ _ (refuses _ NotStarted tt) (with_it (the_person s person) _ (finds _ UnknownPerson tt) (λ p.
-      with_it (the_activity unit activity) _ (finds _ UnknownActivity tt) (λ thing. and_then _ _ (refuses _ NotByChoice tt) (passes _)))))
+      with_it (the_activity unit activity) _ (finds _ UnknownActivity tt) (λ found. and_then _ _ (refuses _ NotByChoice tt) (passes _)))))
   prints (Set person property text) =
       and_then _ _ timely (and_then _ _ (refuses _ NotStarted tt) (with_it (the_person s person) _ (finds _ UnknownPerson tt) (λ p.
-      with_it (the_property unit property) _ (finds _ UnknownProperty tt) (λ found. with_it (fitting_value found text) _ (finds _ BadValue tt) (λ value.
-      and_then _ _ (refuses _ NotAllowed tt) (with_it (the_cell unit p property) _ (finds _ UnknownProperty tt) (λ cell. passes _)))))))
+      with_it (the_property unit property) _ (finds _ UnknownProperty tt) (λ found. with_it (fitting_value found.property text) _ (finds _ BadValue tt) (λ value.
+      and_then _ _ (refuses _ NotAllowed tt) (passes _))))))
   prints (Clear person property) =
       and_then _ _ timely (and_then _ _ (refuses _ NotStarted tt) (with_it (the_person s person) _ (finds _ UnknownPerson tt) (λ p.
-      with_it (the_property unit property) _ (finds _ UnknownProperty tt) (λ found. and_then _ _ (refuses _ NotAllowed tt) (with_it (the_cell unit p property) _ (finds _ UnknownProperty tt) (λ cell. passes _))))))
+      with_it (the_property unit property) _ (finds _ UnknownProperty tt) (λ found. and_then _ _ (refuses _ NotAllowed tt) (passes _)))))
   prints (Get person property) =
       and_then _ _ timely (and_then _ _ (refuses _ NotStarted tt) (with_it (the_person s person) _ (finds _ UnknownPerson tt) (λ p.
-      with_it (the_cell unit p property) _ (finds _ UnknownProperty tt) (λ cell. passes _))))
+      with_it (the_property unit property) _ (finds _ UnknownProperty tt) (λ found. passes _))))
   prints (Tree person) =
       and_then _ _ timely (and_then _ _ (refuses _ NotStarted tt) (with_it (the_person s person) _ (finds _ UnknownPerson tt) (λ p. passes _)))
   prints (Outbox person) =

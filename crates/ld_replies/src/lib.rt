@@ -10,3 +10,7 @@ mod report;
 mod role_lines;
 pub mod telling;
 pub mod value_text;
+
+pub use replies::{push_done, push_refusal};
+pub use telling::{refuse, say_no_memory, tell_refusal};
+pub use value_text::push_value;

@@ -13,15 +13,10 @@ ghost use Rattle.ld_replies.specs.Printing.{HasMoments};
 ghost use Rattle.ld_replies.specs.Reports.{done_or_open, moment_word, progress_word, report_of_act, report_of_part, report_of_play};
 
 use crate::printed::Lines;
-use ld_base::id::Id;
-use ld_base::memory::NoMemory;
-use ld_base::steps::Steps;
-use ld_expr::cells::thing_number;
-use ld_expr::scope::Scope;
-use ld_model::cell::{CellName, Owner};
-use ld_model::method::{Act, Play, RolePart};
-use ld_model::view::View;
-use ld_value::value::Value;
+use ld_base::{Id, NoMemory, Steps};
+use ld_expr::{Scope, thing_number};
+use ld_model::{Act, CellName, Owner, Play, RolePart, View};
+use ld_value::Value;
 use std::sync::ledger::Ledger;
 
 /// What a report of the method is made from. (docs/COMMANDS.md, "Replies")

@@ -8,11 +8,10 @@ ghost use Rattle.ld_replies.specs.Printing.{AreNoticesOf, IsNoticeOf};
 ghost use Rattle.ld_replies.specs.Reports.{activity_of_notice, notice_lines};
 
 use crate::printed::Lines;
-use ld_base::memory::NoMemory;
-use ld_base::numbers::PersonNo;
-use ld_names::names::Named;
-use ld_rules::prepared::PreparedUnit;
-use ld_state::notice::OutNotice;
+use ld_base::{NoMemory, PersonNo};
+use ld_names::Named;
+use ld_rules::PreparedUnit;
+use ld_state::OutNotice;
 use std::alloc::Global;
 
 /// Puts the lines of the notices that reach the person. (docs/COMMANDS.md, "Replies")

@@ -5,15 +5,14 @@ ghost use Rattle.ld_value.specs.Calendar.{IsMoment, text_of_moment};
 ghost use Rattle.ld_replies.specs.Printed.{begun, worded};
 
 use itoa::Buffer;
-use ld_base::memory::NoMemory;
-use ld_base::text::Text;
-use ld_json::print::print_text;
-use ld_value::moment::{Moment, print_moment};
+use ld_base::{NoMemory, Text};
+use ld_json::print_text;
+use ld_value::{Moment, print_moment};
 use std::alloc::Global;
 use std::marker::Model;
 
 /// Lines of words, each behind the end of the line before it. They are seen by contracts as their
-/// text and their number. Where memory is wanting, a part of what was to be added may stand there.
+/// text and their number. Where memory runs out, a part of what was to be added may stand there.
 #[derive(Drop)]
 pub(crate) struct Lines {
     text: Text,

@@ -9,11 +9,10 @@ ghost use Rattle.ld_checks.specs.RefusalView.{refusal_of};
 ghost use Rattle.ld_checks.specs.Refusals.{details_of};
 
 use itoa::Buffer;
-use ld_base::memory::NoMemory;
-use ld_base::text::Text;
-use ld_checks::refusal::Refusal;
-use ld_lines::refusal::refusal_word;
-use ld_value::moment::print_moment;
+use ld_base::{NoMemory, Text};
+use ld_checks::Refusal;
+use ld_lines::refusal_word;
+use ld_value::print_moment;
 
 /// Appends `no`, the number and the word of the refusal of this number.
 pub(crate) fn push_number_and_word(number: u8, out: &mut Text) -> Result<(), NoMemory>

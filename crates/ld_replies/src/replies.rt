@@ -19,18 +19,13 @@ use crate::refusal_text::{push_details, push_number_and_word};
 use crate::report::put_report;
 use crate::value_text::push_value;
 use itoa::Buffer;
-use ld_base::memory::NoMemory;
-use ld_base::numbers::PersonNo;
-use ld_base::steps::Steps;
-use ld_base::text::Text;
-use ld_cascade::settled::Settled;
-use ld_checks::admitted::Admitted;
-use ld_checks::refusal::Refusal;
-use ld_model::cell::CellName;
-use ld_model::view::View;
-use ld_rules::prepared::PreparedUnit;
-use ld_state::state::State;
-use ld_tree::tree::tree_text;
+use ld_base::{NoMemory, PersonNo, Steps, Text};
+use ld_cascade::Settled;
+use ld_checks::{Admitted, Refusal};
+use ld_model::{CellName, View};
+use ld_rules::PreparedUnit;
+use ld_state::State;
+use ld_tree::tree_text;
 use std::alloc::Global;
 use std::sync::ledger::Ledger;
 
@@ -189,7 +184,7 @@ fn push_tree<L: Ledger>(
 }
 
 /// What stands for the number of a tree's lines until they are printed. A long tree has mostly a
-/// number of so many digits, and then none of its lines has to be moved for it.
+/// number of this many digits, and then none of its lines has to be moved for it.
 const PLACE_OF_COUNT: &str = "0000";
 
 /// Appends the notices to the person.

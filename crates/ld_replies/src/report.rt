@@ -8,10 +8,9 @@ ghost use Rattle.ld_replies.specs.Reports.{report_lines};
 use crate::method_lines::Reporter;
 use crate::printed::Lines;
 use crate::role_lines::put_roles;
-use ld_base::memory::NoMemory;
-use ld_base::steps::Steps;
-use ld_rules::prepared::PreparedUnit;
-use ld_state::state::State;
+use ld_base::{NoMemory, Steps};
+use ld_rules::PreparedUnit;
+use ld_state::State;
 use std::alloc::Global;
 use std::sync::ledger::Ledger;
 

@@ -7,11 +7,9 @@ ghost use Rattle.ld_replies.specs.Printed.{printed_after};
 ghost use Rattle.ld_replies.specs.RoleLines.{role_line};
 
 use crate::printed::Lines;
-use ld_base::id::Id;
-use ld_base::memory::NoMemory;
-use ld_base::numbers::{RoleNo, number};
-use ld_model::role::Role;
-use ld_roles::roster::Roster;
+use ld_base::{Id, NoMemory, RoleNo, number};
+use ld_model::Role;
+use ld_roles::Roster;
 use std::alloc::Global;
 
 /// Puts the line of each of the roles, which are those of the roster, and of the roles within them.

@@ -7,10 +7,9 @@ ghost use Rattle.ld_checks.specs.Refusals as why;
 ghost use Rattle.ld_replies.specs.Replies.{refusal_text};
 
 use crate::replies::push_refusal;
-use ld_base::memory::NoMemory;
-use ld_base::text::Text;
-use ld_checks::refusal::Refusal;
-use ld_lines::refusal::refusal_word;
+use ld_base::{NoMemory, Text};
+use ld_checks::Refusal;
+use ld_lines::refusal_word;
 
 /// Empties the text and says that the line was refused. It takes no memory.
 pub fn tell_refusal(refusal: Refusal<'_>, out: &mut Text)
@@ -24,7 +23,7 @@ pub fn tell_refusal(refusal: Refusal<'_>, out: &mut Text)
     };
 }
 
-/// Empties the text and says that the line was refused. The only error is want of memory, which
+/// Empties the text and says that the line was refused. The only error is out of memory, which
 /// does not come where there is room for 128 bytes.
 pub fn refuse(refusal: Refusal<'_>, out: &mut Text) -> Result<(), NoMemory>
     requires { IsPrintable (refusal_of refusal) }
@@ -38,7 +37,7 @@ pub fn refuse(refusal: Refusal<'_>, out: &mut Text) -> Result<(), NoMemory>
     out.push("\n")
 }
 
-/// Empties the text and says that memory is wanting. It takes none.
+/// Empties the text and says that memory ran out. It takes none.
 pub fn say_no_memory(out: &mut Text)
     requires { 128 ≤ room_of out.old }
     ensures text { out.new.bytes ≡ refusal_text why.NoMemory ++ 10 ∷ [] }

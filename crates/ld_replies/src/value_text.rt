@@ -6,11 +6,9 @@ ghost use Rattle.ld_value.specs.Datum.{datum_of, is_text_datum};
 ghost use Rattle.ld_value.specs.Values.{HasText, text_of};
 ghost use Rattle.ld_replies.specs.Replies.{printed_value};
 
-use ld_base::memory::NoMemory;
-use ld_base::text::Text;
-use ld_json::print::print_text;
-use ld_value::print::print_value;
-use ld_value::value::Value;
+use ld_base::{NoMemory, Text};
+use ld_json::print_text;
+use ld_value::{Value, print_value};
 use std::alloc::Global;
 
 /// Appends the value as a JSON text, or `none` where there is no value. (docs/COMMANDS.md,

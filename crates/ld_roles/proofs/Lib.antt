@@ -3,4 +3,4 @@ pub mod Numbers
 pub mod Seating
 pub mod People
 pub mod Shortages
-pub mod Marks
+pub mod Savepoints

@@ -47,7 +47,7 @@ row_back : (row : PersonRow) (role : ℕ) (b c : Bool) → held_in row.held role
 row_back row role b c was =
     ap (λ held. record { name = row.name; held = held }) (set-set row.held role c b ∙ ap (λ each. set row.held role each) (sym was) ∙ set-get_or row.held role false)
 
--- A change that is taken back.
+-- A change that is rolled back.
 pub changed_back : (rows : List PersonRow) (p role : ℕ) (b c : Bool) → p < length rows → holds_role (persons_of rows) role p ≡ b → changed_at (with_held role b) p (changed_at (with_held role c) p rows) ≡ rows
 changed_back [] p role b c within was = refl
 changed_back (row ∷ rows) zero role b c within was = ap (λ first. first ∷ rows) (row_back row role b c was)

@@ -13,7 +13,7 @@ persons_before Enrolled rows = take (length rows - 1) rows
 persons_before (Gave p role) rows = changed_at (with_held role false) p rows
 persons_before (Took p role) rows = changed_at (with_held role true) p rows
 
--- The change can be taken back.
+-- The change can be rolled back.
 abbrev pub IsUndoable : Seated → Change → Type 0
 IsUndoable seats Nothing = Unit {0}
 IsUndoable seats Enrolled = 0 < length seats.rows
@@ -22,8 +22,8 @@ IsUndoable seats (Took p role) = (p < length seats.rows) × (role < length seats
 
 -- What contracts see of a roster that is kept so.
 abbrev pub roster_of : Seated → Option Change → RosterView
-roster_of seats mark = record {
+roster_of seats since = record {
   roles = seats.roles;
   rows = seats.rows;
-  kept = option_map (λ change. persons_before change seats.rows) mark;
+  kept = option_map (λ change. persons_before change seats.rows) since;
 }

@@ -8,7 +8,7 @@ pub record PersonRow : Type 0 where
   pub name : List ℕ
   pub held : List Bool
 
--- The bounds of the unit's roles, the persons in the order of enrolment, and the persons at the mark,
+-- The bounds of the unit's roles, the persons in the order of enrolment, and the persons at the savepoint,
 -- if there is one.
 pub record RosterView : Type 0 where
   pub roles : List RoleBounds
@@ -27,6 +27,6 @@ person_of row = record { name = row.name; holds = held_in row.held }
 abbrev pub persons_of : List PersonRow → Persons
 persons_of rows = map person_of rows
 
--- There is no mark, or all is as it was at the mark.
-abbrev pub IsAsMarked : RosterView → Type 0
-IsAsMarked roster = IfSome roster.kept (λ kept. kept ≡ roster.rows)
+-- There is no savepoint, or all is as it was at the savepoint.
+abbrev pub IsAsSaved : RosterView → Type 0
+IsAsSaved roster = IfSome roster.kept (λ kept. kept ≡ roster.rows)

@@ -12,7 +12,7 @@ use Rattle.ld_roles.specs.declared.fault.DropFault.{DropFault}
 use Rattle.ld_roles.specs.declared.fault.DropFault.TheVariants.{NotHeld, RoleShort}
 use Rattle.ld_roles.specs.declared.fault.Short.{Short}
 
--- Why the person is not enrolled in a run with so many seats.
+-- Why the person is not enrolled in a run with this many seats.
 abbrev pub enrol_fault : ℕ → Persons → List ℕ → Option EnrolFault
 enrol_fault seats persons name =
     if is_some (person_number persons name) then Some PersonExists

@@ -1,6 +1,6 @@
-//! What was done to a roster since its mark.
+//! What was done to a roster since its savepoint.
 
-/// What was done since the mark; persons and roles by their numbers.
+/// What was done since the savepoint; persons and roles by their numbers.
 #[derive(Clone, Copy)]
 pub(crate) enum Change {
     Nothing,

@@ -9,7 +9,7 @@ ghost use Rattle.ld_roles.specs.RoleTree.{child_roles};
 
 use crate::role_tree::RoleTree;
 use crate::seats::Seats;
-use ld_model::role::MatchPersons;
+use ld_model::MatchPersons;
 
 /// Whether some role keeps its members in one child, and the person would be in two.
 pub(crate) fn is_excluded(seats: &Seats, person: usize, role: usize) -> bool

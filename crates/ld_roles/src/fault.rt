@@ -1,6 +1,5 @@
 //! What a call of the roster can be refused for.
-use ld_base::memory::NoMemory;
-use ld_base::numbers::RoleNo;
+use ld_base::{NoMemory, RoleNo};
 
 /// A role with fewer members than it needs.
 #[derive(Clone, Copy, Debug, PartialEq, Eq)]

@@ -12,3 +12,8 @@ pub mod roster;
 mod seat;
 mod seats;
 mod shortage;
+
+pub use fault::{AssignFault, DropFault, EnrolFault, Short};
+pub use limit::SEATS;
+pub use role_tree::RoleTree;
+pub use roster::Roster;

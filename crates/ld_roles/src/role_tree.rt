@@ -5,10 +5,8 @@ ghost use Rattle.ld_roles.specs.Entries.{entry_bounds, bounds_below};
 ghost use Rattle.ld_roles.specs.RoleBounds.{role_bounds};
 ghost use Rattle.ld_roles.specs.RoleTree.{is_within, stand_so, is_directly_in, leads_over};
 
-use ld_base::memory::NoMemory;
-use ld_base::numbers::number;
-use ld_model::role::{MatchPersons, Role};
-use ld_model::unit::Unit;
+use ld_base::{NoMemory, number};
+use ld_model::{MatchPersons, Role, Unit};
 use std::alloc::Global;
 use std::marker::Model;
 
@@ -43,7 +41,7 @@ impl Model for RoleTree {
 }
 
 impl RoleTree {
-    /// The roles of the unit. The only error is want of memory.
+    /// The roles of the unit. The only error is out of memory.
     pub fn of(alloc: Global, unit: &Unit) -> Result<RoleTree, NoMemory>
         ensures { IfOk result (λ tree. tree ≡ role_bounds unit.now) }
     {

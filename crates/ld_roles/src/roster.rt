@@ -1,7 +1,7 @@
 //! The roster of a run: its persons, and the roles that they hold.
 ghost use Rattle.std.specs.Prelude.{◌≡◌, ◌≢◌, ◌<◌, ◌≤◌, ◌++◌, ◌∷◌, [], length, true, false, IfOk, IfErr, IfSome, OnOk, OnErr, IsSome, Some, None, unwrap_or, slice_get, option_map};
 ghost use Rattle.std.specs.Result.{result_err};
-ghost use Rattle.ld_roles.specs.Kept.{IsAsMarked, persons_of};
+ghost use Rattle.ld_roles.specs.Kept.{IsAsSaved, persons_of};
 ghost use Rattle.ld_roles.specs.Membership.{is_member_among, member_count, short_at_start_among};
 ghost use Rattle.ld_roles.specs.Persons.{changed_at, newcomer, person_number, with_role};
 ghost use Rattle.ld_roles.specs.Refusals.{assign_fault, drop_fault, enrol_fault, short_of};
@@ -15,25 +15,24 @@ use crate::role_tree::RoleTree;
 use crate::room::has_no_room;
 use crate::seats::Seats;
 use crate::shortage::{first_short, short_once_dropped};
-use ld_base::id::Id;
-use ld_base::numbers::{PersonNo, RoleNo};
+use ld_base::{Id, PersonNo, RoleNo};
 use std::alloc::Global;
 use std::marker::Model;
 use std::rc::Rc;
 
 /// The persons of a run in the order of enrolment, and the roles that they hold, seen by contracts
-/// as the bounds of the unit's roles, the persons, and the persons at the mark, if there is one.
-/// (docs/COMMANDS.md, "Refusals")
+/// as the bounds of the unit's roles, the persons, and the persons at the savepoint, if there is
+/// one. (docs/COMMANDS.md, "Refusals")
 pub struct Roster {
-    /// Where there is a mark, what was done since.
-    mark: Option<Change>,
+    /// Where there is a savepoint, what was done since.
+    since: Option<Change>,
     seats: Seats,
 }
 
-// By hand, so that a function which lets one go calls this and is not proved over each field anew.
+// By hand, so that a function which lets one go calls this and is not proved over each field again.
 impl Drop for Roster {
     fn drop(self) {
-        let Self { mark: _, seats: _ } = self;
+        let Self { since: _, seats: _ } = self;
     }
 }
 
@@ -45,25 +44,25 @@ impl Model for Roster {
 
     ghost use Rattle.ld_roles.specs.Changes.{IsUndoable, roster_of};
 
-    ghost view = { λ s. roster_of s.seats s.mark };
+    ghost view = { λ s. roster_of s.seats s.since };
 
-    ghost invariant = { λ s. IfSome s.mark (IsUndoable s.seats) };
+    ghost invariant = { λ s. IfSome s.since (IsUndoable s.seats) };
 }
 
 impl Roster {
-    /// A roster for these roles, without persons and without a mark. It takes no memory.
+    /// A roster for these roles, without persons and without a savepoint. It takes no memory.
     pub fn new(alloc: Global, roles: Rc<RoleTree>) -> Roster
         ensures { result ≡ record { roles = roles.value; rows = []; kept = None } }
     {
         Roster {
-            mark: None,
+            since: None,
             seats: Seats::new(alloc, roles),
         }
     }
 
     /// Adds the person last and gives the next number. A refusal changes nothing.
     pub fn enrol(&mut self, person: &Id) -> Result<PersonNo, EnrolFault>
-        requires { IsAsMarked self.old }
+        requires { IsAsSaved self.old }
         ensures number { IfOk result (λ number. number.0 ≡ length self.old.rows) }
         ensures persons { OnOk result (persons_of self.new.rows
             ≡ persons_of self.old.rows ++ newcomer person.now ∷ []) }
@@ -84,7 +83,7 @@ impl Roster {
             return Err(EnrolFault::RunFull);
         }
         self.seats.add(person.copy()?)?;
-        self.mark = self.mark.and(Some(Change::Enrolled));
+        self.since = self.since.and(Some(Change::Enrolled));
         Ok(PersonNo(number as u32))
     }
 
@@ -93,7 +92,7 @@ impl Roster {
     pub fn assign(&mut self, person: PersonNo, role: RoleNo) -> Result<(), AssignFault>
         requires person { person.0 < length self.old.rows }
         requires role { role.0 < length self.old.roles }
-        requires marked { IsAsMarked self.old }
+        requires saved { IsAsSaved self.old }
         ensures refused { result_err result
             ≡ assign_fault self.old.roles (persons_of self.old.rows) role.0 person.0 }
         ensures persons { OnOk result (persons_of self.new.rows
@@ -105,7 +104,7 @@ impl Roster {
         self.may_assign(person, role)?;
         let (person, role) = (person.0 as usize, role.0 as usize);
         self.seats.set(person, role, true);
-        self.mark = self.mark.and(Some(Change::Gave(person, role)));
+        self.since = self.since.and(Some(Change::Gave(person, role)));
         Ok(())
     }
 
@@ -118,7 +117,7 @@ impl Roster {
     ) -> Result<(), DropFault>
         requires person { person.0 < length self.old.rows }
         requires role { role.0 < length self.old.roles }
-        requires marked { IsAsMarked self.old }
+        requires saved { IsAsSaved self.old }
         ensures refused { result_err result
             ≡ drop_fault self.old.roles (persons_of self.old.rows) role.0 person.0 started }
         ensures persons { OnOk result (persons_of self.new.rows
@@ -130,11 +129,11 @@ impl Roster {
         self.may_drop(person, role, started)?;
         let (person, role) = (person.0 as usize, role.0 as usize);
         self.seats.set(person, role, false);
-        self.mark = self.mark.and(Some(Change::Took(person, role)));
+        self.since = self.since.and(Some(Change::Took(person, role)));
         Ok(())
     }
 
-    /// What `assign` is refused for, want of memory aside. It takes no memory.
+    /// What `assign` is refused for, but for running out of memory. It takes no memory.
     pub fn may_assign(&self, person: PersonNo, role: RoleNo) -> Result<(), AssignFault>
         requires person { person.0 < length self.now.rows }
         requires role { role.0 < length self.now.roles }
@@ -241,17 +240,17 @@ impl Roster {
           kept = Some self.old.rows;
         } }
     {
-        self.mark = Some(Change::Nothing);
+        self.since = Some(Change::Nothing);
     }
 
-    /// Gives back what was kept at the mark. It takes no memory.
+    /// Gives back what was kept at the savepoint. It takes no memory.
     pub fn undo(&mut self)
         requires { IsSome self.old.kept }
         ensures rows { Some self.new.rows ≡ self.old.kept }
         ensures roles { self.new.roles ≡ self.old.roles }
-        ensures unmarked { self.new.kept ≡ None }
+        ensures no_savepoint { self.new.kept ≡ None }
     {
-        match self.mark.take() {
+        match self.since.take() {
             Some(Change::Enrolled) => self.seats.remove_last(),
             Some(Change::Gave(person, role)) => self.seats.set(person, role, false),
             Some(Change::Took(person, role)) => self.seats.set(person, role, true),
@@ -259,12 +258,12 @@ impl Roster {
         }
     }
 
-    /// Gives up what was kept at the mark; what is there now stays.
+    /// Gives up what was kept at the savepoint; what is there now stays.
     pub fn keep(&mut self)
         requires { IsSome self.old.kept }
         ensures { self.new
             ≡ record { roles = self.old.roles; rows = self.old.rows; kept = None } }
     {
-        self.mark = None;
+        self.since = None;
     }
 }

@@ -8,7 +8,7 @@ ghost use Rattle.ld_roles.specs.Kept.{held_in};
 ghost use Rattle.ld_roles.specs.Seats.{IsSeated, is_member_with, without};
 
 use crate::role_tree::RoleTree;
-use ld_base::memory::NoMemory;
+use ld_base::NoMemory;
 use std::alloc::Global;
 
 /// Of each role by its number, whether a person holds it, and whether the person is a member.

@@ -9,8 +9,7 @@ use crate::limit::SEATS;
 use crate::role_tree::RoleTree;
 use crate::seat::Seat;
 use indexmap::IndexMap;
-use ld_base::id::Id;
-use ld_base::memory::NoMemory;
+use ld_base::{Id, NoMemory};
 use std::alloc::Global;
 use std::marker::Model;
 use std::rc::Rc;
@@ -129,7 +128,7 @@ impl Seats {
         seat.member[role]
     }
 
-    /// Adds the person last. Where memory is wanting nothing changes.
+    /// Adds the person last. Where memory runs out nothing changes.
     pub(crate) fn add(&mut self, name: Id) -> Result<(), NoMemory>
         requires new { person_number (persons_of self.old.rows) name ≡ None }
         requires room { length self.old.rows < SEATS }

@@ -11,7 +11,7 @@ use crate::fault::Short;
 use crate::members::{count_members, count_once_dropped};
 use crate::role_tree::RoleTree;
 use crate::seats::Seats;
-use ld_base::numbers::RoleNo;
+use ld_base::RoleNo;
 
 /// The first role that has too few members.
 pub(crate) fn first_short(seats: &Seats) -> Option<Short>

@@ -10,15 +10,10 @@ ghost use Rattle.ld_rules.specs.SiteLooks.{all_done_looks, cell_list, completion
 ghost use Rattle.ld_rules.specs.SiteTests.{completion_holds, has_passed, rule_holds};
 ghost use Rattle.ld_rules.specs.SiteView.{completing_of, shown_in};
 
-use ld_base::id::Id;
-use ld_base::steps::Steps;
-use ld_expr::cells::says_yes;
-use ld_expr::scope::Scope;
-use ld_model::cell::{CellName, Owner};
-use ld_model::completion::Completion;
-use ld_model::view::View;
-use ld_value::moment::Moment;
-use ld_value::value::Value;
+use ld_base::{Id, Steps};
+use ld_expr::{Scope, says_yes};
+use ld_model::{CellName, Completion, Owner, View};
+use ld_value::{Moment, Value};
 use std::sync::ledger::Ledger;
 
 /// For whom something is to be completed, the cells that say whether it was chosen and when it
@@ -86,7 +81,7 @@ fn is_chosen<V: View, L: Ledger>(view: &V, cell: Option<CellName>, steps: &mut S
     }
 }
 
-/// Whether it is so many seconds after the moment that the cell shows, or later.
+/// Whether it is this many seconds after the moment that the cell shows, or later.
 fn has_passed<V: View, L: Ledger>(
     view: &V,
     seconds: u64,
@@ -109,7 +104,7 @@ fn has_passed<V: View, L: Ledger>(
     is_over(begun, seconds, now)
 }
 
-/// Whether it is now so many seconds after the moment, or later.
+/// Whether it is now this many seconds after the moment, or later.
 fn is_over(begun: Moment, seconds: u64, now: Moment) -> bool
     ensures { result ≡ int_le (begun.0 +ℤ pos seconds) now.0 }
 {
@@ -135,8 +130,8 @@ fn moment_in<V: View, L: Ledger>(view: &V, cell: CellName, steps: &mut Steps<L>)
 fn are_done<V: View, L: Ledger>(scope: &Scope<'_, V>, ids: &[Id], steps: &mut Steps<L>) -> bool
     ensures value { result ≡ list_all (is_done scope.now.unit.now
         (V.seen scope.now.view.now) Owner.Run) ids.now }
-    ensures cost { steps.new
-        ≤ steps.old + length (all_done_looks scope.now.unit.now Owner.Run ids.now) }
+    ensures cost { steps.new ≤ steps.old + length (all_done_looks scope.now.unit.now
+        (V.seen scope.now.view.now) Owner.Run ids.now) }
 {
     for id in ids {
         if !scope.is_done(Owner::Run, id, steps) {
@@ -154,8 +149,8 @@ fn is_act_done<V: View, L: Ledger>(
 ) -> bool
     ensures value { result ≡ is_some_and (is_done scope.now.unit.now
         (V.seen scope.now.view.now) Owner.Run) (option_copied act.entry) }
-    ensures cost { steps.new ≤ steps.old
-        + length (list_from (done_looks scope.now.unit.now Owner.Run) (option_copied act.entry)) }
+    ensures cost { steps.new ≤ steps.old + length (list_from (done_looks scope.now.unit.now
+        (V.seen scope.now.view.now) Owner.Run) (option_copied act.entry)) }
 {
     match act {
         Some(act) => scope.is_done(Owner::Run, act, steps),

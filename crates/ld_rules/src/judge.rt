@@ -13,12 +13,10 @@ use crate::person_rules::judge_for_person;
 use crate::prepared::PreparedUnit;
 use crate::reach::Reach;
 use crate::site::Site;
-use ld_base::steps::Steps;
-use ld_expr::cells::says_yes;
-use ld_expr::scope::Scope;
-use ld_model::cell::{CellName, Owner};
-use ld_model::view::View;
-use ld_names::rule::Rule;
+use ld_base::Steps;
+use ld_expr::{Scope, says_yes};
+use ld_model::{CellName, Owner, View};
+use ld_names::Rule;
 use std::sync::ledger::Ledger;
 
 /// Whether the site's test holds in what the view shows: what its rule asks of the run or the
@@ -69,8 +67,14 @@ pub fn says_for_good(rule: Rule) -> bool
     ensures { result ≡ says_for_good rule }
 {
     match rule {
+        Rule::CompletesActivity(_)
+        | Rule::CompletesStructure(_)
+        | Rule::OpensAct(_, _)
+        | Rule::CompletesPart(_, _, _)
+        | Rule::CompletesAct(_, _)
+        | Rule::CompletesPlay(_)
+        | Rule::CompletesUnit => true,
         Rule::JudgesCondition(_) => false,
-        _ => true,
     }
 }
 

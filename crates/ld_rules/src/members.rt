@@ -5,13 +5,9 @@ ghost use Rattle.ld_expr.specs.Membership.{members, members_of, some_and_each};
 ghost use Rattle.ld_expr.specs.Seen.{everyone, member_cell};
 ghost use Rattle.ld_rules.specs.MembersDoing.{did, did_looks, some_of};
 
-use ld_base::id::Id;
-use ld_base::numbers::{PersonNo, RoleNo};
-use ld_base::steps::Steps;
-use ld_expr::cells::{role_number, says_yes};
-use ld_expr::scope::Scope;
-use ld_model::cell::{CellName, Owner};
-use ld_model::view::View;
+use ld_base::{Id, PersonNo, RoleNo, Steps};
+use ld_expr::{Scope, role_number, says_yes};
+use ld_model::{CellName, Owner, View};
 use std::sync::ledger::Ledger;
 
 /// Whether the role has a member.
@@ -57,8 +53,8 @@ pub(crate) fn did_all<V: View, L: Ledger>(
         (members_of scope.now.unit.now (V.seen scope.now.view.now) role.now) }
     ensures cost { steps.new ≤ steps.old + length (members_looks scope.now.unit.now
         (V.seen scope.now.view.now) role.now
-        ++ flat_map (did_looks scope.now.unit.now target.now) (members_of scope.now.unit.now
-        (V.seen scope.now.view.now) role.now)) }
+        ++ flat_map (did_looks scope.now.unit.now (V.seen scope.now.view.now) target.now)
+        (members_of scope.now.unit.now (V.seen scope.now.view.now) role.now)) }
 {
     match role_number(scope.unit, scope.names, role) {
         Some(role) => did_all_by_number(scope, role, target, steps),
@@ -79,8 +75,8 @@ fn did_all_by_number<V: View, L: Ledger>(
         (members (V.seen scope.now.view.now) role.0) }
     ensures cost { steps.new ≤ steps.old + length (map (member_cell role.0)
         (everyone (V.seen scope.now.view.now))
-        ++ flat_map (did_looks scope.now.unit.now target.now) (members
-        (V.seen scope.now.view.now) role.0)) }
+        ++ flat_map (did_looks scope.now.unit.now (V.seen scope.now.view.now) target.now)
+        (members (V.seen scope.now.view.now) role.0)) }
 {
     let mut has_member = false;
     for number in 0..scope.view.persons() {

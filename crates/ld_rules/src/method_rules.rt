@@ -13,17 +13,11 @@ ghost use Rattle.ld_rules.specs.SiteView.{completing_of};
 use crate::completion::{Completing, rule_holds};
 use crate::members::{did_all, has_member};
 use crate::place::place_named;
-use ld_base::id::Id;
-use ld_base::steps::Steps;
-use ld_expr::cells::thing_number;
-use ld_expr::scope::Scope;
-use ld_model::cell::{CellName, Owner};
-use ld_model::method::{Act, Play, RolePart};
-use ld_model::unit::Unit;
-use ld_model::view::View;
-use ld_names::names::Names;
-use ld_names::rule::Rule;
-use ld_walk::place::Place;
+use ld_base::{Id, Steps};
+use ld_expr::{Scope, thing_number};
+use ld_model::{Act, CellName, Owner, Play, RolePart, Unit, View};
+use ld_names::{Names, Rule};
+use ld_walk::Place;
 use std::sync::ledger::Ledger;
 
 /// What the rule asks of the run; of a rule for persons, nothing holds. (docs/MEANING.md, "Rules
@@ -71,7 +65,8 @@ fn judge_opening<V: View, L: Ledger>(
     steps: &mut Steps<L>,
 ) -> bool
     ensures value { result ≡ opening_test scope.now.unit.now (V.seen scope.now.view.now) play act }
-    ensures cost { steps.new ≤ steps.old + length (opening_looks scope.now.unit.now play act) }
+    ensures cost { steps.new ≤ steps.old + length (opening_looks scope.now.unit.now
+        (V.seen scope.now.view.now) play act) }
 {
     if act == 0 {
         return true;

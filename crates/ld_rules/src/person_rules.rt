@@ -17,17 +17,10 @@ ghost use Rattle.ld_rules.specs.SiteView.{completing_of};
 
 use crate::completion::{Completing, completion_holds};
 use crate::reach::Reach;
-use ld_base::id::Id;
-use ld_base::numbers::{PersonNo, RoleNo};
-use ld_base::steps::Steps;
-use ld_expr::cells::{says_yes, thing_number};
-use ld_expr::scope::Scope;
-use ld_model::activity::{Activity, Structure, StructureKind};
-use ld_model::cell::{CellName, Owner};
-use ld_model::unit::Unit;
-use ld_model::view::View;
-use ld_names::names::Names;
-use ld_names::rule::Rule;
+use ld_base::{Id, PersonNo, RoleNo, Steps};
+use ld_expr::{Scope, says_yes, thing_number};
+use ld_model::{Activity, CellName, Owner, Structure, StructureKind, Unit, View};
+use ld_names::{Names, Rule};
 use std::sync::ledger::Ledger;
 
 /// What the rule asks of the person; of a rule for the run, nothing holds. (docs/MEANING.md, "Rules
@@ -180,7 +173,7 @@ pub fn completing_activity<'a>(
     }
 }
 
-/// Whether so many of the structure's children are done for the person as it needs.
+/// Whether as many of the structure's children are done for the person as it needs.
 fn judge_structure<V: View, L: Ledger>(
     scope: &Scope<'_, V>,
     structure: &Structure,
@@ -189,8 +182,8 @@ fn judge_structure<V: View, L: Ledger>(
 ) -> bool
     ensures value { result ≡ structure_test scope.now.unit.now
         (V.seen scope.now.view.now) person.0 structure.now }
-    ensures cost { steps.new ≤ steps.old
-        + length (all_done_looks scope.now.unit.now (of_person person.0) structure.now.children) }
+    ensures cost { steps.new ≤ steps.old + length (all_done_looks scope.now.unit.now
+        (V.seen scope.now.view.now) (of_person person.0) structure.now.children) }
 {
     let children = structure.children.as_slice();
     number_needed(structure) <= count_done(scope, children, person, steps)
@@ -220,8 +213,8 @@ fn count_done<V: View, L: Ledger>(
 ) -> usize
     ensures value { result ≡ count_by (is_done scope.now.unit.now
         (V.seen scope.now.view.now) (of_person person.0)) ids.now }
-    ensures cost { steps.new ≤ steps.old
-        + length (all_done_looks scope.now.unit.now (of_person person.0) ids.now) }
+    ensures cost { steps.new ≤ steps.old + length (all_done_looks scope.now.unit.now
+        (V.seen scope.now.view.now) (of_person person.0) ids.now) }
 {
     let mut count = 0;
     for id in ids {

@@ -6,7 +6,7 @@ use Rattle.ld_cascade.specs.Settling.{all_firings}
 use Rattle.ld_cascade.specs.Work.{Spends, meets}
 use Rattle.ld_cascade.proofs.Weights.{meets_true}
 use Rattle.ld_model.specs.declared.unit.Unit.{Unit}
-use Rattle.ld_names.specs.Rules.{rules_of}
+use Rattle.ld_names.specs.SiteNumbers.{site_count}
 use Rattle.ld_roles.specs.declared.limit.TheConstants.{SEATS}
 use Rattle.ld_state.specs.RunState.{RunState}
 use Rattle.ld_firing.specs.RunSystem.{IsSoundRun, run_system}
@@ -51,7 +51,7 @@ pub settled_cost : (unit : Unit) (s begun before : RunState) (how : Relinking) (
     → later + relinked_weight (run_system unit) begun now.wiring.relinked
     ≤ steps + relinked_weight (run_system unit) begun old.wiring.relinked + steps_settling how unit begun before s changed
 settled_cost unit s begun before how changed old told now steps later sound seats begun_seats spends dirties relinked =
-    let same : (run_system unit).count begun ≡ (run_system unit).count s = ap (λ n. length (rules_of unit) * n) (begun_seats ∙ sym seats) in
+    let same : (run_system unit).count begun ≡ (run_system unit).count s = ap (site_count unit) (begun_seats ∙ sym seats) in
     let one = settling_spends (run_system unit) (run_is_lawful unit) s sound begun unit.turns told.wiring now.wiring steps later spends same
     (judged_first how unit before changed) dirties in
     let less = relinked_less (run_system unit) begun told.wiring.relinked old.wiring.relinked relinked in

@@ -29,7 +29,7 @@ pub record WereClean (unit : Unit) (before : RunState) (links : RunWiring) : Typ
   pub seats : before.seats ≡ SEATS
   pub clean : AreCleanLinks unit before links
 
--- So they were, where they are not renewed; and there were so many persons.
+-- So they were, where they are not renewed; and there were this many persons.
 abbrev pub MayCount : Relinking → Unit → RunState → RunWiring → Type 0
 MayCount Told unit before links = WereClean unit before links
 MayCount (ToldPersons count) unit before links = (length before.persons ≡ count) × WereClean unit before links

@@ -1,6 +1,6 @@
 //! What an admitted command does to its run.
 ghost use Rattle.std.specs.Prelude.{◌≡◌, Err, IfErr, IfOk, Ok, OnOk, false, true};
-ghost use Rattle.ld_state.specs.StateView.{HasMarkedPersons, IsStateOf, run_of};
+ghost use Rattle.ld_state.specs.StateView.{HasSavedPersons, IsStateOf, run_of};
 ghost use Rattle.ld_firing.specs.RunSystem.{IsSoundRun};
 ghost use Rattle.ld_firing.specs.SettledView.{settlement_of};
 ghost use Rattle.ld_firing.specs.Telling.{Tells};
@@ -11,35 +11,29 @@ ghost use Rattle.ld_sharing.specs.Globals.{taking_in};
 ghost use Rattle.ld_sharing.specs.StoreView.{Serves, values_of};
 ghost use Rattle.ld_checks.specs.Checks.{is_started};
 ghost use Rattle.ld_checks.specs.Commands.{Admitted as Command};
-ghost use Rattle.ld_checks.specs.AdmittedView.{HasPersonAndActivity, IsPossible, admitted_of};
+ghost use Rattle.ld_checks.specs.AdmittedView.{IsPossible, admitted_of};
 ghost use Rattle.ld_replies.specs.Printing.{IsPrintable, IsTellable};
 ghost use Rattle.ld_run.specs.Changes.{renews_sites};
 ghost use Rattle.ld_run.specs.Running.{IsRunning, MayBeDone};
 ghost use Rattle.ld_checks.specs.RefusalView.{RefusesWith, refusal_of};
 ghost use Rattle.ld_checks.specs.Refusals.{NotOpen};
-ghost use Rattle.ld_run.specs.RunStep.{at_moment, done_by, is_thing_open, open_for_it, settled, settled_after};
+ghost use Rattle.ld_run.specs.RunStep.{at_moment, done_by, open_for_it, settled, settled_after};
 ghost use Rattle.ld_run.specs.StageView.{done_with};
 
 use crate::changes::change_directly;
 use crate::command_room::Scratch;
 use crate::settling::{Relinking, both, how_to_relink, is_started, settle_if, settles_after};
-use ld_base::memory::NoMemory;
-use ld_base::numbers::{PersonNo, ThingNo};
-use ld_base::steps::Steps;
-use ld_cascade::settled::Settled;
-use ld_checks::admitted::Admitted;
-use ld_checks::refusal::Refusal;
-use ld_globals::globals::Globals;
-use ld_model::cell::CellName;
-use ld_model::view::View;
-use ld_names::names::Named;
-use ld_rules::prepared::PreparedUnit;
-use ld_settling::links::RunLinks;
-use ld_sharing::taking::take_in;
-use ld_state::state::State;
-use ld_tree::tree::is_open;
-use ld_value::moment::Moment;
-use ld_value::value::Value;
+use ld_base::{NoMemory, Steps};
+use ld_cascade::Settled;
+use ld_checks::{Admitted, Refusal};
+use ld_globals::Globals;
+use ld_model::{CellName, View};
+use ld_rules::PreparedUnit;
+use ld_settling::RunLinks;
+use ld_sharing::take_in;
+use ld_state::State;
+use ld_tree::is_open;
+use ld_value::{Moment, Value};
 use std::alloc::Global;
 use std::sync::ledger::Ledger;
 
@@ -59,7 +53,7 @@ pub(crate) fn do_admitted<L: Ledger>(
     requires running { IsRunning unit.now (run_of state.old) links.old }
     requires serves { Serves globals.now unit.now }
     requires may { MayBeDone unit.now (run_of state.old) moment.0 (admitted_of command.now) }
-    requires persons { HasMarkedPersons state.old }
+    requires persons { HasSavedPersons state.old }
     ensures done { IfOk result (λ totals. done_by unit.now (run_of state.old)
         (values_of globals.now) moment.0 (admitted_of command.now)
         ≡ Ok (done_with unit.now (values_of globals.now) (admitted_of command.now) totals
@@ -159,7 +153,7 @@ fn settle_changed<L: Ledger>(
     requires running { IsRunning unit.now (run_of state.old) links.old }
     requires serves { Serves globals.now unit.now }
     requires may { MayBeDone unit.now (run_of state.old) moment.0 (admitted_of command.now) }
-    requires persons { HasMarkedPersons state.old }
+    requires persons { HasSavedPersons state.old }
     ensures settled { IfOk result (λ totals. settled_after unit.now (values_of globals.now)
         (run_of state.old) moment.0 (admitted_of command.now)
         ≡ Ok (settlement_of totals (run_of state.new))) }
@@ -242,7 +236,6 @@ fn is_open_for<L: Ledger>(
     steps: &mut Steps<L>,
 ) -> bool
     requires own { IsStateOf unit.now state.now }
-    requires sound { IsSoundRun unit.now (run_of state.now) }
     requires possible { IsPossible unit.now (run_of state.now) (admitted_of command.now) }
     ensures open { result ≡ true
         → open_for_it unit.now (run_of state.now) (admitted_of command.now) ≡ Ok tt }
@@ -251,25 +244,8 @@ fn is_open_for<L: Ledger>(
 {
     match command {
         Admitted::Opens(person, thing) | Admitted::Completes(person, thing) => {
-            is_thing_open(unit, state, *person, *thing, steps)
+            is_open(unit.scope(state), *person, *thing, steps)
         }
         _ => true,
     }
-}
-
-/// Whether the activity is open for the person.
-fn is_thing_open<L: Ledger>(
-    unit: &PreparedUnit,
-    state: &State,
-    person: PersonNo,
-    thing: ThingNo,
-    steps: &mut Steps<L>,
-) -> bool
-    requires own { IsStateOf unit.now state.now }
-    requires sound { IsSoundRun unit.now (run_of state.now) }
-    requires there { HasPersonAndActivity unit.now (run_of state.now) person.0 thing.0 }
-    ensures { result ≡ is_thing_open unit.now (run_of state.now) person.0 thing.0 }
-{
-    let id = unit.names().id(Named::Thing(thing));
-    is_open(unit.scope(state), person, id, steps)
 }

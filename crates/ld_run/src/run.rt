@@ -13,18 +13,16 @@ ghost use Rattle.ld_run.specs.RunView.{AnswersCommand};
 
 use crate::command_room::{CommandRoom, Scratch};
 use crate::stages::step;
-use ld_base::memory::NoMemory;
-use ld_base::steps::Steps;
-use ld_base::text::Text;
-use ld_cells::undo_log::UndoLog;
-use ld_globals::globals::Globals;
-use ld_lines::command::RunCommand;
-use ld_replies::telling::tell_refusal;
-use ld_rules::prepared::PreparedUnit;
-use ld_settling::links::RunLinks;
-use ld_sharing::stored::stored_values;
-use ld_state::state::State;
-use ld_value::moment::Moment;
+use ld_base::{NoMemory, Steps, Text};
+use ld_cells::UndoLog;
+use ld_globals::Globals;
+use ld_lines::RunCommand;
+use ld_replies::tell_refusal;
+use ld_rules::PreparedUnit;
+use ld_settling::RunLinks;
+use ld_sharing::stored_values;
+use ld_state::State;
+use ld_value::Moment;
 use std::alloc::Global;
 use std::marker::Model;
 use std::rc::Rc;
@@ -39,7 +37,7 @@ pub struct Run {
     links: RunLinks,
 }
 
-// By hand, so that a function which lets one go calls this and is not proved over each field anew.
+// By hand, so that a function which lets one go calls this and is not proved over each field again.
 impl Drop for Run {
     fn drop(self) {
         let Self {
@@ -73,7 +71,7 @@ impl Model for Run {
 
 impl Run {
     /// A run of the unit that is made at this moment. Its global properties have the store's
-    /// values. The only error is want of memory.
+    /// values. The only error is out of memory.
     pub fn new<L: Ledger>(
         alloc: Global,
         unit: Rc<PreparedUnit>,
@@ -96,7 +94,7 @@ impl Run {
 
     /// Does the command at the moment, or refuses it: `out` is emptied and then holds the reply
     /// block. The run takes in the store's values of its global properties, and the store takes
-    /// them back. Where memory is wanting the block says so, and the command counts as not given.
+    /// them back. Where memory runs out the block says so, and the command counts as not given.
     /// Lists that it makes on its way stand in the room that is lent.
     pub fn apply<L: Ledger>(
         &mut self,
@@ -190,7 +188,7 @@ fn begin<L: Ledger>(
     requires moment { IsMoment moment.0 }
     ensures own { IfOk result (IsStateOf unit.now) }
     ensures order { IfOk result (λ state. IsInOrder unit.now (run_of state)) }
-    ensures unmarked { IfOk result (λ state. state.kept ≡ None) }
+    ensures no_savepoint { IfOk result (λ state. state.kept ≡ None) }
     ensures state { IfOk result (λ state. run_of state
         ≡ made_at SEATS unit.now (values_of globals.now) moment.0) }
 {

@@ -20,22 +20,18 @@ ghost use Rattle.ld_run.specs.Running.{IsInOrder, IsRunning};
 ghost use Rattle.ld_run.specs.RunStep.{settled};
 
 use crate::command_room::Scratch;
-use ld_base::memory::NoMemory;
-use ld_base::steps::Steps;
-use ld_cascade::settled::{Settled, Stop};
-use ld_checks::admitted::Admitted;
-use ld_checks::refusal::Refusal;
-use ld_model::cell::CellName;
-use ld_model::view::View;
-use ld_rules::prepared::PreparedUnit;
-use ld_settling::links::RunLinks;
-use ld_settling::settling::{restore, settle};
-use ld_state::state::State;
+use ld_base::{NoMemory, Steps};
+use ld_cascade::{Settled, Stop};
+use ld_checks::{Admitted, Refusal};
+use ld_model::{CellName, View};
+use ld_rules::PreparedUnit;
+use ld_settling::{RunLinks, restore, settle};
+use ld_state::State;
 use std::alloc::Global;
 use std::sync::ledger::Ledger;
 
 /// How the links of a run follow a change of it: told the slots that changed; told them, where
-/// persons joined or got or lost roles, of whom there were so many before; or by renewing all
+/// persons joined or got or lost roles, of whom there were this many before; or by renewing all
 /// sites.
 #[derive(Clone, Copy)]
 pub(crate) enum Relinking {
@@ -92,7 +88,7 @@ pub(crate) fn settle_if<L: Ledger>(
 }
 
 /// Makes the links those of the run as it is now: all of its sites are dirty then, or the readers
-/// of the slots that changed and the sites of persons who joined. After an error, which is want of
+/// of the slots that changed and the sites of persons who joined. After an error, which is out of
 /// memory, nothing is said of the links where all sites were to be renewed.
 fn relink(
     how: Relinking,
@@ -196,7 +192,7 @@ fn has_change(command: &Admitted<'_>) -> bool
     }
 }
 
-/// How the links follow what the command changed in a run that had so many persons.
+/// How the links follow what the command changed in a run that had this many persons.
 pub(crate) fn how_to_relink(command: &Admitted<'_>, before: u32) -> Relinking
     ensures { result ≡ relinking_of (admitted_of command.now) before }
 {

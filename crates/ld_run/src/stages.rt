@@ -2,7 +2,7 @@
 ghost use Rattle.std.specs.Prelude.{◌≡◌, ◌++◌, ◌∷◌, [], false, IfErr, IfOk, None, Ok, OnErr, OnOk};
 ghost use Rattle.ld_base.specs.Roomy.{KeepsRoom};
 ghost use Rattle.ld_state.specs.GlobalValues.{GlobalValues};
-ghost use Rattle.ld_state.specs.StateView.{HasMarkedPersons, IsStateOf, run_of};
+ghost use Rattle.ld_state.specs.StateView.{HasSavedPersons, IsStateOf, run_of};
 ghost use Rattle.ld_settling.specs.RunLinking.{RunLinksFollow};
 ghost use Rattle.ld_value.specs.Calendar.{IsMoment};
 ghost use Rattle.ld_sharing.specs.Globals.{giving_back};
@@ -20,21 +20,17 @@ ghost use Rattle.ld_run.specs.StageView.{done_with};
 use crate::command_room::Scratch;
 use crate::doing::do_admitted;
 use crate::settling::{leaves_unmoved, take_back};
-use ld_base::memory::NoMemory;
-use ld_base::steps::Steps;
-use ld_base::text::Text;
-use ld_cascade::settled::Settled;
-use ld_checks::admitted::Admitted;
-use ld_checks::checks::admit;
-use ld_checks::refusal::Refusal;
-use ld_globals::globals::Globals;
-use ld_lines::command::RunCommand;
-use ld_replies::replies::push_done;
-use ld_rules::prepared::PreparedUnit;
-use ld_settling::links::RunLinks;
-use ld_sharing::giving::{Write, give_back, prepare};
-use ld_state::state::State;
-use ld_value::moment::Moment;
+use ld_base::{NoMemory, Steps, Text};
+use ld_cascade::Settled;
+use ld_checks::{Admitted, Refusal, admit};
+use ld_globals::Globals;
+use ld_lines::RunCommand;
+use ld_replies::push_done;
+use ld_rules::PreparedUnit;
+use ld_settling::RunLinks;
+use ld_sharing::{Write, give_back, prepare};
+use ld_state::State;
+use ld_value::Moment;
 use std::alloc::Global;
 use std::sync::ledger::Ledger;
 
@@ -57,7 +53,7 @@ pub(crate) fn step<'a, L: Ledger>(
     requires running { IsRunning unit.now (run_of state.old) links.old }
     requires serves { Serves globals.old unit.now }
     requires moment { IsMoment moment.0 }
-    requires unmarked { state.old.kept ≡ None }
+    requires no_savepoint { state.old.kept ≡ None }
     ensures done { OnOk result ((d : DoneCommand) × (run_step unit.now (run_of state.old)
         (values_of globals.old) moment.0 command.now ≡ Ok d) × (run_of state.new ≡ d.state)
         × (values_of globals.new ≡ d.store) × (out.new.bytes ≡ done_text unit.now d ++ 10 ∷ [])) }
@@ -69,7 +65,7 @@ pub(crate) fn step<'a, L: Ledger>(
     ensures own { IsStateOf unit.now state.new }
     ensures running { IsRunning unit.now (run_of state.new) links.new }
     ensures printable { IfErr result (λ refusal. IsPrintable (refusal_of refusal)) }
-    ensures unmarked { state.new.kept ≡ None }
+    ensures no_savepoint { state.new.kept ≡ None }
     ensures room { KeepsRoom out.old out.new }
 {
     match admit(alloc, unit, state, moment, command, steps) {
@@ -80,8 +76,8 @@ pub(crate) fn step<'a, L: Ledger>(
     }
 }
 
-/// Does an admitted command and tells it, over a savepoint. A refusal leaves the run and the store's
-/// values as they were.
+/// Does an admitted command and tells it, over a savepoint. A refusal leaves the run and the
+/// store's values as they were.
 fn try_admitted<'a, L: Ledger>(
     alloc: Global,
     unit: &PreparedUnit,
@@ -98,7 +94,7 @@ fn try_admitted<'a, L: Ledger>(
     requires running { IsRunning unit.now (run_of state.old) links.old }
     requires serves { Serves globals.old unit.now }
     requires may { MayBeDone unit.now (run_of state.old) moment.0 (admitted_of command.now) }
-    requires unmarked { state.old.kept ≡ None }
+    requires no_savepoint { state.old.kept ≡ None }
     ensures done { OnOk result ((d : DoneCommand) × (done_by unit.now (run_of state.old)
         (values_of globals.old) moment.0 (admitted_of command.now) ≡ Ok d)
         × (run_of state.new ≡ d.state) × (values_of globals.new ≡ d.store)
@@ -111,7 +107,7 @@ fn try_admitted<'a, L: Ledger>(
     ensures own { IsStateOf unit.now state.new }
     ensures running { IsRunning unit.now (run_of state.new) links.new }
     ensures printable { IfErr result (λ refusal. IsPrintable (refusal_of refusal)) }
-    ensures unmarked { state.new.kept ≡ None }
+    ensures no_savepoint { state.new.kept ≡ None }
     ensures room { KeepsRoom out.old out.new }
 {
     state.mark();
@@ -150,7 +146,7 @@ fn do_and_tell<'u, L: Ledger>(
     requires running { IsRunning unit.now (run_of state.old) links.old }
     requires serves { Serves globals.old unit.now }
     requires may { MayBeDone unit.now (run_of state.old) moment.0 (admitted_of command.now) }
-    requires persons { HasMarkedPersons state.old }
+    requires persons { HasSavedPersons state.old }
     ensures done { OnOk result ((d : DoneCommand) × (done_by unit.now (run_of state.old)
         (values_of globals.old) moment.0 (admitted_of command.now) ≡ Ok d)
         × (run_of state.new ≡ d.state)

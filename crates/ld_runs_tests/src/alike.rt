@@ -1,9 +1,8 @@
 //! A run all of whose cells are alike.
 
-use ld_base::steps::Steps;
-use ld_model::cell::CellName;
-use ld_model::view::View;
-use ld_value::value::Value;
+use ld_base::Steps;
+use ld_model::{CellName, View};
+use ld_value::Value;
 use std::sync::ledger::Ledger;
 
 /// A view of one person in which each name of a cell has this value.

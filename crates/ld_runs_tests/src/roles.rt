@@ -2,17 +2,14 @@
 #![tactic(auto, using(crate::proofs::All::role_bounded))]
 
 ghost use Rattle.std.specs.Prelude.{◌≡◌, ◌<◌, IfSome, None, length};
-ghost use Rattle.ld_roles.specs.Kept.{IsAsMarked};
+ghost use Rattle.ld_roles.specs.Kept.{IsAsSaved};
 ghost use Rattle.ld_roles.specs.RoleBounds.{role_bounds};
 
 use crate::units::{check, full, id};
-use ld_base::id::Id;
-use ld_base::numbers::{PersonNo, RoleNo};
-use ld_expr::cells::role_number;
-use ld_roles::fault::{AssignFault, DropFault, EnrolFault, Short};
-use ld_roles::role_tree::RoleTree;
-use ld_roles::roster::Roster;
-use ld_rules::prepared::PreparedUnit;
+use ld_base::{Id, PersonNo, RoleNo};
+use ld_expr::role_number;
+use ld_roles::{AssignFault, DropFault, EnrolFault, RoleTree, Roster, Short};
+use ld_rules::PreparedUnit;
 use std::alloc::Global;
 use std::rc::Rc;
 use std::test::Fail;
@@ -28,7 +25,7 @@ fn a_role_is_given(rt: HostRuntime) -> Result<(), Fail> {
 /// Gives the role to one of two persons.
 fn give(alloc: Global, unit: &PreparedUnit, mut roster: Roster) -> Result<(), Fail>
     requires roles { roster.roles ≡ role_bounds unit.now }
-    requires unmarked { roster.kept ≡ None }
+    requires no_savepoint { roster.kept ≡ None }
 {
     let ann = id(alloc, "ann")?;
     let bob = id(alloc, "bob")?;
@@ -38,7 +35,7 @@ fn give(alloc: Global, unit: &PreparedUnit, mut roster: Roster) -> Result<(), Fa
 /// Refuses the test where the roster says otherwise than told here.
 fn give_first(unit: &PreparedUnit, roster: &mut Roster, first: &Id, second: &Id) -> Result<(), Fail>
     requires roles { roster.old.roles ≡ role_bounds unit.now }
-    requires unmarked { roster.old.kept ≡ None }
+    requires no_savepoint { roster.old.kept ≡ None }
 {
     check(is_short(roster), "the role is short")?;
     check(enrols(roster, first, second), "two persons")?;
@@ -66,8 +63,8 @@ fn is_short(roster: &Roster) -> bool {
 
 /// Enrols both, and then the first once more.
 fn enrols(roster: &mut Roster, first: &Id, second: &Id) -> bool
-    requires unmarked { roster.old.kept ≡ None }
-    ensures unmarked { roster.new.kept ≡ None }
+    requires no_savepoint { roster.old.kept ≡ None }
+    ensures no_savepoint { roster.new.kept ≡ None }
     ensures roles { roster.new.roles ≡ roster.old.roles }
 {
     let numbers = (roster.enrol(first), roster.enrol(second));
@@ -88,7 +85,7 @@ pub(crate) fn role_of(unit: &PreparedUnit) -> Option<RoleNo>
 /// What comes of giving the role to the person of this name.
 fn assigned(unit: &PreparedUnit, roster: &mut Roster, name: &Id) -> Result<(), AssignFault>
     requires roles { roster.old.roles ≡ role_bounds unit.now }
-    requires marked { IsAsMarked roster.old }
+    requires saved { IsAsSaved roster.old }
     ensures kept { roster.new.kept ≡ roster.old.kept }
     ensures roles { roster.new.roles ≡ roster.old.roles }
 {
@@ -104,7 +101,7 @@ fn assigned(unit: &PreparedUnit, roster: &mut Roster, name: &Id) -> Result<(), A
 /// What comes of taking the role from the person of this name.
 fn dropped(unit: &PreparedUnit, roster: &mut Roster, name: &Id) -> Result<(), DropFault>
     requires roles { roster.old.roles ≡ role_bounds unit.now }
-    requires marked { IsAsMarked roster.old }
+    requires saved { IsAsSaved roster.old }
     ensures kept { roster.new.kept ≡ roster.old.kept }
     ensures roles { roster.new.roles ≡ roster.old.roles }
 {
@@ -117,7 +114,7 @@ fn dropped(unit: &PreparedUnit, roster: &mut Roster, name: &Id) -> Result<(), Dr
     roster.drop_role(person, role, false)
 }
 
-/// Whether the person of this name is told to be a member, or not to be one, of so many.
+/// Whether the person of this name is told to be a member, or not to be one, of this many.
 fn has(unit: &PreparedUnit, roster: &Roster, name: &Id, member: bool, count: u32) -> bool
     requires roles { roster.now.roles ≡ role_bounds unit.now }
 {
@@ -135,8 +132,8 @@ fn has(unit: &PreparedUnit, roster: &Roster, name: &Id, member: bool, count: u32
 /// Takes the role from the person, and takes that back.
 fn takes_back(unit: &PreparedUnit, roster: &mut Roster, name: &Id) -> bool
     requires roles { roster.old.roles ≡ role_bounds unit.now }
-    requires unmarked { roster.old.kept ≡ None }
-    ensures unmarked { roster.new.kept ≡ None }
+    requires no_savepoint { roster.old.kept ≡ None }
+    ensures no_savepoint { roster.new.kept ≡ None }
     ensures roles { roster.new.roles ≡ roster.old.roles }
 {
     roster.mark();
@@ -148,8 +145,8 @@ fn takes_back(unit: &PreparedUnit, roster: &mut Roster, name: &Id) -> bool
 /// Takes the role from the person, and keeps it so.
 fn keeps(unit: &PreparedUnit, roster: &mut Roster, name: &Id) -> bool
     requires roles { roster.old.roles ≡ role_bounds unit.now }
-    requires unmarked { roster.old.kept ≡ None }
-    ensures unmarked { roster.new.kept ≡ None }
+    requires no_savepoint { roster.old.kept ≡ None }
+    ensures no_savepoint { roster.new.kept ≡ None }
     ensures roles { roster.new.roles ≡ roster.old.roles }
 {
     roster.mark();

@@ -5,18 +5,15 @@ ghost use Rattle.std.specs.Prelude.{◌≡◌, ◌<◌};
 
 use crate::alike::Alike;
 use crate::units::{check, full};
-use ld_base::numbers::{PersonNo, PropNo, RuleNo, ThingNo};
-use ld_base::steps::Steps;
-use ld_model::cell::{CellName, Owner};
-use ld_names::names::Named;
-use ld_names::rule::Rule;
-use ld_rules::judge::{judge, says_for_good};
-use ld_rules::method_rules::{act_at, completing_play, is_environment, opening_cell};
-use ld_rules::person_rules::completing_activity;
-use ld_rules::prepared::PreparedUnit;
-use ld_rules::reach::Reach;
-use ld_rules::site::Site;
-use ld_value::value::Value;
+use ld_base::{PersonNo, PropNo, RuleNo, Steps, ThingNo};
+use ld_model::{CellName, Owner};
+use ld_names::{Named, Rule};
+use ld_rules::judge::judge;
+use ld_rules::{
+    PreparedUnit, Reach, Site, act_at, completing_activity, completing_play, is_environment,
+    opening_cell, says_for_good,
+};
+use ld_value::Value;
 use std::alloc::Global;
 use std::marker::Brand;
 use std::sync::ledger::{Blank, Ledger};

@@ -4,21 +4,13 @@ ghost use Rattle.ld_state.specs.StateView.{IsStateOf};
 
 use crate::roles::role_of;
 use crate::units::{check, full, id, plain};
-use ld_base::id::Id;
-use ld_base::items::Items;
-use ld_base::memory::NoMemory;
-use ld_base::numbers::{PersonNo, PropNo, RuleNo};
-use ld_base::steps::Steps;
-use ld_base::text::Text;
-use ld_cells::undo_log::UndoLog;
-use ld_model::cell::{CellName, Owner};
-use ld_model::view::View;
-use ld_roles::limit::SEATS;
-use ld_rules::prepared::PreparedUnit;
-use ld_state::notice::OutNotice;
-use ld_state::state::State;
-use ld_value::moment::Moment;
-use ld_value::value::{Value, same_value};
+use ld_base::{Id, Items, NoMemory, PersonNo, PropNo, RuleNo, Steps, Text};
+use ld_cells::UndoLog;
+use ld_model::{CellName, Owner, View};
+use ld_roles::SEATS;
+use ld_rules::PreparedUnit;
+use ld_state::{OutNotice, State};
+use ld_value::{Moment, Value, same_value};
 use std::alloc::Global;
 use std::marker::Brand;
 use std::sync::ledger::{Blank, Ledger};
@@ -39,7 +31,7 @@ fn a_state_changes(rt: HostRuntime) -> Result<(), Fail> {
 /// The state of a run that is made at moment 5, of a unit without properties.
 fn state_of(alloc: Global, unit: &PreparedUnit) -> Result<State, NoMemory>
     ensures own { IfOk result (IsStateOf unit.now) }
-    ensures unmarked { IfOk result (λ state. state.kept ≡ None) }
+    ensures no_savepoint { IfOk result (λ state. state.kept ≡ None) }
 {
     if !has_no_properties(unit) {
         return Err(NoMemory);
@@ -71,7 +63,7 @@ fn change<L: Ledger>(
     requires parts { blank.parts ≡ L.parts }
     requires some { 0 < L.parts }
     requires own { IsStateOf unit.now state.old }
-    requires unmarked { state.old.kept ≡ None }
+    requires no_savepoint { state.old.kept ≡ None }
 {
     let mut steps = Steps::<L>::new(blank);
     let mut changed = Vec::new(alloc);
@@ -88,7 +80,7 @@ fn change_with<L: Ledger>(
     steps: &mut Steps<L>,
 ) -> Result<(), Fail>
     requires own { IsStateOf unit.now state.old }
-    requires unmarked { state.old.kept ≡ None }
+    requires no_savepoint { state.old.kept ≡ None }
 {
     check(joins(alloc, unit, name, state, changed), "a person joins")?;
     check(is_given(unit, name, state, changed), "a role is given")?;
@@ -109,9 +101,9 @@ fn joins(
     changed: &mut Vec<u32>,
 ) -> bool
     requires own { IsStateOf unit.now state.old }
-    requires unmarked { state.old.kept ≡ None }
+    requires no_savepoint { state.old.kept ≡ None }
     ensures own { IsStateOf unit.now state.new }
-    ensures unmarked { state.new.kept ≡ None }
+    ensures no_savepoint { state.new.kept ≡ None }
 {
     if !has_no_properties(unit) {
         return false;
@@ -134,9 +126,9 @@ fn joins(
 /// Whether the person gets the role, and the cell that says so is told.
 fn is_given(unit: &PreparedUnit, name: &Id, state: &mut State, changed: &mut Vec<u32>) -> bool
     requires own { IsStateOf unit.now state.old }
-    requires unmarked { state.old.kept ≡ None }
+    requires no_savepoint { state.old.kept ≡ None }
     ensures own { IsStateOf unit.now state.new }
-    ensures unmarked { state.new.kept ≡ None }
+    ensures no_savepoint { state.new.kept ≡ None }
 {
     let Some(role) = role_of(unit) else {
         return false;
@@ -165,8 +157,8 @@ fn is_told(state: &State, cell: CellName, changed: &[u32]) -> bool {
 /// Whether the person drops the role, and the cell that says so is told.
 fn is_taken(unit: &PreparedUnit, name: &Id, state: &mut State, changed: &mut Vec<u32>) -> bool
     requires own { IsStateOf unit.now state.old }
-    requires unmarked { state.old.kept ≡ None }
-    ensures unmarked { state.new.kept ≡ None }
+    requires no_savepoint { state.old.kept ≡ None }
+    ensures no_savepoint { state.new.kept ≡ None }
 {
     let Some(role) = role_of(unit) else {
         return false;
@@ -229,10 +221,10 @@ fn sends(alloc: Global, state: &mut State) -> usize
     state.outbox().len()
 }
 
-/// How many notices there are once one more was taken back, with the room of a log for recording.
+/// How many notices there are once one more was rolled back, with the room of a log for recording.
 fn takes_back(alloc: Global, state: &mut State) -> usize
-    requires unmarked { state.old.kept ≡ None }
-    ensures unmarked { state.new.kept ≡ None }
+    requires no_savepoint { state.old.kept ≡ None }
+    ensures no_savepoint { state.new.kept ≡ None }
 {
     let mut log = UndoLog::new(alloc);
     state.exchange(&mut log);
@@ -245,8 +237,8 @@ fn takes_back(alloc: Global, state: &mut State) -> usize
 
 /// How many notices there are once one more was kept.
 fn keeps(alloc: Global, state: &mut State) -> usize
-    requires unmarked { state.old.kept ≡ None }
-    ensures unmarked { state.new.kept ≡ None }
+    requires no_savepoint { state.old.kept ≡ None }
+    ensures no_savepoint { state.new.kept ≡ None }
 {
     state.mark();
     let _sent = sends(alloc, state);

@@ -1,12 +1,12 @@
 //! The units of the tests.
 use json::Scratch;
-use ld_base::id::Id;
-use ld_json::doc::{Doc, document};
-use ld_json::docs::{Docs, Scratches};
-use ld_method::whole::read_method;
-use ld_reader::parts::read_parts;
-use ld_refs::check::{Checked, check as check_unit};
-use ld_rules::prepared::PreparedUnit;
+use ld_base::Id;
+use ld_json::{Doc, Docs, Scratches, document};
+use ld_method::read_method;
+use ld_reader::read_parts;
+use ld_refs::Checked;
+use ld_refs::check::check as check_unit;
+use ld_rules::PreparedUnit;
 use std::alloc::Global;
 use std::test::Fail;
 

@@ -80,7 +80,7 @@ module _ {z y : System} {carry : z.Situation → y.Situation} (carries : Carries
   sweeps_carried t zero = refl
   sweeps_carried t (suc k) = ap (swept y) (sweeps_carried t k) ∙ swept_carried (after_sweeps z t k)
 
-  -- The firings of the sweep after so many.
+  -- The firings of the sweep after this many.
   turn_carried : (t : z.Situation) (k : ℕ)
       → sweep_firings y (after_sweeps y (carry t) k) ≡ map (carried z y carry) (sweep_firings z (after_sweeps z t k))
   turn_carried t k = ap (sweep_firings y) (sweeps_carried t k) ∙ sweep_carried (after_sweeps z t k)
@@ -108,7 +108,7 @@ module _ {z y : System} {carry : z.Situation → y.Situation} (carries : Carries
       sent_same : sum_by (λ f. y.sent f.before f.site) (map (carried z y carry) fs) ≡ sum_by (λ f. z.sent f.before f.site) fs
       sent_same = sum_carried (carried z y carry) (λ f. z.sent f.before f.site) (λ f. y.sent f.before f.site) (λ f. carries.sent f.before f.site) fs
 
-  -- A sweep fires nothing in the one where it fires nothing in the other; so does the one after so many.
+  -- A sweep fires nothing in the one where it fires nothing in the other; so does the one after this many.
   pub quiet_carried : (t : z.Situation) → sweep_firings z t ≡ [] → sweep_firings y (carry t) ≡ []
   quiet_carried t none = sweep_carried t ∙ ap (map (carried z y carry)) none
 

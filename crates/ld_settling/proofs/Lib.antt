@@ -3,12 +3,12 @@ pub mod CleanLinks
 pub mod Frames
 pub mod Gathered
 pub mod Latching
+pub mod Linking
 pub mod Outcomes
 pub mod PersonsTold
 pub mod Reading
 pub mod ReadsNumbered
 pub mod RolesRead
-pub mod RunLinks
 pub mod SiteNumbers
 pub mod SitesFound
 pub mod SlotSets

@@ -1,44 +1,32 @@
 -- The links of a run in which persons joined, or got or lost roles.
-use Rattle.std.proofs.Common.{◌≡◌, refl, sym, ap, subst, ◌∙◌, ℕ, ◌+◌, ◌*◌, ◌/◌, ◌%◌, ◌<◌, ◌≤◌, ◌⊎◌, inl, inr, List, [], length, get_or, slice_get, Option, Some, None, Bool, true, false, is_some, Contains, arith}
-use Rattle.std.proofs.lemmas.Nat.{div-mul-add, mod-mul-add}
+use Rattle.std.proofs.Common.{◌≡◌, refl, sym, ap, subst, ◌∙◌, ℕ, ◌≤◌, ◌⊎◌, inl, inr, List, [], length, get_or, Option, Some, None, Bool, true, false, is_some, Contains, arith}
 use Rattle.std.proofs.lemmas.Bool.{cases_eq, cases_lt}
-use Rattle.std.proofs.lemmas.Option.{slice_get_within}
 use Rattle.ld_graph.specs.Edges.{Edges, IsLinked, edge_room}
 use Rattle.ld_graph.specs.Table.{has}
 use Rattle.ld_cascade.specs.Tidy.{AreLoosened, ChangesOnly, Covers, Touched}
 use Rattle.ld_cascade.specs.Wiring.{LinksFollow, HasSameRow, IsSameTable, IsWith, Wiring}
 use Rattle.ld_cascade.proofs.Touching.{bound_touched, tidy_touched}
 use Rattle.ld_model.specs.declared.cell.Owner.{Owner}
-use Rattle.ld_model.specs.declared.cell.Owner.TheVariants.{Run, Person}
 use Rattle.ld_model.specs.declared.unit.Unit.{Unit}
-use Rattle.ld_names.specs.declared.rule.Rule.{Rule}
-use Rattle.ld_names.specs.declared.rule.RuleKind.{RuleKind}
-use Rattle.ld_names.specs.declared.rule.RuleKind.TheVariants.{Person as OfPerson, Run as OfRun}
-use Rattle.ld_names.specs.Rules.{Site, kind_of, rules_of}
-use Rattle.ld_expr.specs.Lookup.{is_some_and}
-use Rattle.ld_expr.specs.Owners.{is_for_persons, is_person_rule}
+use Rattle.ld_names.specs.Rules.{Site, sites_of}
+use Rattle.ld_names.specs.SiteNumbers.{site_number}
+use Rattle.ld_names.proofs.SitesNumbered.{is_numbering}
 use Rattle.ld_roles.specs.declared.limit.TheConstants.{SEATS}
 use Rattle.ld_state.specs.RunState.{RunState}
 use Rattle.ld_state.proofs.Elements.{different}
 use Rattle.ld_rules.specs.LawWords.{HasOwner}
 use Rattle.ld_rules.specs.SiteTests.{site_mark}
-use Rattle.ld_firing.specs.RunSystem.{IsSoundRun, owner_number, run_system, site_at, verdict_in}
+use Rattle.ld_firing.specs.RunSystem.{IsSoundRun, run_system, site_at, verdict_in}
 use Rattle.ld_firing.specs.Telling.{TellsPersons}
-use Rattle.ld_firing.proofs.Growing.{site_stays, site_was}
+use Rattle.ld_firing.proofs.Growing.{site_is_there, site_stays, sites_grow}
 use Rattle.ld_firing.proofs.Lawful.{run_is_lawful}
 use Rattle.ld_firing.proofs.Sites.{IsOwner, a_person, the_run, said_of, site_found, some_of}
 use Rattle.ld_firing.proofs.SitesNumbered.{seats_of}
 use Rattle.ld_settling.specs.RunLinking.{AreNewcomers, AreWired, IsNewcomer, Loosens}
-use Rattle.ld_settling.proofs.SiteNumbers.{no_person_at}
 
 has_owner : (s : RunState) (own : Bool) (owner : Owner) → IsOwner (length s.persons) own owner → HasOwner s owner
 has_owner s own owner (a_person p below) = below
 has_owner s own owner the_run = tt
-
--- The number is that of a site of a person who is in the one run and not in the other, of one of its rules.
-pub record IsNew (unit : Unit) (s t : RunState) (i : ℕ) : Type 0 where
-  pub newcomer : IsNewcomer unit (length s.persons) (length t.persons) i
-  pub has_rule : newcomer.rule < length (rules_of unit)
 
 module _ (unit : Unit) (s t : RunState) (told : List ℕ) (sound : IsSoundRun unit s) (sound_after : IsSoundRun unit t)
     (tells : TellsPersons unit s t told) where
@@ -62,73 +50,43 @@ module _ (unit : Unit) (s t : RunState) (told : List ℕ) (sound : IsSoundRun un
     others = tells.untold;
   }
 
-  -- A site that there was not is one of a person who joined.
+  -- A site that there was not came with a person who joined.
   new_site : t.seats ≡ SEATS → (i : ℕ) → (run_system unit).is_site s i ≡ false → (run_system unit).is_site t i ≡ true
-      → IsNew unit s t i
+      → IsNewcomer unit (length s.persons) (length t.persons) i
   new_site seats i out there =
       let found = some_of (site_at unit t i) there in
       let site = found.0 in
       let has_site = site_found unit t i site found.1 in
-      let number : site.rule * SEATS + owner_number site.owner ≡ i = ap (λ n. site.rule * n + owner_number site.owner) (sym seats) ∙ has_site.number in
-      by site found.1 (slice_get_within (rules_of unit) site.rule has_site.rule has_site.ruled) number _ site.owner refl
-      (ap (is_some_and (λ rule. is_for_persons (kind_of rule))) has_site.ruled) has_site.owned
-    where
-      was : (site : Site) → site_at unit t i ≡ Some site
-          → ((own : Bool) → IsOwner (length t.persons) own site.owner → IsOwner (length s.persons) own site.owner) → IsNew unit s t i
-      was site at owned =
-          different (sym (ap is_some (site_was unit s t i site (sym tells.seats) (seats_of unit s sound) at owned)) ∙ out)
-
-      fewer : (p : ℕ) → p < length s.persons → (owner : Owner) → owner ≡ Person (record { 0 = p })
-          → (own : Bool) → IsOwner (length t.persons) own owner → IsOwner (length s.persons) own owner
-      fewer p below owner is own (a_person q _) = a_person q (omega (arith, below, ap owner_number is))
-      fewer p below owner is own the_run = the_run
-
-      same_run : (owner : Owner) → owner ≡ Run → (own : Bool) → IsOwner (length t.persons) own owner → IsOwner (length s.persons) own owner
-      same_run owner is own (a_person q _) = absurd (cc)
-      same_run owner is own the_run = the_run
-
-      by : (site : Site) → site_at unit t i ≡ Some site → site.rule < length (rules_of unit)
-          → site.rule * SEATS + owner_number site.owner ≡ i → (own : Bool) (owner : Owner) → site.owner ≡ owner
-          → is_person_rule unit site.rule ≡ own → IsOwner (length t.persons) own owner → IsNew unit s t i
-      by site at ruled number own owner is kind (a_person p below) = elim (cases_lt p (length s.persons)) [
-        | inl was_there ↦ was site at (fewer p was_there site.owner is)
-        | inr new ↦ record {
-          newcomer = record {
-            rule = site.rule;
-            place = p;
-            number = ap (λ o. site.rule * SEATS + owner_number o) (sym is) ∙ number;
-            personal = kind;
-            is_from = new;
-            is_below = below;
-          };
-          has_rule = ruled;
-        }
-      ]
-      by site at ruled number own owner is kind the_run = was site at (same_run site.owner is)
+      record {
+        site = site;
+        is_new = record {
+          there = has_site.there;
+          was_none = λ was.
+              different (sym (ap is_some (site_is_there unit t s i site tells.seats (seats_of unit s sound) was found.1)) ∙ out);
+        };
+        number = ap (λ n. site_number unit n site) (sym seats) ∙ has_site.number;
+      }
 
 -- The number of a newcomer's site was none before.
-pub newcomer_is_none : (unit : Unit) (s : RunState) (below i : ℕ) → IsSoundRun unit s → s.seats ≡ 200 → below ≤ 200
+pub newcomer_is_none : (unit : Unit) (s : RunState) (below i : ℕ) → IsSoundRun unit s → s.seats ≡ SEATS → below ≤ SEATS
     → IsNewcomer unit (length s.persons) below i → (run_system unit).is_site s i ≡ false
-newcomer_is_none unit s below i sound are most new = by (slice_get (rules_of unit) (i / 200)) refl
+newcomer_is_none unit s below i sound are most new = by (site_at unit s i) refl
   where
-    in_rule : i / 200 ≡ new.rule
-    in_rule = ap (λ n. n / 200) (sym new.number) ∙ div-mul-add new.rule 200 new.place (omega (arith, new.is_below, most))
+    was_there : (site : Site) → site_at unit s i ≡ Some site → Contains (sites_of unit (length s.persons)) new.site
+    was_there site at = elim (cases_lt below (length s.persons)) [
+      | inl fewer ↦ sites_grow unit below (length s.persons) new.site (omega (arith, fewer)) new.is_new.there
+      | inr more ↦
+          let has_site = site_found unit s i site at in
+          let number : site_number unit SEATS site ≡ site_number unit SEATS new.site =
+          ap (λ k. site_number unit k site) (sym are) ∙ has_site.number ∙ sym new.number in
+          let one = (is_numbering unit SEATS below (omega arith) most).apart site new.site
+          (sites_grow unit (length s.persons) below site more has_site.there) new.is_new.there number in
+          subst (Contains (sites_of unit (length s.persons))) one has_site.there
+    ]
 
-    in_place : i % 200 ≡ new.place
-    in_place = ap (λ n. n % 200) (sym new.number) ∙ mod-mul-add new.rule 200 new.place (omega (arith, new.is_below, most))
-
-    personal : is_some_and (λ rule. is_for_persons (kind_of rule)) (slice_get (rules_of unit) (i / 200)) ≡ true
-    personal = ap (is_person_rule unit) in_rule ∙ new.personal
-
-    of_persons : (kind : RuleKind) → is_for_persons kind ≡ true → OfPerson ≡ kind
-    of_persons OfPerson is = refl
-    of_persons OfRun is = different (sym is)
-
-    by : (found : Option Rule) → slice_get (rules_of unit) (i / 200) ≡ found → (run_system unit).is_site s i ≡ false
-    by None out = absurd (let none = subst (λ found. is_some_and (λ rule. is_for_persons (kind_of rule)) found ≡ true) out personal in cc)
-    by (Some rule) at =
-        let is = subst (λ found. is_some_and (λ one. is_for_persons (kind_of one)) found ≡ true) at personal in
-        ap is_some (no_person_at unit s i (seats_of unit s sound) are rule at (of_persons (kind_of rule) is) (omega (arith, in_place, new.is_from)))
+    by : (found : Option Site) → site_at unit s i ≡ found → (run_system unit).is_site s i ≡ false
+    by None at = ap is_some at
+    by (Some site) at = absurd (new.is_new.was_none (was_there site at))
 
 -- Links in which sites were set loose follow those before.
 pub follows_loosened : {old now : Wiring} → Loosens old now → LinksFollow old now
@@ -139,6 +97,43 @@ follows_loosened {old} {now} l = record {
   was_out = λ i out. subst (λ (t : List Bool). has t i ≡ false) l.relinked out;
   rows = λ i out. ap (λ (x : Edges). get_or x.rows i []) l.edges;
   loose = λ i is_in. inl (l.loose i is_in);
+}
+
+-- What was in the table is in the one with a site more.
+pub still_with : {table later : List Bool} {m : ℕ} → IsWith table later m → (i : ℕ) → has table i ≡ true → has later i ≡ true
+still_with {table} {later} {m} more i was = elim (cases_eq i m) [
+  | inl is ↦ subst (λ n. has later n ≡ true) (sym is) more.there
+  | inr other ↦ more.others i other ∙ was
+]
+
+-- Two tables that have the same have it once both have the site more.
+pub same_with : {a b c d : List Bool} {m : ℕ} → IsWith a c m → IsWith b d m → IsSameTable a b → IsSameTable c d
+same_with {a} {b} {c} {d} {m} first second same i = elim (cases_eq i m) [
+  | inl is ↦ subst (λ n. has d n ≡ has c n) (sym is) (second.there ∙ sym first.there)
+  | inr other ↦ second.others i other ∙ same i ∙ sym (first.others i other)
+]
+
+-- What is in the one with a site more was in the other, or is that site.
+pub there_or_it : {table later : List Bool} {m : ℕ} → IsWith table later m → (i : ℕ) → has later i ≡ true
+    → (has table i ≡ true) ⊎ (i ≡ m)
+there_or_it {table} {later} {m} more i there = elim (cases_eq i m) [
+  | inl is ↦ inr is
+  | inr other ↦ inl (sym (more.others i other) ∙ there)
+]
+
+-- What sets one site more dirty and loose.
+pub loosens_one : {old now : Wiring} {m : ℕ} → IsWith old.dirty now.dirty m → IsWith old.loose now.loose m → now.edges ≡ old.edges
+    → now.relinked ≡ old.relinked → now.sites ≡ old.sites → Loosens old now
+loosens_one {old} {now} {m} dirty loose edges relinked sites = record {
+  dirty = still_with dirty;
+  loose = still_with loose;
+  only = λ i is_in. elim (there_or_it loose i is_in) [
+    | inl was ↦ inl was
+    | inr is ↦ inr (subst (λ k. has now.dirty k ≡ true) (sym is) dirty.there)
+  ];
+  edges = edges;
+  relinked = relinked;
+  sites = sites;
 }
 
 -- What loosens nothing, and one after another.
@@ -180,17 +175,16 @@ module _ (unit : Unit) (s t : RunState) (told : List ℕ) (sound : IsSoundRun un
     (tells : TellsPersons unit s t told) (seats : t.seats ≡ SEATS) (old roomy touched now : Wiring)
     (rows : (i : ℕ) → HasSameRow old.edges roomy.edges i) (same_dirty : IsSameTable old.dirty roomy.dirty)
     (same_loose : IsSameTable old.loose roomy.loose) (is_told : IsTold told roomy touched) (loosened : Loosens touched now)
-    (dirty : AreNewcomers unit now.dirty (length (rules_of unit)) (length s.persons) (length t.persons))
-    (loose : AreNewcomers unit now.loose (length (rules_of unit)) (length s.persons) (length t.persons)) where
+    (dirty : AreNewcomers unit now.dirty (length s.persons) (length t.persons))
+    (loose : AreNewcomers unit now.loose (length s.persons) (length t.persons)) where
   linked : (k i : ℕ) → IsLinked old.edges k i → IsLinked roomy.edges k i
   linked k i link = subst (λ (row : List ℕ). Contains row k) (sym (rows i)) link
 
-  among : (table : List Bool) → AreNewcomers unit table (length (rules_of unit)) (length s.persons) (length t.persons) → (i : ℕ)
+  among : (table : List Bool) → AreNewcomers unit table (length s.persons) (length t.persons) → (i : ℕ)
       → (run_system unit).is_site s i ≡ false → (run_system unit).is_site t i ≡ true → has table i ≡ true
   among table are i out there =
       let new = new_site unit s t told sound sound_after tells seats i out there in
-      let one = new.newcomer in
-      subst (λ n. has table n ≡ true) one.number (are one.rule one.place new.has_rule one.personal one.is_from one.is_below)
+      subst (λ n. has table n ≡ true) new.number (are new.site new.is_new)
 
   all_touched : Touched (run_system unit) s t told old now
   all_touched = record {
@@ -219,27 +213,3 @@ module _ (unit : Unit) (s t : RunState) (told : List ℕ) (sound : IsSoundRun un
         (changes_told unit s t told sound sound_after tells) all_touched;
     covers = covers;
   }
-
--- ---- tables
-
--- What was in the table is in the one with a site more.
-pub still_with : {table later : List Bool} {m : ℕ} → IsWith table later m → (i : ℕ) → has table i ≡ true → has later i ≡ true
-still_with {table} {later} {m} more i was = elim (cases_eq i m) [
-  | inl is ↦ subst (λ n. has later n ≡ true) (sym is) more.there
-  | inr other ↦ more.others i other ∙ was
-]
-
--- Two tables that have the same have it once both have the site more.
-pub same_with : {a b c d : List Bool} {m : ℕ} → IsWith a c m → IsWith b d m → IsSameTable a b → IsSameTable c d
-same_with {a} {b} {c} {d} {m} first second same i = elim (cases_eq i m) [
-  | inl is ↦ subst (λ n. has d n ≡ has c n) (sym is) (second.there ∙ sym first.there)
-  | inr other ↦ second.others i other ∙ same i ∙ sym (first.others i other)
-]
-
--- What is in the one with a site more was in the other, or is that site.
-pub there_or_it : {table later : List Bool} {m : ℕ} → IsWith table later m → (i : ℕ) → has later i ≡ true
-    → (has table i ≡ true) ⊎ (i ≡ m)
-there_or_it {table} {later} {m} more i there = elim (cases_eq i m) [
-  | inl is ↦ inr is
-  | inr other ↦ inl (sym (more.others i other) ∙ there)
-]

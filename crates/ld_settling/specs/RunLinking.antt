@@ -1,12 +1,13 @@
 -- The links of a run's sites.
-use Rattle.std.specs.Prelude.{◌≡◌, ℕ, ◌+◌, ◌*◌, ◌<◌, ◌≤◌, ◌⊎◌, Bool, true, false, List, [], get_or}
+use Rattle.std.specs.Prelude.{◌≡◌, ℕ, ◌≤◌, ◌⊎◌, Bool, true, false, List, [], get_or, Contains}
 use Rattle.ld_graph.specs.Table.{has}
 use Rattle.ld_cascade.specs.Rooms.{HasRoom, HasRoomOutside}
 use Rattle.ld_cascade.specs.System.{fires}
 use Rattle.ld_cascade.specs.Tidy.{Bound, Covers, Tidy}
 use Rattle.ld_cascade.specs.Wiring.{EdgesAre, IsEmpty, LinksFollow, Wiring}
 use Rattle.ld_model.specs.declared.unit.Unit.{Unit}
-use Rattle.ld_expr.specs.Owners.{is_person_rule}
+use Rattle.ld_names.specs.Rules.{Site, sites_of}
+use Rattle.ld_names.specs.SiteNumbers.{site_number}
 use Rattle.ld_firing.specs.RunSystem.{run_system}
 use Rattle.ld_roles.specs.declared.limit.TheConstants.{SEATS}
 use Rattle.ld_state.specs.RunState.{RunState}
@@ -56,32 +57,26 @@ pub record RunLinksFollow (old now : RunWiring) : Type 0 where
   pub links : LinksFollow old.wiring now.wiring
   pub room : old.room ≤ now.room
 
--- So many places among the seats are enough for the run and for so many persons, and are seats.
-pub record IsPlaceCount (count places : ℕ) : Type 0 where
-  pub run : 0 < places
-  pub persons : count ≤ places
-  pub seats : count ≤ SEATS → places ≤ SEATS
+-- The site is one of a run with more persons, and none of the run with fewer.
+pub record IsNewSite (unit : Unit) (from below : ℕ) (site : Site) : Type 0 where
+  pub there : Contains (sites_of unit below) site
+  pub was_none : Contains (sites_of unit from) site → ⊥
 
--- Of so many rules the numbers of the sites at so many places are dirty.
-abbrev pub AreDirty : List Bool → ℕ → ℕ → Type 0
-AreDirty dirty rules places =
-    (rule place : ℕ) → rule < rules → place < places → has dirty (rule * SEATS + place) ≡ true
+-- The numbers of all sites of a run with this many persons are dirty.
+abbrev pub AreDirty : List Bool → Unit → ℕ → Type 0
+AreDirty dirty unit persons =
+    (site : Site) → Contains (sites_of unit persons) site → has dirty (site_number unit SEATS site) ≡ true
 
--- Of the rules for persons among so many, the numbers of the sites of the persons from one on and below another are
--- in the table.
-abbrev pub AreNewcomers : Unit → List Bool → ℕ → ℕ → ℕ → Type 0
-AreNewcomers unit table rules from below =
-    (rule place : ℕ) → rule < rules → is_person_rule unit rule ≡ true → from ≤ place → place < below
-    → has table (rule * SEATS + place) ≡ true
+-- The numbers of the sites that came with the persons from one on and below another are in the table.
+abbrev pub AreNewcomers : Unit → List Bool → ℕ → ℕ → Type 0
+AreNewcomers unit table from below =
+    (site : Site) → IsNewSite unit from below site → has table (site_number unit SEATS site) ≡ true
 
--- The number is that of the site of a rule for persons, of one of the persons from one on and below another.
+-- The number is that of a site that came with the persons from one on and below another.
 pub record IsNewcomer (unit : Unit) (from below i : ℕ) : Type 0 where
-  pub rule : ℕ
-  pub place : ℕ
-  pub number : rule * SEATS + place ≡ i
-  pub personal : is_person_rule unit rule ≡ true
-  pub is_from : from ≤ place
-  pub is_below : place < below
+  pub site : Site
+  pub is_new : IsNewSite unit from below site
+  pub number : site_number unit SEATS site ≡ i
 
 -- All that was dirty or loose is so, and what became loose is dirty; the edges, the table of the sites that were
 -- relinked, and the range are the same.

@@ -1,5 +1,5 @@
-//! Which cells the test of a site reads: their slots, each once. What a site reads follows from what
-//! it reads: as long as nothing changes there, neither its test nor its reads do.
+//! Which cells the test of a site reads: their slots, each once. What a site reads follows from
+//! what it reads: as long as nothing changes there, neither its test nor its reads do.
 ghost use Rattle.std.specs.Prelude.{◌≡◌, ◌+◌, ◌≤◌, ◌<◌, [], OnErr, OnOk, length};
 ghost use Rattle.ld_rules.specs.SiteLooks.{looks_by, open_looks, rule_looks, site_looks};
 ghost use Rattle.ld_rules.specs.SiteView.{site_of};
@@ -19,21 +19,18 @@ mod test_reads;
 use crate::reads::method_rules::read_for_run;
 use crate::reads::person_rules::read_for_person;
 use crate::reads::reader::Reader;
-use ld_base::memory::NoMemory;
-use ld_base::steps::Steps;
-use ld_expr::cells::says_yes;
-use ld_graph::slots::SlotList;
-use ld_model::cell::{CellName, Owner};
-use ld_names::rule::Rule;
-use ld_rules::judge::says_for_good;
-use ld_rules::prepared::PreparedUnit;
-use ld_rules::site::Site;
-use ld_state::state::State;
+use ld_base::{NoMemory, Steps};
+use ld_expr::says_yes;
+use ld_graph::SlotList;
+use ld_model::{CellName, Owner};
+use ld_names::Rule;
+use ld_rules::{PreparedUnit, Site, says_for_good};
+use ld_state::State;
 use std::alloc::Global;
 use std::sync::ledger::Ledger;
 
 /// Empties the list, and puts the slots that the site reads into it, each once. Where the list has
-/// no room for them it gets more; the only error is want of memory, which does not come where the
+/// no room for them it gets more; the only error is out of memory, which does not come where the
 /// room was enough. It takes at most a step for each cell at which the site's rule asks to look.
 /// (docs/MEANING.md, "Rules and sites")
 pub fn site_reads<L: Ledger>(

@@ -11,13 +11,12 @@ ghost use Rattle.ld_settling.specs.RunLinking.{AreCleanLinks, AreLinksOf, RunLin
 
 use crate::links::RunLinks;
 use crate::run_sites::RunSites;
-use ld_base::steps::Steps;
-use ld_cascade::links::Links;
+use ld_base::Steps;
 use ld_cascade::restore::restore as restore_cascade;
 use ld_cascade::settle::settle as cascade;
-use ld_cascade::settled::{Settled, Stop};
-use ld_rules::prepared::PreparedUnit;
-use ld_state::state::State;
+use ld_cascade::{Links, Settled, Stop};
+use ld_rules::PreparedUnit;
+use ld_state::State;
 use std::alloc::Global;
 use std::sync::ledger::Ledger;
 

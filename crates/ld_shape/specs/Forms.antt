@@ -15,7 +15,7 @@ use Rattle.serde_json.specs.Data.{Data}
 abbrev pub is_between : ℕ → ℕ → ℕ → Bool
 is_between least most number = nat_le least number && nat_le number most
 
--- The text has at least and at most so many bytes.
+-- The text has at least and at most this many bytes.
 abbrev pub has_length : ℕ → ℕ → List ℕ → Bool
 has_length least most text = is_between least most (length text)
 
@@ -23,7 +23,7 @@ has_length least most text = is_between least most (length text)
 abbrev pub is_visible_ascii : ℕ → Bool
 is_visible_ascii b = nat_le 33 b && nat_le b 126
 
--- The text has 1 to so many bytes, all of them visible characters of ASCII.
+-- The text has 1 to this many bytes, all of them visible characters of ASCII.
 abbrev pub is_address_of : ℕ → List ℕ → Bool
 is_address_of most text = has_length 1 most text && list_all is_visible_ascii text
 
@@ -41,16 +41,16 @@ true_of tree = as_bool tree >>= λ flag. provided flag tt
 abbrev pub true_flag : Shape (Unit {0})
 true_flag = plain true_of
 
--- A text of at least and at most so many bytes.
+-- A text of at least and at most this many bytes.
 unfoldable pub text_within : ℕ → ℕ → Data → Option (List ℕ)
 text_within least most tree = tested (has_length least most) (as_str tree)
 
--- A text that is read so has at least and at most so many bytes.
+-- A text that is read so has at least and at most this many bytes.
 pub text_formed : (least most : ℕ) (tree : Data) → Keeps (has_length least most) (text_within least most tree)
 unfolding text_within
 text_formed least most tree = tested_keeps (has_length least most) (as_str tree)
 
--- A text of at least and at most so many bytes, as a shape.
+-- A text of at least and at most this many bytes, as a shape.
 abbrev pub text : ℕ → ℕ → Shape (List ℕ)
 text least most = leaf (text_within least most) (has_length least most) (text_formed least most)
 
@@ -71,16 +71,16 @@ identifier_formed tree = tested_keeps has_identifier_form (as_str tree)
 abbrev pub identifier : Shape (List ℕ)
 identifier = leaf identifier_of has_identifier_form identifier_formed
 
--- 1 to so many visible characters of ASCII.
+-- 1 to this many visible characters of ASCII.
 unfoldable pub address_of : ℕ → Data → Option (List ℕ)
 address_of most tree = tested (is_address_of most) (as_str tree)
 
--- What is read so is 1 to so many visible characters of ASCII.
+-- What is read so is 1 to this many visible characters of ASCII.
 pub address_formed : (most : ℕ) (tree : Data) → Keeps (is_address_of most) (address_of most tree)
 unfolding address_of
 address_formed most tree = tested_keeps (is_address_of most) (as_str tree)
 
--- 1 to so many visible characters of ASCII, as a shape.
+-- 1 to this many visible characters of ASCII, as a shape.
 abbrev pub address : ℕ → Shape (List ℕ)
 address most = leaf (address_of most) (is_address_of most) (address_formed most)
 

@@ -75,11 +75,11 @@ list_where fits shape = record {
       (each_formed shape (item_nodes node));
 }
 
--- The list of an array of so many elements or more.
+-- The list of an array of this many elements or more.
 abbrev pub list_of : {A : Type 0} → ℕ → Shape A → Shape (List A)
 list_of least = list_where (nat_le least)
 
--- The list of an array of at least and at most so many elements.
+-- The list of an array of at least and at most this many elements.
 abbrev pub list_between : {A : Type 0} → ℕ → ℕ → Shape A → Shape (List A)
 list_between least most = list_where (is_between least most)
 

@@ -150,7 +150,7 @@ pub record Gives {A : Type 0} (reading : Reading A) (x : A) : Type 0 where
   pub value : reading.value ≡ Some x
   pub faultless : reading.faults ≡ []
 
--- The value that is found, or the first fault, or want of memory.
+-- The value that is found, or the first fault, or that memory ran out.
 abbrev pub GivesOrSays : {A : Type 0} → Reading A → Result A ReadFault → Type 0
 GivesOrSays reading (Ok x) = Gives reading x
 GivesOrSays reading (Err error) = SaysFirst reading.faults error

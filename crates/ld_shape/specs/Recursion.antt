@@ -21,7 +21,7 @@ shape_of {form = form} given = record { reading = given.reading; has_form = form
 abbrev pub KeepsForm : {A : Type 0} (form : A → Bool) → (Formed form → Shape A) → Type 0
 KeepsForm {A} form step = (given : Formed form) (x : A) → (step given).has_form x ≡ true → form x ≡ true
 
--- The step, done so many times. (What is read at no step at all is never come to.)
+-- The step, done this many times. (What is read at no step at all is never come to.)
 abbrev pub rounds : {A : Type 0} {form : A → Bool} (step : Formed form → Shape A) → KeepsForm form step → ℕ
     → Formed form
 rounds step keeps zero = record { reading = λ node. faulty (node_fault node WrongShape); formed = λ _. tt }

@@ -4,11 +4,8 @@ ghost use Rattle.ld_shape.specs.Documents.{absent_file, required_reading, docume
 ghost use Rattle.ld_shape.specs.Reading.{GivesOrSays};
 
 use crate::reads::Reads;
-use ld_base::text::Text;
-use ld_json::code::Code;
-use ld_json::docs::Docs;
-use ld_json::fault::{Fault, ReadFault};
-use ld_json::file::FileNo;
+use ld_base::Text;
+use ld_json::{Code, Docs, Fault, FileNo, ReadFault};
 use std::alloc::Global;
 
 /// The document of this file, which has to be there.

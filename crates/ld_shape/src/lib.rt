@@ -19,3 +19,10 @@ pub mod members;
 pub mod reads;
 pub mod texts;
 pub mod values;
+
+pub use documents::{read_document_or, read_required};
+pub use lists::{ListBetween, ListOf, PairOf, count_from, count_two, list_at};
+pub use members::{absent_at, default_at, known_at, known_or, needed_at, optional_at};
+pub use reads::Reads;
+pub use texts::{Href, Identifier, Seconds, Text, Title, Uri};
+pub use values::{Flag, Number, True};

@@ -11,10 +11,8 @@ ghost use Rattle.ld_shape.specs.Reading.{GivesOrSays};
 
 use crate::members::default_at;
 use crate::reads::Reads;
-use ld_base::items::Items;
-use ld_json::code::Code;
-use ld_json::fault::ReadFault;
-use ld_json::node::Node;
+use ld_base::Items;
+use ld_json::{Code, Node, ReadFault};
 use std::alloc::Global;
 use std::marker::PhantomData;
 
@@ -88,7 +86,7 @@ pub fn list_at<R: Reads>(
     default_at::<ListOf<R, 0>>(alloc, node, name, Items::new(alloc))
 }
 
-/// The values of the elements of an array, which are so many.
+/// The values of the elements of an array, which are this many.
 fn read_each<R: Reads>(
     alloc: Global,
     node: &Node<'_, '_>,
@@ -106,7 +104,7 @@ fn read_each<R: Reads>(
     Ok(Items::from_vec(values))
 }
 
-/// The number of elements of an array that has at least so many. `wrong-shape` exactly where the
+/// The number of elements of an array that has at least this many. `wrong-shape` exactly where the
 /// node is no array or has fewer.
 pub fn count_from(alloc: Global, node: &Node<'_, '_>, least: usize) -> Result<usize, ReadFault>
     ensures array { OnOk result (IsArray node.now) }
@@ -121,8 +119,8 @@ pub fn count_from(alloc: Global, node: &Node<'_, '_>, least: usize) -> Result<us
     Ok(count)
 }
 
-/// The number of elements of an array that has at least and at most so many. `wrong-shape` exactly
-/// where the node is no array or has fewer or more.
+/// The number of elements of an array that has at least and at most this many. `wrong-shape`
+/// exactly where the node is no array or has fewer or more.
 pub fn count_between(
     alloc: Global,
     node: &Node<'_, '_>,

@@ -7,10 +7,8 @@ ghost use Rattle.ld_shape.specs.Objects.{needed_in, optional_in, read_or, absent
 ghost use Rattle.ld_shape.specs.Reading.{GivesOrSays};
 
 use crate::reads::Reads;
-use ld_base::memory::NoMemory;
-use ld_json::code::Code;
-use ld_json::fault::ReadFault;
-use ld_json::node::Node;
+use ld_base::NoMemory;
+use ld_json::{Code, Node, ReadFault};
 use std::alloc::Global;
 
 /// The member of this name, which has to be there.

@@ -2,8 +2,7 @@
 ghost use Rattle.ld_shape.specs.Reading.{GivesOrSays};
 ghost use Rattle.ld_shape.specs.Shapes.{Shape};
 
-use ld_json::fault::ReadFault;
-use ld_json::node::Node;
+use ld_json::{Node, ReadFault};
 use std::alloc::Global;
 
 /// A way to read nodes. The type that implements it is a name alone, and has no values of use.

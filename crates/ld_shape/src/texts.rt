@@ -9,12 +9,9 @@ ghost use Rattle.ld_shape.specs.Spans.{seconds};
 ghost use Rattle.ld_shape.specs.Reading.{GivesOrSays};
 
 use crate::reads::Reads;
-use ld_base::id::Id;
-use ld_base::plain_text::PlainText;
-use ld_json::code::Code;
-use ld_json::fault::ReadFault;
-use ld_json::node::Node;
-use ld_value::duration::read_duration;
+use ld_base::{Id, PlainText};
+use ld_json::{Code, Node, ReadFault};
+use ld_value::read_duration;
 use std::alloc::Global;
 
 /// An identifier or a reference.

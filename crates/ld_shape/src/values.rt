@@ -6,9 +6,7 @@ ghost use Rattle.ld_shape.specs.Reading.{GivesOrSays};
 ghost use Rattle.ld_shape.specs.Shapes.{left_out};
 
 use crate::reads::Reads;
-use ld_json::code::Code;
-use ld_json::fault::ReadFault;
-use ld_json::node::Node;
+use ld_json::{Code, Node, ReadFault};
 use std::alloc::Global;
 use std::marker::PhantomData;
 

@@ -112,7 +112,7 @@ pub one_stored : (unit : Unit) (store : GlobalValues) (person : Option (List ℕ
 one_stored unit store person n values value before is =
     ap (λ front. front ++ value ∷ []) before ∙ sym (take_more (stored_for store person unit.properties) n value is)
 
--- What the store holds of the first so many properties fits.
+-- What the store holds of the first `count` properties fits.
 abbrev pub FitsBefore : Unit → GlobalValues → Option (List ℕ) → ℕ → Type 0
 FitsBefore unit store person count = (n : ℕ) → n < count → FitsStored unit store person n
 

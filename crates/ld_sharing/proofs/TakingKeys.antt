@@ -24,6 +24,7 @@ use Rattle.ld_rules.specs.PreparedView.{uri_at}
 use Rattle.ld_state.specs.StateView.{IsStateOf, StateView, has_cell}
 use Rattle.ld_state.proofs.Elements.{some_same}
 use Rattle.ld_firing.proofs.CellsThere.{value_there}
+use Rattle.ld_firing.proofs.Named.{held_as}
 use Rattle.ld_firing.proofs.Sites.{IsOwner, a_person, the_run}
 use Rattle.ld_firing.proofs.SlotsThere.{cell_there, slot_there}
 use Rattle.ld_sharing.specs.Fitting.{fits_cell, fits_if_any}
@@ -172,7 +173,7 @@ module _ (unit : Unit) (store : Store) (n : ℕ) (uri : List ℕ) (owner : Owner
   value_cell s own among =
       cell_there unit s own (property_cell n owner)
       (slot_there unit (length s.rows) (property_cell n owner)
-      (value_there unit (length s.rows) n shared.property owner shared.at (is_person owner) shared.personal_is
+      (value_there unit (length s.rows) n shared.property owner shared.at (is_person owner) (held_as shared.property.kind ∙ shared.personal_is)
       (owned (length s.rows) owner among)))
     where
       owned : (persons : ℕ) (one : Owner) → IsOwnerAmong persons one → IsOwner persons (is_person one) one

@@ -38,7 +38,7 @@ abbrev pub is_person : Owner → Bool
 is_person Run = false
 is_person (Person p) = true
 
--- The owner is the run, or one of so many persons.
+-- The owner is the run, or one of this many persons.
 abbrev pub IsOwnerAmong : ℕ → Owner → Type 0
 IsOwnerAmong persons Run = ⊤
 IsOwnerAmong persons (Person p) = p.0 < persons

@@ -26,17 +26,17 @@ pub record HasTaken (unit : Unit) (store : GlobalValues) (test : CellName → Bo
       (cell : CellName) (value : Option Datum) → test cell ≡ true
       → store_says unit store old.persons cell ≡ Some value → fits_cell unit cell value ≡ true
 
--- The cell is one of the property of this number, or of one of the first so many properties.
+-- The cell is one of the property of this number.
 abbrev pub is_value_of : ℕ → CellName → Bool
 is_value_of n (Prop p owner) = nat_eq p.0 n
 is_value_of n _ = false
 
--- The cell is one of a property among the first so many.
+-- The cell is one of a property among the first n.
 abbrev pub is_value_before : ℕ → CellName → Bool
 is_value_before n (Prop p owner) = nat_lt p.0 n
 is_value_before n _ = false
 
--- The owner is one of the first so many persons.
+-- The owner is one of the first k persons.
 abbrev pub is_person_before : ℕ → Owner → Bool
 is_person_before k Run = false
 is_person_before k (Person p) = nat_lt p.0 k

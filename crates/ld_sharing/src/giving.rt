@@ -14,18 +14,13 @@ ghost use Rattle.ld_sharing.specs.Readable.{IsReadable, IsShared};
 ghost use Rattle.ld_sharing.specs.StoreView.{Serves, values_of};
 ghost use Rattle.ld_sharing.specs.Writes.{AreWritesOf};
 
-use crate::reading::{are_one, copy_of, is_personal, read_key};
-use ld_base::id::Id;
-use ld_base::memory::NoMemory;
-use ld_base::numbers::{PersonNo, PropNo, number};
-use ld_base::steps::Steps;
-use ld_base::text::Text;
-use ld_globals::globals::Globals;
-use ld_model::cell::{CellName, Owner};
-use ld_model::view::View;
-use ld_rules::prepared::PreparedUnit;
-use ld_state::state::State;
-use ld_value::value::Value;
+use crate::reading::{are_one, copy_of, read_key};
+use ld_base::{Id, NoMemory, PersonNo, PropNo, Steps, Text, number};
+use ld_globals::Globals;
+use ld_model::{CellName, Owner, View};
+use ld_rules::PreparedUnit;
+use ld_state::State;
+use ld_value::Value;
 use std::alloc::Global;
 use std::sync::ledger::Ledger;
 
@@ -117,7 +112,7 @@ fn push_property<'u, L: Ledger>(
         return Ok(());
     };
     let kind = unit.unit().properties.as_slice()[property.0 as usize].kind;
-    let personal = is_personal(kind);
+    let personal = kind.is_personal();
     push_shared(
         alloc, unit, property, personal, uri, state, globals, writes, steps,
     )

@@ -6,3 +6,7 @@ mod reading;
 pub mod stored;
 mod taken_value;
 pub mod taking;
+
+pub use giving::{Write, give_back, prepare};
+pub use stored::stored_values;
+pub use taking::take_in;

@@ -5,16 +5,11 @@ ghost use Rattle.ld_cells.specs.Stored.{held};
 ghost use Rattle.ld_globals.specs.Answers.{key_given, meaning};
 ghost use Rattle.ld_globals.specs.Store.{IsWritable, value_at};
 ghost use Rattle.ld_value.specs.Datum.{same_datum};
-ghost use Rattle.ld_model.specs.Properties.{is_personal};
 ghost use Rattle.ld_sharing.specs.Readable.{IsReadable};
 
-use ld_base::id::Id;
-use ld_base::memory::NoMemory;
-use ld_base::steps::Steps;
-use ld_base::text::Text;
-use ld_globals::globals::Globals;
-use ld_model::property::PropertyKind;
-use ld_value::value::{Value, same_value};
+use ld_base::{Id, NoMemory, Steps, Text};
+use ld_globals::Globals;
+use ld_value::{Value, same_value};
 use std::alloc::Global;
 use std::sync::ledger::Ledger;
 
@@ -54,15 +49,5 @@ pub(crate) fn are_one(first: Option<&Value>, second: Option<&Value>) -> bool
         (Some(a), Some(b)) => same_value(a, b),
         (None, None) => true,
         _ => false,
-    }
-}
-
-/// Whether each person has a value of a property of the kind.
-pub(crate) fn is_personal(kind: PropertyKind) -> bool
-    ensures { result ≡ is_personal kind }
-{
-    match kind {
-        PropertyKind::LocPers | PropertyKind::GlobPers => true,
-        PropertyKind::Loc | PropertyKind::LocRole | PropertyKind::Glob => false,
     }
 }

@@ -8,21 +8,17 @@ ghost use Rattle.ld_sharing.specs.Fitting.{BeginsFitting};
 ghost use Rattle.ld_sharing.specs.Readable.{FitsStored, IsShared, IsStoredOf};
 ghost use Rattle.ld_sharing.specs.StoreView.{Serves, values_of};
 
-use crate::reading::{copy_of, is_personal, read_key};
-use ld_base::id::Id;
-use ld_base::memory::NoMemory;
-use ld_base::numbers::{PropNo, number};
-use ld_base::steps::Steps;
-use ld_base::text::Text;
-use ld_globals::globals::Globals;
-use ld_model::property::PropertyKind;
-use ld_rules::prepared::PreparedUnit;
-use ld_value::value::Value;
+use crate::reading::{copy_of, read_key};
+use ld_base::{Id, NoMemory, PropNo, Steps, Text, number};
+use ld_globals::Globals;
+use ld_model::PropertyKind;
+use ld_rules::PreparedUnit;
+use ld_value::Value;
 use std::alloc::Global;
 use std::sync::ledger::Ledger;
 
 /// What the store holds of each global property: where each person has a value of it, for the
-/// person of this name. The only error is want of memory.
+/// person of this name. The only error is out of memory.
 pub fn stored_values<L: Ledger>(
     alloc: Global,
     unit: &PreparedUnit,
@@ -99,7 +95,7 @@ fn is_for(kind: PropertyKind, person: Option<&Id>) -> bool
     ensures { result ≡ same_truth (is_personal kind) (is_some (option_copied person.entry)) }
 {
     match person {
-        Some(_) => is_personal(kind),
-        None => !is_personal(kind),
+        Some(_) => kind.is_personal(),
+        None => !kind.is_personal(),
     }
 }

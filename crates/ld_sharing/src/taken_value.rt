@@ -13,17 +13,12 @@ ghost use Rattle.ld_sharing.specs.StoreView.{values_of};
 ghost use Rattle.ld_sharing.specs.Taken.{HasTaken};
 
 use crate::reading::{are_one, copy_of, read_key};
-use ld_base::id::Id;
-use ld_base::memory::NoMemory;
-use ld_base::numbers::PropNo;
-use ld_base::steps::Steps;
-use ld_base::text::Text;
-use ld_globals::globals::Globals;
-use ld_model::cell::{CellName, Owner};
-use ld_model::view::View;
-use ld_rules::prepared::PreparedUnit;
-use ld_state::state::State;
-use ld_value::value::Value;
+use ld_base::{Id, NoMemory, PropNo, Steps, Text};
+use ld_globals::Globals;
+use ld_model::{CellName, Owner, View};
+use ld_rules::PreparedUnit;
+use ld_state::State;
+use ld_value::Value;
 use std::alloc::Global;
 use std::sync::ledger::Ledger;
 

@@ -9,23 +9,18 @@ ghost use Rattle.ld_sharing.specs.Readable.{IsShared};
 ghost use Rattle.ld_sharing.specs.StoreView.{Serves, values_of};
 ghost use Rattle.ld_sharing.specs.Taken.{HasTaken, is_value_of};
 
-use crate::reading::is_personal;
 use crate::taken_value::take_value;
-use ld_base::memory::NoMemory;
-use ld_base::numbers::{PersonNo, PropNo, number};
-use ld_base::steps::Steps;
-use ld_base::text::Text;
-use ld_globals::globals::Globals;
-use ld_model::cell::Owner;
-use ld_model::view::View;
-use ld_rules::prepared::PreparedUnit;
-use ld_state::state::State;
+use ld_base::{NoMemory, PersonNo, PropNo, Steps, Text, number};
+use ld_globals::Globals;
+use ld_model::{Owner, View};
+use ld_rules::PreparedUnit;
+use ld_state::State;
 use std::alloc::Global;
 use std::sync::ledger::Ledger;
 
 /// Gives each cell of a global property, of the run and of each person, the store's value. The
-/// slots of the cells that get another value are told. After want of memory the state is another
-/// one with the same mark. (docs/MEANING.md, "A command")
+/// slots of the cells that get another value are told. After running out of memory the state is
+/// another one with the same savepoint. (docs/MEANING.md, "A command")
 pub fn take_in<L: Ledger>(
     alloc: Global,
     unit: &PreparedUnit,
@@ -82,7 +77,7 @@ fn take_property<L: Ledger>(
         return Ok(());
     };
     let kind = unit.unit().properties.as_slice()[property.0 as usize].kind;
-    if is_personal(kind) {
+    if kind.is_personal() {
         return take_for_persons(alloc, unit, property, uri, state, globals, changed, steps);
     }
     take_value(

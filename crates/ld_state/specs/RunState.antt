@@ -57,7 +57,7 @@ seen_in unit s = record { persons = length s.persons; value = cell_of unit s }
 abbrev pub with_cell : RunState → CellName → Option Datum → RunState
 with_cell s name value = record s { cells = put_cell s.cells name value }
 
--- The state of a run with so many seats that is made at this moment.
+-- The state of a run with this many seats that is made at this moment.
 abbrev pub made_at : ℕ → Unit → GlobalValues → ℤ → RunState
 made_at seats unit store moment = record {
   seats = seats;

@@ -17,7 +17,7 @@ use Rattle.ld_roles.specs.declared.limit.TheConstants.{SEATS}
 use Rattle.ld_state.specs.Layout.{Layout, layout_of, cell_for, cells_in, slot_in}
 use Rattle.ld_state.specs.RunState.{RunState, NoticeState}
 
--- What `undo` gives back: persons, notices and cells at the mark, and the spare there.
+-- What `undo` gives back: persons, notices and cells at the savepoint, and the spare there.
 pub record Earlier : Type 0 where
   pub rows : List PersonRow
   pub outbox : List NoticeState
@@ -25,7 +25,7 @@ pub record Earlier : Type 0 where
   pub spare : ℕ
 
 -- In which order the cells stand; the bounds of the roles; the persons in the order of enrolment; the
--- notices from the oldest on; the cells by slot; what is kept at the mark, if there is one; and how many
+-- notices from the oldest on; the cells by slot; what is kept at the savepoint, if there is one; and how many
 -- writes are sure not to be refused.
 pub record StateView : Type 0 where
   pub layout : Layout
@@ -66,13 +66,13 @@ run_with layout rows outbox cells = record {
 abbrev pub run_of : StateView → RunState
 run_of s = run_with s.layout s.rows s.outbox s.cells
 
--- The run at the mark.
+-- The run at the savepoint.
 abbrev pub run_before : StateView → Option RunState
 run_before s = option_map (λ kept. run_with s.layout kept.rows kept.outbox kept.cells) s.kept
 
--- The same state with a mark, at which all is kept.
-abbrev pub marked : StateView → StateView
-marked s = record s {
+-- The same state with a savepoint, at which all is kept.
+abbrev pub with_savepoint : StateView → StateView
+with_savepoint s = record s {
   kept = Some (record { rows = s.rows; outbox = s.outbox; cells = s.cells; spare = s.spare });
 }
 
@@ -86,7 +86,14 @@ has_cell s name = is_some (slot_in s.layout (length s.rows) name)
 abbrev pub seen_in_slot : StateView → CellName → ℕ → Option Datum
 seen_in_slot s (Member r p) slot = Some (truth_datum (is_member_among s.roles (persons_of s.rows) r.0 p.0))
 seen_in_slot s Roster slot = Some (number_datum (pos (length s.rows)))
-seen_in_slot s _ slot = held_at s.cells slot
+seen_in_slot s (Prop _ _) slot = held_at s.cells slot
+seen_in_slot s (Vis _ _) slot = held_at s.cells slot
+seen_in_slot s (Chosen _ _) slot = held_at s.cells slot
+seen_in_slot s (Opened _ _) slot = held_at s.cells slot
+seen_in_slot s (ActOpened _) slot = held_at s.cells slot
+seen_in_slot s Started slot = held_at s.cells slot
+seen_in_slot s (Mark _ _) slot = held_at s.cells slot
+seen_in_slot s Now slot = held_at s.cells slot
 
 -- What is seen of the state. A cell that it has not has no value.
 abbrev pub seen_of : StateView → Seen
@@ -115,9 +122,9 @@ pub record IsStateOf (unit : Unit) (s : StateView) : Type 0 where
   pub layout : s.layout ≡ layout_of unit
   pub roles : s.roles ≡ role_bounds unit
 
--- There is no mark, or no person has joined since, and no role was given or taken.
-abbrev pub HasMarkedPersons : StateView → Type 0
-HasMarkedPersons s = IfSome s.kept (λ kept. kept.rows ≡ s.rows)
+-- There is no savepoint, or no person has joined since, and no role was given or taken.
+abbrev pub HasSavedPersons : StateView → Type 0
+HasSavedPersons s = IfSome s.kept (λ kept. kept.rows ≡ s.rows)
 
 -- There is a value for each cell, and what follows from the persons is kept so.
 pub record IsFollowing (layout : Layout) (roles : List RoleBounds) (rows : List PersonRow) (cells : List (Option Datum)) : Type 0 where
@@ -130,7 +137,7 @@ pub record IsFollowing (layout : Layout) (roles : List RoleBounds) (rows : List 
       (r p slot : ℕ) → slot_in layout (length rows) (member_cell r p) ≡ Some slot
       → held_at cells slot ≡ Some (truth_datum (is_member_among roles (persons_of rows) r p))
 
--- What is kept at the mark of each part.
+-- What is kept at the savepoint of each part.
 abbrev pub kept_by : Option Kept → Option (List PersonRow) → Option ℕ → List NoticeState → Option Earlier
 kept_by cells persons sent outbox = do
   at ← cells
@@ -140,7 +147,7 @@ kept_by cells persons sent outbox = do
 
 -- ---- what is told when persons join, or when they get or lose a role
 
--- The slots of these cells, in a run with so many persons.
+-- The slots of these cells, in a run with this many persons.
 abbrev pub slots_among : Layout → ℕ → List CellName → List ℕ
 slots_among layout persons cells = filter_map (slot_in layout persons) cells
 

@@ -7,12 +7,12 @@ ghost use Rattle.ld_roles.specs.Persons.{holds_role};
 ghost use Rattle.ld_roles.specs.Refusals.{assign_fault, enrol_fault};
 ghost use Rattle.ld_roles.specs.RoleBounds.{role_bounds};
 ghost use Rattle.ld_roles.specs.declared.limit.TheConstants.{SEATS};
-ghost use Rattle.ld_state.specs.Beginnings.{AreOfUnit, stored_for};
+ghost use Rattle.ld_state.specs.Beginnings.{stored_for};
 ghost use Rattle.ld_state.specs.GlobalValues.{GlobalValues};
 ghost use Rattle.ld_state.specs.Layout.{cells_in, layout_of, slot_in};
 ghost use Rattle.ld_state.specs.Notices.{notice_of, notices_of};
 ghost use Rattle.ld_state.specs.RunState.{holding, joined, made_at, with_cell, with_notice};
-ghost use Rattle.ld_state.specs.StateView.{HasMarkedPersons, IsStateOf, has_cell, is_following, marked, run_before, run_of, slots_of_membership, slots_of_newcomer};
+ghost use Rattle.ld_state.specs.StateView.{HasSavedPersons, IsStateOf, has_cell, is_following, with_savepoint, run_before, run_of, slots_of_membership, slots_of_newcomer};
 
 use crate::beginnings::Beginnings;
 use crate::membership::{reserve_memberships, write_memberships};
@@ -20,30 +20,24 @@ use crate::newcomer::{add_newcomer, begin_own, reserve_newcomer};
 use crate::notice::OutNotice;
 use crate::slots::Slots;
 use crate::writing::{begin_cells, write};
-use ld_base::id::Id;
-use ld_base::memory::NoMemory;
-use ld_base::numbers::{PersonNo, RoleNo};
-use ld_base::steps::Steps;
-use ld_cells::cells::Cells;
-use ld_cells::undo_log::UndoLog;
-use ld_model::cell::CellName;
-use ld_model::view::View;
-use ld_roles::role_tree::RoleTree;
-use ld_roles::roster::Roster;
-use ld_value::moment::Moment;
-use ld_value::value::Value;
+use ld_base::{Id, NoMemory, PersonNo, RoleNo, Steps};
+use ld_cells::{Cells, UndoLog};
+use ld_model::{CellName, View};
+use ld_roles::{RoleTree, Roster};
+use ld_value::{Moment, Value};
 use std::alloc::Global;
 use std::marker::Model;
 use std::rc::Rc;
 use std::sync::ledger::Ledger;
 
 /// The state of a run: its cells, its persons with the roles that they hold, and the notices that
-/// it has sent. Under a mark all changes can be taken back. (docs/MEANING.md, "The state of a run")
+/// it has sent. Under a savepoint all changes can be rolled back. (docs/MEANING.md, "The state of a
+/// run")
 #[derive(Drop)]
 pub struct State {
     slots: Rc<Slots>,
     cells: Cells,
-    /// Where there is a mark, how many notices had been sent then.
+    /// Where there is a savepoint, how many notices had been sent then.
     sent: Option<usize>,
     outbox: Vec<OutNotice>,
     roster: Roster,
@@ -63,7 +57,8 @@ impl Model for State {
 
 impl State {
     /// The state of a run of the unit that is made at this moment: without persons, and with no
-    /// mark. `slots` and `roles` are the unit's, and `stored` has what the store holds of each global property.
+    /// savepoint. `slots` and `roles` are the unit's, and `stored` has what the store holds of
+    /// each global property.
     pub fn new(
         alloc: Global,
         slots: Rc<Slots>,
@@ -72,7 +67,6 @@ impl State {
         stored: &[Option<Value>],
         moment: Moment,
     ) -> Result<State, NoMemory>
-        requires unit { AreOfUnit from.now }
         requires slots { slots.value ≡ layout_of from.now.unit.now }
         requires roles { roles.value ≡ role_bounds from.now.unit.now }
         requires stored { (store : GlobalValues)
@@ -82,7 +76,7 @@ impl State {
             → IfOk result (λ state. run_of state
             ≡ made_at SEATS from.now.unit.now store moment.0) }
         ensures unit { IfOk result (IsStateOf from.now.unit.now) }
-        ensures unmarked { IfOk result (λ state. state.kept ≡ None) }
+        ensures no_savepoint { IfOk result (λ state. state.kept ≡ None) }
     {
         let cells = begin_cells(alloc, slots.run_cells(), from, stored, moment)?;
         Ok(State {
@@ -124,8 +118,8 @@ impl State {
     }
 
     /// Gives the cell, which the state has and whose value does not follow from the persons, this
-    /// value or none, and tells its slot where that changed its value. A refusal, for want of
-    /// memory, changes nothing; it cannot come within the spare and the room of `changed`.
+    /// value or none, and tells its slot where that changed its value. A refusal comes where memory
+    /// runs out, and changes nothing; it cannot come within the spare and the room of `changed`.
     pub fn set(
         &mut self,
         cell: CellName,
@@ -158,8 +152,8 @@ impl State {
 
     /// The person joins, last of all, with new cells, and gets the next number. `from` is of the
     /// run's unit, and `stored` has what the store holds of each global property for the person.
-    /// The slots of the new cells and that of `Roster` are told. A refusal, for want of memory,
-    /// changes nothing.
+    /// The slots of the new cells and that of `Roster` are told. A refusal comes where memory runs
+    /// out, and changes nothing.
     pub fn enrol(
         &mut self,
         alloc: Global,
@@ -169,12 +163,11 @@ impl State {
         moment: Moment,
         changed: &mut Vec<u32>,
     ) -> Result<PersonNo, NoMemory>
-        requires unit { AreOfUnit from.now }
         requires own { IsStateOf from.now.unit.now self.old }
         requires stored { (store : GlobalValues) × (cells_of stored.now
             ≡ stored_for store (Some person.now) from.now.unit.now.properties) }
         requires seat { enrol_fault SEATS (persons_of self.old.rows) person.now ≡ None }
-        requires marked { HasMarkedPersons self.old }
+        requires saved { HasSavedPersons self.old }
         ensures number { IfOk result (λ number. number.0 ≡ length self.old.rows) }
         ensures run { (store : GlobalValues) → cells_of stored.now
             ≡ stored_for store (Some person.now) from.now.unit.now.properties
@@ -200,7 +193,7 @@ impl State {
     }
 
     /// The person holds the role from now on. The slots of the `Member` cells that change are told,
-    /// in the order of the roles. A refusal, for want of memory, changes nothing.
+    /// in the order of the roles. A refusal comes where memory runs out, and changes nothing.
     pub fn assign(
         &mut self,
         person: PersonNo,
@@ -212,7 +205,7 @@ impl State {
         requires role { role.0 < length self.old.roles }
         requires may { assign_fault self.old.roles (persons_of self.old.rows) role.0 person.0
             ≡ None }
-        requires marked { HasMarkedPersons self.old }
+        requires saved { HasSavedPersons self.old }
         ensures run { OnOk result
             (run_of self.new ≡ holding (run_of self.old) person.0 role.0 true) }
         ensures changed { OnOk result (changed.new.items ≡ changed.old.items
@@ -233,8 +226,8 @@ impl State {
     }
 
     /// The person holds the role no longer. The slots of the `Member` cells that change are told,
-    /// in the order of the roles. A refusal, for want of memory, changes nothing. Whether a role
-    /// would be short of members is not asked here.
+    /// in the order of the roles. A refusal comes where memory runs out, and changes nothing.
+    /// Whether a role would be short of members is not asked here.
     pub fn drop_role(
         &mut self,
         person: PersonNo,
@@ -245,7 +238,7 @@ impl State {
         requires person { person.0 < length self.old.rows }
         requires role { role.0 < length self.old.roles }
         requires held { holds_role (persons_of self.old.rows) role.0 person.0 ≡ true }
-        requires marked { HasMarkedPersons self.old }
+        requires saved { HasSavedPersons self.old }
         ensures run { OnOk result
             (run_of self.new ≡ holding (run_of self.old) person.0 role.0 false) }
         ensures changed { OnOk result (changed.new.items ≡ changed.old.items
@@ -265,7 +258,7 @@ impl State {
         Ok(())
     }
 
-    /// Sends the notice. A refusal, for want of memory, changes nothing.
+    /// Sends the notice. A refusal comes where memory runs out, and changes nothing.
     pub fn send(&mut self, notice: OutNotice) -> Result<(), NoMemory>
         ensures run { OnOk result
             (run_of self.new ≡ with_notice (run_of self.old) (notice_of notice)) }
@@ -279,21 +272,21 @@ impl State {
     /// Keeps the present state, to which `undo` goes back. It takes no memory.
     pub fn mark(&mut self)
         requires { self.old.kept ≡ None }
-        ensures { self.new ≡ marked self.old }
+        ensures { self.new ≡ with_savepoint self.old }
     {
         self.cells.mark();
         self.roster.mark();
         self.sent = Some(self.outbox.len());
     }
 
-    /// Gives back the state at the mark: its cells, persons and notices, and no others. It takes no
-    /// memory, and time as what was done since.
+    /// Gives back the state at the savepoint: its cells, persons and notices, and no others. It
+    /// takes no memory, and time as what was done since.
     pub fn undo(&mut self)
         requires { IsSome self.old.kept }
         ensures run { Some (run_of self.new) ≡ run_before self.old }
         ensures layout { self.new.layout ≡ self.old.layout }
         ensures roles { self.new.roles ≡ self.old.roles }
-        ensures unmarked { self.new.kept ≡ None }
+        ensures no_savepoint { self.new.kept ≡ None }
         ensures mark_spare { IfSome self.old.kept (λ kept. kept.spare ≤ self.new.spare) }
         ensures spare { self.old.spare ≤ self.new.spare }
     {
@@ -305,7 +298,7 @@ impl State {
         self.roster.undo();
     }
 
-    /// Gives up what was kept at the mark; what is there now stays. It takes no memory.
+    /// Gives up what was kept at the savepoint; what is there now stays. It takes no memory.
     pub fn keep(&mut self)
         requires { IsSome self.old.kept }
         ensures rest { self.new ≡ record self.old { kept = None; spare = self.new.spare } }
@@ -326,8 +319,8 @@ impl State {
         self.cells.exchange(log);
     }
 
-    /// Makes room for so many writes under a mark. It changes nothing else, also where memory is
-    /// wanting.
+    /// Makes room for this many writes under a savepoint. It changes nothing else, also where
+    /// memory runs out.
     pub fn reserve(&mut self, writes: u32) -> Result<(), NoMemory>
         ensures ok { OnOk result (writes ≤ self.new.spare) }
         ensures within { writes ≤ self.old.spare → IsOk result }

@@ -1,11 +1,9 @@
 //! Cells, that calls succeed where there is memory, and cells beside a plain list.
 ghost use Rattle.std.specs.Prelude.{◌≡◌, ◌<◌, None, OnOk};
 
-use ld_base::memory::NoMemory;
-use ld_base::steps::Steps;
-use ld_cells::cells::Cells;
-use ld_cells::undo_log::UndoLog;
-use ld_value::value::Value;
+use ld_base::{NoMemory, Steps};
+use ld_cells::{Cells, UndoLog};
+use ld_value::Value;
 use std::marker::Brand;
 use std::process::Abort;
 use std::sync::ledger::{Blank, Ledger};
@@ -198,10 +196,10 @@ impl Both {
         Ok(())
     }
 
-    /// Changes under a mark, which are taken back or kept.
+    /// Changes under a savepoint, which are rolled back or kept.
     fn round(&mut self, rt: &impl Abort, draw: &mut Draw) -> Result<(), NoMemory>
         requires { self.old.cells.kept ≡ None }
-        ensures unmarked { OnOk result (self.new.cells.kept ≡ None) }
+        ensures no_savepoint { OnOk result (self.new.cells.kept ≡ None) }
     {
         let kept = self.list.clone()?;
         self.cells.mark();

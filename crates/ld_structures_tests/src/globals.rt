@@ -2,19 +2,10 @@
 //! against a plain list.
 ghost use Rattle.std.specs.Prelude.{◌≡◌, ◌<◌};
 
-use ld_base::id::Id;
-use ld_base::items::Items;
-use ld_base::memory::NoMemory;
-use ld_base::steps::Steps;
-use ld_base::text::Text;
-use ld_globals::declared::{Declared, GlobalKind};
-use ld_globals::faults::{DeclareFault, GlobalFault, SetFault};
-use ld_globals::globals::Globals;
+use ld_base::{Id, Items, NoMemory, Steps, Text};
+use ld_globals::{DeclareFault, Declared, GlobalFault, GlobalKind, Globals, SetFault};
 use ld_value::fits::fits;
-use ld_value::kind::Kind;
-use ld_value::limits::Limits;
-use ld_value::read::read_value;
-use ld_value::value::Value;
+use ld_value::{Kind, Limits, Value, read_value};
 use std::alloc::Global;
 use std::marker::Brand;
 use std::sync::ledger::{Blank, Ledger};
@@ -298,7 +289,8 @@ fn declare_three(alloc: Global, store: &mut Globals) -> Result<(), Fail> {
     Ok(())
 }
 
-/// Asks for each of the three uris, and for one that is not declared, before and after they are set.
+/// Asks for each of the three uris, and for one that is not declared, before and after they are
+/// set.
 fn find_any<L: Ledger>(
     alloc: Global,
     store: &mut Globals,

@@ -4,9 +4,7 @@ ghost use Rattle.ld_graph.specs.Edges.{IsOpen, row_at};
 
 mod random;
 
-use ld_graph::dirty::Dirty;
-use ld_graph::graph::Graph;
-use ld_graph::slots::SlotList;
+use ld_graph::{Dirty, Graph, SlotList};
 use std::alloc::Global;
 use std::test::Fail;
 
@@ -142,8 +140,8 @@ fn sites_are_found_in_order(rt: HostRuntime) -> Result<(), Fail> {
     Ok(())
 }
 
-/// Whether a set of so many sites, 1,000 or more, has two that are put into it until they are taken
-/// out, and then a third one.
+/// Whether a set of this many sites, 1,000 or more, has two that are put into it until they are
+/// taken out, and then a third one.
 fn has_its_sites(alloc: Global, sites: u32) -> Result<bool, Fail> {
     let mut dirty = Dirty::new(alloc, sites)?;
     if dirty.range() < 1_000 {

@@ -32,8 +32,8 @@ form_faults held = json_faults held ++ shape_faults (docs_in held)
 unfoldable pub content_faults : Held → List Told
 content_faults held = json_faults held ++ document_faults (docs_in held)
 
--- The first of these faults is what the reading stopped at, so there is one. A failed shelf and want of
--- memory say nothing.
+-- The first of these faults is what the reading stopped at, so there is one. A failed shelf, or memory that
+-- ran out, says nothing.
 abbrev pub StopsAtFirst : List Told → FolderStop → Type 0
 StopsAtFirst faults ShelfFault = ⊤
 StopsAtFirst faults (Refused fault) = first_of faults ≡ Some (told_by fault)
@@ -53,8 +53,8 @@ IsRefusedFor files folder units fault =
     IsReading files folder (Err fault)
     ⊎ ((unit : Unit) × IsReading files folder (Ok unit) × (first_of (faults_beside units unit) ≡ Some fault))
 
--- What the publishing of one folder beside these units stopped at. A failed shelf and want of memory say
--- nothing.
+-- What the publishing of one folder beside these units stopped at. A failed shelf, or memory that ran out,
+-- says nothing.
 abbrev pub StopsBeside : Files → List ℕ → List Unit → FolderStop → Type 0
 StopsBeside files folder units ShelfFault = ⊤
 StopsBeside files folder units (Refused fault) = IsRefusedFor files folder units (told_by fault)

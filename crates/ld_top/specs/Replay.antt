@@ -46,7 +46,7 @@ abbrev pub ReplayedAll : Option (List (List ℕ)) → Option Files → Option (L
 ReplayedAll folders files before left old new =
     InFolders folders (λ names. FromUnits files names (λ units. AnsweredAll (first_world units) before left old new))
 
--- `replay FOLDER..` stopped after so many bytes of the source; what was written answers the lines that
+-- `replay FOLDER..` stopped after this many bytes of the source; what was written answers the lines that
 -- were ended in them.
 abbrev pub ReplayedTaken : (ℕ → Type 0) → Option (List (List ℕ)) → Option Files → Option (List ℕ) → Option (List ℕ) → Option (List ℕ) → Option (List ℕ) → Type 0
 ReplayedTaken Many folders files before left old new =

@@ -12,3 +12,7 @@ mod replay;
 mod sending;
 pub mod top;
 pub mod words;
+
+pub use reader::folder::read_folder;
+pub use top::{Status, ld_main};
+pub use words::given_words;

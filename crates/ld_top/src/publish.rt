@@ -10,9 +10,9 @@ ghost use Rattle.ld_top.specs.Words.{words_of};
 
 use crate::reader::folder::read_folder;
 use crate::reader::stop::FolderStop;
-use ld_base::shelf::Shelf;
-use ld_json::fault::{Fault, ReadFault};
-use ld_world::world::World;
+use ld_base::Shelf;
+use ld_json::{Fault, ReadFault};
+use ld_world::World;
 use std::alloc::{AllocError, Global};
 
 /// Why the units of folders were not published.
@@ -22,7 +22,7 @@ pub enum PublishStop {
     ShelfFault,
     /// The folder of this number, counted from 1, is refused for this fault.
     Refused(usize, Fault),
-    /// Memory is wanting.
+    /// Memory ran out.
     NoMemory,
 }
 

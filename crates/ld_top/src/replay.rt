@@ -10,14 +10,9 @@ ghost use Rattle.ld_world.specs.WorldView.{world_of};
 
 use crate::ending::Ending;
 use crate::sending::{WAITING_ROOM, send};
-use ld_base::sink::Sink;
-use ld_base::source::Source;
-use ld_base::steps::Steps;
-use ld_base::text::Text;
-use ld_lines::lines::Lines;
-use ld_lines::next::Next;
-use ld_lines::stop::LineStop;
-use ld_world::world::World;
+use ld_base::{Sink, Source, Steps, Text};
+use ld_lines::{LineStop, Lines, Next};
+use ld_world::World;
 use std::alloc::Global;
 use std::mem;
 use std::sync::ledger::Ledger;
@@ -54,7 +49,8 @@ fn answer_next<S: Source, L: Ledger>(
 }
 
 /// Answers the lines of the source, from its first byte on, until it ends or something fails. Where
-/// the sink failed a beginning of the replies was written. No reply waits where the source is asked.
+/// the sink failed a beginning of the replies was written. No reply waits where the source is
+/// asked.
 fn answer_lines<S: Source, K: Sink, L: Ledger>(
     alloc: Global,
     lines: &mut Lines,
@@ -102,7 +98,7 @@ fn answer_lines<S: Source, K: Sink, L: Ledger>(
 }
 
 /// Gives back the memory of a long reply, so that the next one need not be copied into it. Where
-/// memory is wanting it stays.
+/// memory runs out it stays.
 fn give_back_room(alloc: Global, out: &mut Text)
     requires { 128 ≤ room_of out.old }
     ensures { 128 ≤ room_of out.new }
@@ -115,8 +111,8 @@ fn give_back_room(alloc: Global, out: &mut Text)
     }
 }
 
-/// Answers the lines of the source, before any of which the world has units alone. Where memory is
-/// wanting nothing was taken and nothing was written. Else the world is not given back: it is
+/// Answers the lines of the source, before any of which the world has units alone. Where memory
+/// runs out nothing was taken and nothing was written. Else the world is not given back: it is
 /// forgotten, since the process ends behind this.
 pub fn replay<S: Source, K: Sink, L: Ledger>(
     alloc: Global,

@@ -5,9 +5,7 @@ ghost use Rattle.ld_base.specs.Outside.{AddsPrefix, Rose, then_piece};
 ghost use Rattle.ld_top.specs.Sending.{AddsFront};
 ghost use Rattle.ld_top.specs.declared.sending.TheConstants.{WAITING_ROOM};
 
-use ld_base::sink::{Sink, SinkFailed};
-use ld_base::text::Text;
-use ld_base::write::write_all;
+use ld_base::{Sink, SinkFailed, Text, write_all};
 
 /// The most bytes of a reply that may wait, and the most that may wait before it.
 const WAITING_LIMIT: usize = 8_192;
@@ -46,7 +44,7 @@ pub(crate) fn send<K: Sink>(
 }
 
 /// Puts the reply behind those that wait, if it is short and they are few, and says whether it did.
-/// Else, and for want of memory, they stay as they are.
+/// Else, or where memory runs out, they stay as they are.
 fn put_behind(reply: &Text, waiting: &mut Text) -> bool
     requires few { length waiting.old.bytes ≤ WAITING_ROOM }
     ensures yes { result ≡ true → waiting.new.bytes ≡ waiting.old.bytes ++ reply.now.bytes }

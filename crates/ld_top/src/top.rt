@@ -12,14 +12,8 @@ use crate::publish::{PublishStop, publish_folders};
 use crate::replay::replay;
 use crate::words::folders_of;
 use itoa::Buffer;
-use ld_base::memory::NoMemory;
-use ld_base::shelf::Shelf;
-use ld_base::sink::Sink;
-use ld_base::source::Source;
-use ld_base::steps::Steps;
-use ld_base::text::Text;
-use ld_base::write::write_all;
-use ld_json::fault::Fault;
+use ld_base::{NoMemory, Shelf, Sink, Source, Steps, Text, write_all};
+use ld_json::Fault;
 use std::alloc::Global;
 use std::sync::ledger::Ledger;
 
@@ -104,8 +98,8 @@ pub fn ld_main<H: Shelf, S: Source, K: Sink, L: Ledger>(
     Status(replay(alloc, world, input, output, steps).number())
 }
 
-/// Writes the line that tells which folder is refused, by its number, and for what. Where memory is
-/// wanting for it nothing is written, and where the sink fails a beginning of it.
+/// Writes the line that tells which folder is refused, by its number, and for what. Where memory
+/// runs out for it nothing is written, and where the sink fails a beginning of it.
 fn refuse<K: Sink>(alloc: Global, number: usize, fault: &Fault, output: &mut K) -> Ending
     ensures endings { IsRefusalEnding result }
     ensures written { result ≡ Ending.UnitRefused → K.written output.new

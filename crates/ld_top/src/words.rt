@@ -60,8 +60,8 @@ fn is_plain(word: &str) -> bool
     }
 }
 
-/// The words behind the program's name, or the ending where they could not be had: memory was
-/// wanting, or a word is not UTF-8 and so the words have no form.
+/// The words behind the program's name, or the ending where they could not be had: memory ran
+/// out, or a word is not UTF-8 and so the words have no form.
 pub fn given_words(rt: &HostRuntime) -> Result<Vec<String>, Ending> {
     match words_behind_the_name(rt) {
         Ok(words) => Ok(words),
@@ -78,7 +78,7 @@ fn words_behind_the_name(rt: &HostRuntime) -> io::Result<Vec<String>> {
     Ok(words)
 }
 
-/// The ending where the words could not be had: memory was wanting, or a word is not UTF-8.
+/// The ending where the words could not be had: memory ran out, or a word is not UTF-8.
 fn ending_without_words(fault: &io::Error) -> Ending {
     if fault.kind() == ErrorKind::OutOfMemory {
         return Ending::NoMemory;

@@ -1,18 +1,12 @@
 //! Calls of the program over memory, and what they leave.
 ghost use Rattle.std.specs.Prelude.{◌≡◌, ◌<◌};
 
-use ld_base::bytes::{Bytes, CallList};
-use ld_base::file::{File, FileList};
-use ld_base::items::Items;
-use ld_base::memory::NoMemory;
-use ld_base::memory_shelf::MemoryShelf;
-use ld_base::memory_sink::MemorySink;
-use ld_base::memory_source::MemorySource;
-use ld_base::steps::Steps;
-use ld_base::text::Text;
-use ld_refs::check::Checked;
-use ld_top::reader::folder::read_folder;
-use ld_top::top::{Status, ld_main};
+use ld_base::{
+    Bytes, CallList, File, FileList, Items, MemoryShelf, MemorySink, MemorySource, NoMemory, Steps,
+    Text,
+};
+use ld_refs::Checked;
+use ld_top::{Status, ld_main, read_folder};
 use std::alloc::Global;
 use std::marker::Brand;
 use std::sync::ledger::{Blank, Ledger};
@@ -43,7 +37,7 @@ pub const SECOND_UNIT: Named = (
     br#"{"format":1,"identifier":"u2","level":"A","method":{"plays":[{"identifier":"p","acts":[{"identifier":"a","role-parts":[{"identifier":"rp","role":"learner","ref":"read"}]}]}]}}"#,
 );
 
-/// What a call finds: its words; its lines, in pieces of so many bytes; how much fits into the
+/// What a call finds: its words; its lines, in pieces of this many bytes; how much fits into the
 /// sink; and the numbers of the calls that fail, 0 for none.
 #[derive(Drop)]
 pub struct Case<'a> {

@@ -1,7 +1,6 @@
 //! Shelves that fail, and which files are asked for.
 use crate::calls::{FIRST_FILES, file, first, ran_over};
-use ld_base::items::Items;
-use ld_base::memory::NoMemory;
+use ld_base::{Items, NoMemory};
 use std::alloc::Global;
 use std::test::Fail;
 

@@ -1,8 +1,7 @@
 //! A checked unit, and graphs that no documents have.
 use crate::calls::{checked, first_files};
-use ld_names::names::Named;
-use ld_ways::cycles::first_on_cycle;
-use ld_ways::sizes::{GREATEST, expanded_sizes};
+use ld_names::Named;
+use ld_ways::{GREATEST, expanded_sizes, first_on_cycle};
 use std::alloc::Global;
 use std::test::Fail;
 
@@ -13,9 +12,9 @@ fn a_checked_unit_gives_its_parts(rt: HostRuntime) -> Result<(), Fail> {
     assert_eq!(rt; checked.leaves(), 0);
     assert_eq!(rt; checked.names().id(Named::Unit).as_str(), "u1");
     assert_eq!(rt; checked.unit().activities.len(), 1);
-    let (unit, names, rules) = checked.into_parts();
+    let (unit, names) = checked.into_parts();
     assert!(rt; names.number(&unit.identifier) == Some(Named::Unit));
-    assert_eq!(rt; rules.len(), 3);
+    assert_eq!(rt; names.rules().len(), 3);
     Ok(())
 }
 

@@ -1,6 +1,6 @@
 //! Calls for several folders.
 use crate::calls::{both_files, case_of, ran_over};
-use ld_base::memory::NoMemory;
+use ld_base::NoMemory;
 use std::alloc::Global;
 use std::test::Fail;
 

@@ -1,6 +1,6 @@
 //! Lines in pieces, and sources and sinks that fail.
 use crate::calls::{file, first, ran, ran_over};
-use ld_base::items::Items;
+use ld_base::Items;
 use std::test::Fail;
 
 /// A run of one person from its making to the completion of its activity.

@@ -1,6 +1,6 @@
 //! The words of a call.
 use crate::calls::{both_files, case_of, ran_over};
-use ld_base::memory::NoMemory;
+use ld_base::NoMemory;
 use std::alloc::Global;
 use std::test::Fail;
 

@@ -19,14 +19,14 @@ one_more left some = omega arith
 pub environment_lines_more : (left : ℕ) (unit : Unit) (seen : Seen) (p depth : ℕ) (id : List ℕ) → 0 < left → environment_lines left unit seen p depth id ≡ if_visible unit seen p id (list_from (within_lines unit seen p depth (environment_lines (left - 1) unit seen p (depth + 1)) id) (environment_named unit id))
 environment_lines_more left unit seen p depth id some = ap (λ n. environment_lines n unit seen p depth id) (one_more left some)
 
-pub environment_looks_more : (left : ℕ) (unit : Unit) (p : ℕ) (id : List ℕ) → 0 < left → environment_looks left unit p id ≡ visible_looks unit p id ++ list_from (within_looks unit p (environment_looks (left - 1) unit p)) (environment_named unit id)
-environment_looks_more left unit p id some = ap (λ n. environment_looks n unit p id) (one_more left some)
+pub environment_looks_more : (left : ℕ) (unit : Unit) (seen : Seen) (p : ℕ) (id : List ℕ) → 0 < left → environment_looks left unit seen p id ≡ visible_looks unit seen p id ++ list_from (within_looks unit seen p (environment_looks (left - 1) unit seen p)) (environment_named unit id)
+environment_looks_more left unit seen p id some = ap (λ n. environment_looks n unit seen p id) (one_more left some)
 
 pub target_lines_more : (left : ℕ) (unit : Unit) (seen : Seen) (p depth : ℕ) (flag : Bool) (id : List ℕ) → 0 < left → target_lines left unit seen p depth (flag, id) ≡ if_visible unit seen p id (list_from (activity_lines unit seen p depth flag) (activity_named unit id) ++ (list_from (structure_lines unit seen p depth flag (target_lines (left - 1) unit seen p (depth + 1))) (structure_named unit id) ++ environment_lines (length unit.environments) unit seen p depth id))
 target_lines_more left unit seen p depth flag id some = ap (λ n. target_lines n unit seen p depth (flag, id)) (one_more left some)
 
-pub target_looks_more : (left : ℕ) (unit : Unit) (p : ℕ) (id : List ℕ) → 0 < left → target_looks left unit p id ≡ visible_looks unit p id ++ (list_from (activity_looks unit p) (activity_named unit id) ++ (list_from (structure_looks unit p (target_looks (left - 1) unit p)) (structure_named unit id) ++ environment_looks (length unit.environments) unit p id))
-target_looks_more left unit p id some = ap (λ n. target_looks n unit p id) (one_more left some)
+pub target_looks_more : (left : ℕ) (unit : Unit) (seen : Seen) (p : ℕ) (id : List ℕ) → 0 < left → target_looks left unit seen p id ≡ visible_looks unit seen p id ++ (list_from (activity_looks unit seen p) (activity_named unit id) ++ (list_from (structure_looks unit seen p (target_looks (left - 1) unit seen p)) (structure_named unit id) ++ environment_looks (length unit.environments) unit seen p id))
+target_looks_more left unit seen p id some = ap (λ n. target_looks n unit seen p id) (one_more left some)
 
 pub ruleset environments_more = (environment_lines_more, environment_looks_more)
 

@@ -1,24 +1,22 @@
 //! The lines of what is referred to: activities, structures and environments.
-#![tactic(auto, using(crate::proofs::Fuel::targets_more, crate::proofs::Places::items_at_place, crate::proofs::Statuses::flagged_more))]
+#![tactic(auto, using(crate::proofs::Told::stops, crate::proofs::Fuel::targets_more, crate::proofs::Places::items_at_place, crate::proofs::Statuses::flagged_more))]
 
-ghost use Rattle.std.specs.Prelude.{◌≡◌, ◌&&◌, ◌+◌, ◌≤◌, ◌<◌, ◌^◌, true, fold, flat_map, length, OnOk, IsErr};
+ghost use Rattle.std.specs.Prelude.{◌≡◌, ◌&&◌, ◌+◌, ◌≤◌, ◌<◌, ◌^◌, flat_map, length};
 ghost use Rattle.ld_tree.specs.Flags.{flag_after};
+ghost use Rattle.ld_tree.specs.Telling.{Tells, told_after};
 ghost use Rattle.ld_tree.specs.Tree.{flagged, is_passed, status_word, structure_lines, target_lines};
 ghost use Rattle.ld_tree.specs.TreeLooks.{child_looks, passed_looks, structure_looks, target_looks};
 
 use crate::activities::{is_closed, status_word};
 use crate::line::{LineSink, Shown, line_of};
 use crate::viewer::Viewer;
-use ld_base::id::Id;
-use ld_base::memory::NoMemory;
-use ld_base::steps::Steps;
-use ld_model::activity::{Structure, StructureKind};
-use ld_model::view::View;
+use ld_base::{Id, Steps};
+use ld_model::{Structure, StructureKind, View};
 use std::sync::ledger::Ledger;
 
 impl<'a, V: View> Viewer<'a, V> {
     /// Puts what the identifier refers to, where it is visible: an activity, a structure, below at
-    /// most so many structures, or an environment.
+    /// most this many structures, or an environment.
     #[cycle(targets)]
     pub(crate) fn put_target<S: LineSink, L: Ledger>(
         &self,
@@ -28,13 +26,13 @@ impl<'a, V: View> Viewer<'a, V> {
         id: &'a Id,
         lines: &mut S,
         steps: &mut Steps<L>,
-    ) -> Result<(), NoMemory>
+    ) -> Result<(), S::Stop>
         requires depth { depth + left < 2 ^ 116 }
-        ensures ok { OnOk result (S.told lines.new ≡ fold S.after (S.told lines.old) (target_lines
-            left self.now.scope.unit.now (V.seen self.now.scope.view.now) self.now.person.0 depth (flag, id.now))) }
-        ensures err { IsErr result → S.can_fail ≡ true }
+        ensures tells { Tells S.can_fail (told_after S.after (S.told lines.old) (target_lines
+            left self.now.scope.unit.now (V.seen self.now.scope.view.now) self.now.person.0 depth
+            (flag, id.now))) result (S.told lines.new) }
         ensures cost { steps.new ≤ steps.old + length (target_looks left self.now.scope.unit.now
-            self.now.person.0 id.now) }
+            (V.seen self.now.scope.view.now) self.now.person.0 id.now) }
     {
         if left == 0 {
             return Ok(());
@@ -52,7 +50,7 @@ impl<'a, V: View> Viewer<'a, V> {
         self.put_environment(all, depth, id, lines, steps)
     }
 
-    /// Puts the structure, and what stands in it where it is not closed, above at most so many
+    /// Puts the structure, and what stands in it where it is not closed, above at most this many
     /// structures.
     #[cycle(targets)]
     fn put_structure<S: LineSink, L: Ledger>(
@@ -63,14 +61,15 @@ impl<'a, V: View> Viewer<'a, V> {
         structure: &'a Structure,
         lines: &mut S,
         steps: &mut Steps<L>,
-    ) -> Result<(), NoMemory>
+    ) -> Result<(), S::Stop>
         requires depth { depth + 1 + left < 2 ^ 116 }
-        ensures ok { OnOk result (S.told lines.new ≡ fold S.after (S.told lines.old)
-            (structure_lines self.now.scope.unit.now (V.seen self.now.scope.view.now) self.now.person.0 depth flag (target_lines left
-            self.now.scope.unit.now (V.seen self.now.scope.view.now) self.now.person.0 (depth + 1)) structure.now)) }
-        ensures err { IsErr result → S.can_fail ≡ true }
+        ensures tells { Tells S.can_fail (told_after S.after (S.told lines.old) (structure_lines
+            self.now.scope.unit.now (V.seen self.now.scope.view.now) self.now.person.0 depth flag
+            (target_lines left self.now.scope.unit.now (V.seen self.now.scope.view.now)
+            self.now.person.0 (depth + 1)) structure.now)) result (S.told lines.new) }
         ensures cost { steps.new ≤ steps.old + length (structure_looks self.now.scope.unit.now
-            self.now.person.0 (target_looks left self.now.scope.unit.now self.now.person.0)
+            (V.seen self.now.scope.view.now) self.now.person.0 (target_looks left
+            self.now.scope.unit.now (V.seen self.now.scope.view.now) self.now.person.0)
             structure.now) }
     {
         let done = self.is_done(&structure.identifier, steps);
@@ -110,14 +109,16 @@ impl<'a, V: View> Viewer<'a, V> {
         children: &'a [Id],
         lines: &mut S,
         steps: &mut Steps<L>,
-    ) -> Result<(), NoMemory>
+    ) -> Result<(), S::Stop>
         requires depth { depth + left < 2 ^ 116 }
-        ensures ok { OnOk result (S.told lines.new ≡ fold S.after (S.told lines.old) (flat_map
-            (target_lines left self.now.scope.unit.now (V.seen self.now.scope.view.now) self.now.person.0 depth) (flagged self.now.scope.unit.now
-            (V.seen self.now.scope.view.now) self.now.person.0 kind flag children.now))) }
-        ensures err { IsErr result → S.can_fail ≡ true }
+        ensures tells { Tells S.can_fail (told_after S.after (S.told lines.old) (flat_map
+            (target_lines left self.now.scope.unit.now (V.seen self.now.scope.view.now)
+            self.now.person.0 depth) (flagged self.now.scope.unit.now
+            (V.seen self.now.scope.view.now) self.now.person.0 kind flag children.now)))
+            result (S.told lines.new) }
         ensures cost { steps.new ≤ steps.old + length (flat_map (child_looks self.now.scope.unit.now
-            self.now.person.0 (target_looks left self.now.scope.unit.now self.now.person.0))
+            (V.seen self.now.scope.view.now) self.now.person.0 (target_looks left
+            self.now.scope.unit.now (V.seen self.now.scope.view.now) self.now.person.0))
             children.now) }
     {
         let mut flag = flag;
@@ -138,8 +139,8 @@ impl<'a, V: View> Viewer<'a, V> {
     ) -> bool
         ensures value { result ≡ flag_after self.now.scope.unit.now (V.seen self.now.scope.view.now)
             self.now.person.0 kind flag child.now }
-        ensures cost { steps.new ≤ steps.old
-            + length (passed_looks self.now.scope.unit.now self.now.person.0 child.now) }
+        ensures cost { steps.new ≤ steps.old + length (passed_looks self.now.scope.unit.now
+            (V.seen self.now.scope.view.now) self.now.person.0 child.now) }
     {
         match kind {
             StructureKind::Sequence => flag && self.is_passed(child, steps),
@@ -151,8 +152,8 @@ impl<'a, V: View> Viewer<'a, V> {
     fn is_passed<L: Ledger>(&self, child: &Id, steps: &mut Steps<L>) -> bool
         ensures value { result ≡ is_passed self.now.scope.unit.now (V.seen self.now.scope.view.now)
             self.now.person.0 child.now }
-        ensures cost { steps.new ≤ steps.old
-            + length (passed_looks self.now.scope.unit.now self.now.person.0 child.now) }
+        ensures cost { steps.new ≤ steps.old + length (passed_looks self.now.scope.unit.now
+            (V.seen self.now.scope.view.now) self.now.person.0 child.now) }
     {
         !self.is_visible(child, steps) || self.is_done(child, steps)
     }

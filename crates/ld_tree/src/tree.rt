@@ -1,20 +1,19 @@
 //! The text of a person's tree, and which activities are open in it.
-ghost use Rattle.std.specs.Prelude.{◌≡◌, ◌+◌, ◌≤◌, ◌++◌, false, length, map, string_bytes, IfOk};
+ghost use Rattle.std.specs.Prelude.{◌≡◌, ◌+◌, ◌≤◌, ◌++◌, ℕ, List, false, length, map, string_bytes, IfOk};
+ghost use Rattle.ld_names.specs.Names.{HasPart, names_of};
 ghost use Rattle.ld_tree.specs.Lines.{line_text, lines_text};
 ghost use Rattle.ld_tree.specs.LineView.{is_of_activity, line_view};
-ghost use Rattle.ld_tree.specs.Telling.{Asked, asked_after};
+ghost use Rattle.ld_tree.specs.Telling.{sought_after};
 ghost use Rattle.ld_tree.specs.Tree.{is_open, tells_open, tree_lines};
 ghost use Rattle.ld_tree.specs.TreeLooks.{tree_looks};
 
 use crate::line::{LineSink, Shown, TreeLine};
 use crate::printer::Printer;
 use crate::viewer::Viewer;
-use ld_base::id::Id;
-use ld_base::memory::NoMemory;
-use ld_base::numbers::PersonNo;
-use ld_base::steps::Steps;
-use ld_expr::scope::Scope;
-use ld_model::view::View;
+use ld_base::{Id, NoMemory, PersonNo, Steps, ThingNo};
+use ld_expr::Scope;
+use ld_model::View;
+use ld_names::Named;
 use std::alloc::Global;
 use std::sync::ledger::Ledger;
 
@@ -33,7 +32,8 @@ pub fn tree_text<V: View, L: Ledger>(
         (map line_text (tree_lines scope.entry.unit.now (V.seen scope.entry.view.now) person.0))) }
     ensures count { IfOk result (λ told. told.1
         ≡ length (tree_lines scope.entry.unit.now (V.seen scope.entry.view.now) person.0)) }
-    ensures cost { steps.new ≤ steps.old + length (tree_looks scope.entry.unit.now person.0) }
+    ensures cost { steps.new ≤ steps.old + length (tree_looks scope.entry.unit.now
+        (V.seen scope.entry.view.now) person.0) }
 {
     let viewer = Viewer { scope, person };
     let mut printer = Printer {
@@ -46,49 +46,55 @@ pub fn tree_text<V: View, L: Ledger>(
     Ok((text, lines))
 }
 
-/// Whether the activity of this identifier is open for the person: whether a line of the person's
-/// tree says so. It walks the unit as `tree_text` does, but it prints nothing and takes no memory.
-/// (docs/MEANING.md, "The tree")
+/// Whether the activity of this number is open for the person: whether a line of the person's tree
+/// says so, by its identifier. It walks the unit as `tree_text` does until it comes to such a line,
+/// but it prints nothing and takes no memory. (docs/MEANING.md, "The tree")
 pub fn is_open<V: View, L: Ledger>(
     scope: Scope<'_, V>,
     person: PersonNo,
-    activity: &Id,
+    activity: ThingNo,
     steps: &mut Steps<L>,
 ) -> bool
+    requires there { HasPart (names_of scope.unit.now) (Named.Thing activity) }
     ensures value { result
-        ≡ is_open scope.entry.unit.now (V.seen scope.entry.view.now) person.0 activity.now }
-    ensures cost { steps.new ≤ steps.old + length (tree_looks scope.entry.unit.now person.0) }
+        ≡ is_open scope.entry.unit.now (V.seen scope.entry.view.now) person.0 activity.0 }
+    ensures cost { steps.new ≤ steps.old + length (tree_looks scope.entry.unit.now
+        (V.seen scope.entry.view.now) person.0) }
 {
+    let activity = scope.names.id(Named::Thing(activity));
     let viewer = Viewer { scope, person };
-    let mut finder = Finder {
-        activity,
-        found: false,
-    };
+    let mut finder = Finder { activity };
     match viewer.put_tree(&mut finder, steps) {
-        Ok(()) => finder.found,
-        Err(_) => unreachable!(),
+        Ok(()) => false,
+        Err(Found) => true,
     }
 }
 
-/// Looks for a line that tells that an activity is open. It prints nothing and takes no memory.
+/// Looks for the line that tells that an activity is open, and stops there. It prints nothing and
+/// takes no memory.
 #[derive(Drop)]
 struct Finder<'a> {
     activity: &'a Id,
-    found: bool,
 }
 
+/// The line is found.
+#[derive(Drop)]
+struct Found;
+
 impl LineSink for Finder<'_> {
-    ghost Told = { Asked };
+    type Stop = Found;
 
-    ghost told = { λ f. record { identifier = f.activity.now; found = f.found } };
+    ghost Told = { List ℕ };
 
-    ghost after = { asked_after };
+    ghost told = { λ f. f.activity.now };
+
+    ghost after = { sought_after };
 
     ghost can_fail = { false };
 
-    fn put(&mut self, line: &TreeLine<'_>) -> Result<(), NoMemory> {
+    fn put(&mut self, line: &TreeLine<'_>) -> Result<(), Found> {
         if tells_open(self.activity, line) {
-            self.found = true;
+            return Err(Found);
         }
         Ok(())
     }

@@ -8,17 +8,11 @@ ghost use Rattle.ld_expr.specs.Owners.{of_person};
 ghost use Rattle.ld_tree.specs.Tree.{is_visible};
 ghost use Rattle.ld_tree.specs.TreeLooks.{visible_looks, own_done_looks};
 
-use ld_base::id::Id;
-use ld_base::numbers::PersonNo;
-use ld_base::steps::Steps;
-use ld_expr::cells::{says_yes, thing_number};
-use ld_expr::scope::Scope;
-use ld_model::activity::{Activity, Structure};
-use ld_model::cell::{CellName, Owner};
-use ld_model::environment::Environment;
-use ld_model::view::View;
-use ld_names::names::Named;
-use ld_walk::place::Place;
+use ld_base::{Id, PersonNo, Steps};
+use ld_expr::{Scope, says_yes, thing_number};
+use ld_model::{Activity, CellName, Environment, Owner, Structure, View};
+use ld_names::Named;
+use ld_walk::Place;
 use std::sync::ledger::Ledger;
 
 /// A person who looks at a run of a unit.
@@ -33,8 +27,8 @@ impl<'a, V: View> Viewer<'a, V> {
     pub(crate) fn is_visible<L: Ledger>(&self, id: &Id, steps: &mut Steps<L>) -> bool
         ensures value { result ≡ is_visible self.now.scope.unit.now (V.seen self.now.scope.view.now)
             self.now.person.0 id.now }
-        ensures cost { steps.new
-            ≤ steps.old + length (visible_looks self.now.scope.unit.now self.now.person.0 id.now) }
+        ensures cost { steps.new ≤ steps.old + length (visible_looks self.now.scope.unit.now
+            (V.seen self.now.scope.view.now) self.now.person.0 id.now) }
     {
         match thing_number(self.scope.unit, self.scope.names, id) {
             Some(thing) => says_yes(self.scope.view, CellName::Vis(thing, self.person), steps),
@@ -47,8 +41,8 @@ impl<'a, V: View> Viewer<'a, V> {
         ensures value { result
             ≡ is_done self.now.scope.unit.now (V.seen self.now.scope.view.now)
             (of_person self.now.person.0) id.now }
-        ensures cost { steps.new
-            ≤ steps.old + length (own_done_looks self.now.scope.unit.now self.now.person.0 id.now) }
+        ensures cost { steps.new ≤ steps.old + length (own_done_looks self.now.scope.unit.now
+            (V.seen self.now.scope.view.now) self.now.person.0 id.now) }
     {
         self.scope.is_done(Owner::Person(self.person), id, steps)
     }
@@ -58,8 +52,8 @@ impl<'a, V: View> Viewer<'a, V> {
         ensures value { result
             ≡ is_member_of self.now.scope.unit.now (V.seen self.now.scope.view.now)
             role.now self.now.person.0 }
-        ensures cost { steps.new ≤ steps.old
-            + length (member_looks self.now.scope.unit.now (of_person self.now.person.0) role.now) }
+        ensures cost { steps.new ≤ steps.old + length (member_looks self.now.scope.unit.now
+            (V.seen self.now.scope.view.now) (of_person self.now.person.0) role.now) }
     {
         self.scope.is_member_of(self.person, role, steps)
     }
@@ -68,11 +62,12 @@ impl<'a, V: View> Viewer<'a, V> {
     pub(crate) fn visible_place<L: Ledger>(&self, id: &Id, steps: &mut Steps<L>) -> Option<Place>
         ensures shown { IfSome result (λ place. is_visible self.now.scope.unit.now
             (V.seen self.now.scope.view.now) self.now.person.0 id.now ≡ true) }
-        ensures place { IfSome result (λ place. place_named self.now.scope.unit.now id.now ≡ Some place) }
+        ensures place { IfSome result (λ place. place_named self.now.scope.unit.now id.now ≡ Some
+            place) }
         ensures hidden { IfNone result (is_visible self.now.scope.unit.now
             (V.seen self.now.scope.view.now) self.now.person.0 id.now ≡ false) }
-        ensures cost { steps.new
-            ≤ steps.old + length (visible_looks self.now.scope.unit.now self.now.person.0 id.now) }
+        ensures cost { steps.new ≤ steps.old + length (visible_looks self.now.scope.unit.now
+            (V.seen self.now.scope.view.now) self.now.person.0 id.now) }
     {
         let Named::Thing(thing) = self.scope.names.number(id)? else {
             return None;

@@ -8,3 +8,5 @@ pub(crate) mod terms;
 pub(crate) mod test_types;
 pub(crate) mod types;
 pub mod typing;
+
+pub use typing::Typing;

@@ -2,11 +2,8 @@
 ghost use Rattle.std.specs.Prelude.{◌≡◌, IfOk};
 ghost use Rattle.ld_types.specs.TermFaults.{is_no_value};
 
-use ld_base::memory::NoMemory;
-use ld_base::plain_text::PlainText;
-use ld_value::fault::ValueFault;
-use ld_value::kind::Kind;
-use ld_value::read::read_value;
+use ld_base::{NoMemory, PlainText};
+use ld_value::{Kind, ValueFault, read_value};
 use std::alloc::Global;
 
 /// Whether the text is no value of the datatype.

@@ -13,19 +13,12 @@ ghost use Rattle.ld_value.specs.Values.{restrictions_of, value_of};
 
 use crate::literals::is_no_value;
 use crate::types::ValueType;
-use ld_base::items::Items;
-use ld_base::memory::NoMemory;
-use ld_base::plain_text::PlainText;
-use ld_json::code::Code;
-use ld_json::fault::ReadFault;
-use ld_model::property::{Property, Restrictions};
-use ld_value::fault::ValueFault;
+use ld_base::{Items, NoMemory, PlainText};
+use ld_json::{Code, ReadFault};
+use ld_model::{Property, Restrictions};
 use ld_value::fits::fits;
-use ld_value::kind::Kind;
-use ld_value::limits::Limits;
-use ld_value::read::read_value;
-use ld_value::value::{Value, same_value};
-use ld_walk::spot::Spot;
+use ld_value::{Kind, Limits, Value, ValueFault, read_value, same_value};
+use ld_walk::Spot;
 use std::alloc::Global;
 
 /// That the initial value and the restrictions of the property at the place have no fault.

@@ -15,13 +15,11 @@ ghost use Rattle.ld_types.specs.TypingView.{find_by};
 use crate::literals::is_no_value;
 use crate::types::{ListOperator, PairOperator, ValueType};
 use crate::typing::Typing;
-use ld_base::memory::NoMemory;
-use ld_base::plain_text::PlainText;
-use ld_json::code::Code;
-use ld_json::fault::ReadFault;
-use ld_model::expression::{Term, TermForm};
-use ld_value::kind::Kind;
-use ld_walk::spot::Spot;
+use ld_base::{NoMemory, PlainText};
+use ld_json::{Code, ReadFault};
+use ld_model::{Term, TermForm};
+use ld_value::Kind;
+use ld_walk::Spot;
 use std::alloc::Global;
 
 impl<'a> Typing<'a> {

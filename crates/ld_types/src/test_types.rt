@@ -10,10 +10,9 @@ ghost use Rattle.ld_types.specs.TypingView.{find_by};
 
 use crate::types::{Comparison, ValueType};
 use crate::typing::Typing;
-use ld_json::code::Code;
-use ld_json::fault::ReadFault;
-use ld_model::expression::{Term, Test, TestForm};
-use ld_walk::spot::Spot;
+use ld_json::{Code, ReadFault};
+use ld_model::{Term, Test, TestForm};
+use ld_walk::Spot;
 use std::alloc::Global;
 
 impl<'a> Typing<'a> {

@@ -6,7 +6,7 @@ ghost use Rattle.ld_types.specs.Operators.{checked_comparison_of, checked_list_o
 ghost use Rattle.ld_types.specs.TermFaults.{are_comparable};
 ghost use Rattle.ld_types.specs.Types.{is_ordered, list_type, others_of, pair_type, same_type, type_of};
 
-use ld_value::kind::Kind;
+use ld_value::Kind;
 
 /// What kind of value a term has.
 #[derive(Clone, Copy)]

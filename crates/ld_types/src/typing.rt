@@ -3,7 +3,6 @@
 
 ghost use Rattle.std.specs.Prelude.{◌≡◌, [], IfErr, OnOk, option_copied};
 ghost use Rattle.ld_json.specs.Fault.{SaysFirst};
-ghost use Rattle.ld_model.specs.Properties.{is_personal};
 ghost use Rattle.ld_walk.specs.PartView.{typed_of};
 ghost use Rattle.ld_json.specs.declared.code.Code.TheVariants.{BadType};
 ghost use Rattle.ld_types.specs.Faults.{fault_if};
@@ -14,16 +13,11 @@ ghost use Rattle.ld_types.specs.TypingView.{find_by};
 use crate::literals::is_no_value;
 use crate::properties::check_property;
 use crate::types::ValueType;
-use ld_base::id::Id;
-use ld_base::plain_text::PlainText;
-use ld_json::code::Code;
-use ld_json::fault::ReadFault;
-use ld_model::expression::Term;
-use ld_model::property::{Property, PropertyKind};
-use ld_model::unit::Unit;
-use ld_names::names::{Named, Names};
-use ld_walk::part::Typed;
-use ld_walk::spot::Spot;
+use ld_base::{Id, PlainText};
+use ld_json::{Code, ReadFault};
+use ld_model::{Property, Term, Unit};
+use ld_names::{Named, Names};
+use ld_walk::{Spot, Typed};
 use std::alloc::Global;
 
 /// What the properties of a unit are, which has these names: so terms, tests and changes have
@@ -132,19 +126,9 @@ impl<'a> Typing<'a> {
         ensures { result ≡ is_person's (find_by self.now id.now) }
     {
         match self.property(id) {
-            Some(property) => is_personal(property.kind),
+            Some(property) => property.kind.is_personal(),
             None => false,
         }
-    }
-}
-
-/// Whether each person has a value of it.
-fn is_personal(kind: PropertyKind) -> bool
-    ensures { result ≡ is_personal kind }
-{
-    match kind {
-        PropertyKind::LocPers | PropertyKind::GlobPers => true,
-        PropertyKind::Loc | PropertyKind::LocRole | PropertyKind::Glob => false,
     }
 }
 

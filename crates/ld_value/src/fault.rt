@@ -1,7 +1,7 @@
 //! What can keep a text from being read as a value.
 ghost use Rattle.std.specs.Prelude.{◌≡◌};
 
-use ld_base::memory::NoMemory;
+use ld_base::NoMemory;
 
 /// Why no value was read.
 #[derive(Clone, Copy, Debug, PartialEq, Eq)]

@@ -1,6 +1,6 @@
 //! The restrictions of a property.
 use crate::value::Value;
-use ld_base::items::Items;
+use ld_base::Items;
 
 /// A list of values.
 pub type ValueList = Items<Value>;

@@ -11,10 +11,9 @@ use crate::duration::print_span;
 use crate::integer::print_integer;
 use crate::moment::print_moment;
 use crate::value::Value;
-use ld_base::memory::NoMemory;
-use ld_base::text::Text;
+use ld_base::{NoMemory, Text};
 
-/// Appends the value's text; a moment lies in the years 1 to 9999. Where memory is wanting the
+/// Appends the value's text; a moment lies in the years 1 to 9999. Where memory runs out the
 /// bytes stay as they were, which cannot come within the spare room.
 pub fn print_value(value: &Value, out: &mut Text) -> Result<(), NoMemory>
     requires { HasText (datum_of value.now) }

@@ -12,7 +12,7 @@ use crate::integer::read_integer;
 use crate::kind::Kind;
 use crate::moment::read_moment;
 use crate::value::Value;
-use ld_base::text::Text;
+use ld_base::Text;
 use std::alloc::Global;
 
 /// The value that the text has as one of the datatype. `BadValue` comes exactly where it has none,

@@ -3,8 +3,7 @@ ghost use Rattle.std.specs.Prelude.{◌≡◌, ◌↔◌, IsTrue, IfOk, OnErr};
 ghost use Rattle.ld_value.specs.Datum.{datum_of, same_datum, is_text_datum};
 
 use crate::moment::Moment;
-use ld_base::memory::NoMemory;
-use ld_base::text::Text;
+use ld_base::{NoMemory, Text};
 use std::alloc::Global;
 
 /// A value: a text (of the datatypes string, text and uri), a truth value, a whole number, a moment

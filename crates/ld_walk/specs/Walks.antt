@@ -49,6 +49,6 @@ all_within count numbers = list_all (λ n. nat_lt n count) numbers
 abbrev pub parts_within : ℕ → List PartRow → Bool
 parts_within count rows = list_all (λ row. nat_lt row.at count) rows
 
--- Of so many places, the walk stands at one, goes back to some, and has its parts at some.
+-- Of this many places, the walk stands at one, goes back to some, and has its parts at some.
 abbrev pub IsKept : ℕ → ℕ → List ℕ → List PartRow → Type 0
 IsKept count at back rows = (at < count) × (all_within count back ≡ true) × (parts_within count rows ≡ true)

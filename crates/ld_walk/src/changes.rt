@@ -11,10 +11,8 @@ use crate::kind::Wanted;
 use crate::part::{Typed, What};
 use crate::terms::list_term;
 use crate::walk::Walk;
-use ld_base::memory::NoMemory;
-use ld_base::numbers::number;
-use ld_model::completion::{Change, Notice};
-use ld_model::unit::Level;
+use ld_base::{NoMemory, number};
+use ld_model::{Change, Level, Notice};
 
 /// Lists changes, for the run as a whole or for one person.
 pub fn list_changes<'a>(

@@ -7,11 +7,8 @@ use crate::kind::{Kind, Wanted};
 use crate::part::What;
 use crate::place::Place;
 use crate::walk::Walk;
-use ld_base::id::Id;
-use ld_base::memory::NoMemory;
-use ld_base::numbers::number;
-use ld_model::item::Item;
-use ld_model::unit::Level;
+use ld_base::{Id, NoMemory, number};
+use ld_model::{Item, Level};
 
 /// Lists a thing that is shown and hidden, at the place where the walk stands.
 pub fn list_shown<'a>(

@@ -1,10 +1,7 @@
 //! What stands at one place of the documents, as far as anything beyond its shape is asked of it.
 use crate::kind::{Kind, Wanted};
-use ld_base::id::Id;
-use ld_base::plain_text::PlainText;
-use ld_model::expression::{Term, Test};
-use ld_model::property::Property;
-use ld_model::unit::Level;
+use ld_base::{Id, PlainText};
+use ld_model::{Level, Property, Term, Test};
 
 /// What is to have the right types.
 #[derive(Clone, Copy)]

@@ -4,10 +4,8 @@
 ghost use Rattle.std.specs.Prelude.{◌≡◌, ◌<◌, ◌∷◌, ◌++◌, [], true, length, IfOk, OnOk, OnErr};
 ghost use Rattle.ld_walk.specs.PlaceRows.{place_at, place_by, is_below};
 
-use ld_base::memory::NoMemory;
-use ld_base::text::Text;
-use ld_json::file::FileNo;
-use ld_json::place::push_item;
+use ld_base::{NoMemory, Text};
+use ld_json::{FileNo, push_item};
 use std::alloc::Global;
 use std::marker::Model;
 
@@ -48,7 +46,7 @@ impl Model for Places {
 }
 
 impl Places {
-    /// No places, with room for so many.
+    /// No places, with room for this many.
     pub fn with_room(alloc: Global, room: usize) -> Result<Places, NoMemory>
         ensures { IfOk result (λ places. places ≡ []) }
     {
@@ -57,7 +55,7 @@ impl Places {
         })
     }
 
-    /// Appends a place. Where memory is wanting the list stays as it was.
+    /// Appends a place. Where memory runs out the list stays as it was.
     pub fn push(&mut self, row: PlaceRow) -> Result<(), NoMemory>
         requires { is_below (length self.old) row ≡ true }
         ensures ok { OnOk result (self.new ≡ self.old ++ place_by self.old row ∷ []) }

@@ -5,12 +5,8 @@ ghost use Rattle.ld_walk.specs.Places.{root, member, item_at, fault_at};
 ghost use Rattle.ld_walk.specs.PlaceRows.{place_at};
 
 use crate::places::{Places, push_name};
-use ld_base::memory::NoMemory;
-use ld_base::text::Text;
-use ld_json::code::Code;
-use ld_json::fault::{Fault, ReadFault};
-use ld_json::file::FileNo;
-use ld_json::place::push_item;
+use ld_base::{NoMemory, Text};
+use ld_json::{Code, Fault, FileNo, ReadFault, push_item};
 use std::alloc::Global;
 use std::marker::Model;
 

@@ -11,11 +11,8 @@ use crate::items::list_reference;
 use crate::kind::Wanted;
 use crate::part::What;
 use crate::walk::Walk;
-use ld_base::id::Id;
-use ld_base::memory::NoMemory;
-use ld_base::numbers::number;
-use ld_model::expression::{Term, TermForm};
-use ld_model::unit::Level;
+use ld_base::{Id, NoMemory, number};
+use ld_model::{Level, Term, TermForm};
 
 /// Whether the term looks at the moment of the command.
 #[cycle(clock)]

@@ -10,11 +10,8 @@ use crate::kind::Wanted;
 use crate::part::What;
 use crate::terms::{list_leaf, list_operand, reads_clock};
 use crate::walk::Walk;
-use ld_base::id::Id;
-use ld_base::memory::NoMemory;
-use ld_base::numbers::number;
-use ld_model::expression::{Term, Test, TestForm};
-use ld_model::unit::Level;
+use ld_base::{Id, NoMemory, number};
+use ld_model::{Level, Term, Test, TestForm};
 
 /// Lists a test, and whether it is asked of each member of a role.
 #[cycle(tests)]

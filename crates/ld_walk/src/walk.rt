@@ -8,10 +8,9 @@ ghost use Rattle.ld_walk.specs.Walks.{added, entered, left};
 
 use crate::part::{PartRow, What};
 use crate::places::{Down, PlaceRow, Places};
-use ld_base::memory::NoMemory;
-use ld_base::numbers::number;
-use ld_json::file::FileNo;
-use ld_model::unit::Level;
+use ld_base::{NoMemory, number};
+use ld_json::FileNo;
+use ld_model::Level;
 use std::alloc::Global;
 use std::marker::Model;
 
@@ -41,7 +40,7 @@ impl<'a> Model for Walk<'a> {
 }
 
 impl<'a> Walk<'a> {
-    /// A walk that stands before the first document, with room for so many parts and places.
+    /// A walk that stands before the first document, with room for this many parts and places.
     pub fn with_room(alloc: Global, room: usize) -> Result<Walk<'a>, NoMemory>
         ensures { IfOk result
             (λ walk. walk ≡ record { at = root file.Roles; back = []; parts = [] }) }

@@ -56,7 +56,7 @@ list_any-same : {A : Type 0} (p q : A → Bool) (xs : List A) → ((x : A) → p
 list_any-same p q [] same = refl
 list_any-same p q (x ∷ xs) same = rw (same x, list_any-same p q xs same) refl
 
--- That the list tells of each node whether it leads to the end within so many steps.
+-- That the list tells of each node whether it leads to the end within this many steps.
 abbrev pub TellsWithin : List Bool → Graph → ℕ → ℕ → Type 0
 TellsWithin leading g n end = (a : ℕ) → unwrap_or (slice_get leading a) false ≡ leads_within g n a end
 
@@ -110,7 +110,7 @@ all_members test (x ∷ xs) passes =
 
 -- ---- ways of more steps
 
--- Whether the first node is the second or leads to it within so many steps.
+-- Whether the first node is the second or leads to it within this many steps.
 abbrev pub is_near : Graph → ℕ → ℕ → ℕ → Bool
 is_near g n a b = nat_eq a b || leads_within g n a b
 
@@ -139,7 +139,7 @@ one_more g (suc n) a b leads =
       | inr further ↦ or_right (nat_eq x b) (leads_within g (suc n) x b) (one_more g n x b further)
     ]) leads
 
--- What leads within so many steps leads within more.
+-- What leads within this many steps leads within more.
 pub more_steps : (g : Graph) (n m a b : ℕ) → n ≤ m → leads_within g n a b ≡ true → leads_within g m a b ≡ true
 more_steps g n zero a b fewer leads = let none : n ≡ 0 = omega arith in rw none at leads
 more_steps g n (suc m) a b fewer leads =
@@ -148,7 +148,7 @@ more_steps g n (suc m) a b fewer leads =
       | inr other ↦ one_more g m a b (more_steps g n m a b (omega (arith, other)) leads)
     ]
 
--- What is near within so many steps is near within one more.
+-- What is near within this many steps is near within one more.
 pub all_near_still : (g : Graph) (n a : ℕ) (reached : List ℕ) → list_all (λ b. is_near g n a b) reached ≡ true → list_all (λ b. is_near g (n + 1) a b) reached ≡ true
 all_near_still g n a reached all =
     rw (add-one n) (all_weaker (λ b. is_near g n a b) (λ b. is_near g (suc n) a b) reached (λ b near. elim (or_cases (nat_eq a b) (leads_within g n a b) near) [

@@ -11,7 +11,7 @@ use Rattle.std.specs.Option.{option_map}
 use Rattle.ld_base.specs.Numbers.{numbers_below}
 use Rattle.ld_ways.specs.Graphs.{Graph, next_of, number_or_zero, number_or_zero_at, expanded_within, expanded_size, expanded_sizes}
 
--- The sizes after so many rounds, those above the greatest being the greatest.
+-- The sizes after this many rounds, those above the greatest being the greatest.
 abbrev pub capped : List ℕ → Graph → ℕ → List ℕ
 capped own g k = map (min 1000000) (map (expanded_within own g k) (numbers_below (length g)))
 

@@ -22,7 +22,7 @@ next_of g a = nodes_or_none (slice_get g a)
 abbrev pub IsNext : Graph → ℕ → ℕ → Type 0
 IsNext g a b = list_any (λ c. nat_eq c b) (next_of g a) ≡ true
 
--- A way of so many steps leads from the first node to the second.
+-- A way of this many steps leads from the first node to the second.
 abbrev pub HasWay : Graph → ℕ → ℕ → ℕ → Type 0
 HasWay g zero a b = a ≡ b
 HasWay g (suc n) a b = (c : ℕ) × IsNext g a c × HasWay g n c b
@@ -31,7 +31,7 @@ HasWay g (suc n) a b = (c : ℕ) × IsNext g a c × HasWay g n c b
 abbrev pub LeadsTo : Graph → ℕ → ℕ → Type 0
 LeadsTo g a b = (n : ℕ) × HasWay g (suc n) a b
 
--- Whether the first node leads to the second by at least one step and at most so many.
+-- Whether the first node leads to the second by at least one step and at most this many.
 abbrev pub leads_within : Graph → ℕ → ℕ → ℕ → Bool
 leads_within g zero a b = false
 leads_within g (suc n) a b = list_any (λ c. nat_eq c b || leads_within g n c b) (next_of g a)
@@ -57,7 +57,7 @@ abbrev pub number_or_zero_at : List ℕ → ℕ → ℕ
 number_or_zero_at numbers index = number_or_zero (slice_get numbers index)
 
 -- The sum of the node's own size and of what the nodes to which it leads expand to, ways of more than
--- so many nodes left out. A node counts as often as ways lead to it.
+-- this many nodes left out. A node counts as often as ways lead to it.
 abbrev pub expanded_within : List ℕ → Graph → ℕ → ℕ → ℕ
 expanded_within own g zero a = 0
 expanded_within own g (suc n) a = number_or_zero_at own a + sum_by (expanded_within own g n) (next_of g a)

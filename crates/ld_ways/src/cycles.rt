@@ -14,7 +14,7 @@ mod way_back;
 
 use by_search::first_on_cycle_by_search;
 use labels::labels_of;
-use ld_base::memory::NoMemory;
+use ld_base::NoMemory;
 use levels::{first_level, never_rise};
 use std::alloc::Global;
 use way_back::leads_back;

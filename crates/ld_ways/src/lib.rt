@@ -8,3 +8,6 @@
 pub mod cycles;
 pub mod laws;
 pub mod sizes;
+
+pub use cycles::first_on_cycle;
+pub use sizes::{GREATEST, expanded_sizes};

@@ -4,7 +4,7 @@ ghost use Rattle.std.specs.List.{sum_by};
 ghost use Rattle.ld_base.specs.Numbers.{numbers_below};
 ghost use Rattle.ld_ways.specs.Graphs.{Graph, expanded_sizes, expanded_within, number_or_zero};
 
-use ld_base::memory::NoMemory;
+use ld_base::NoMemory;
 use std::alloc::Global;
 
 /// A size that is greater than every limit: sizes stand still at it.
@@ -15,7 +15,7 @@ pub const GREATEST: u64 = 1_000_000;
 ///
 /// It goes in rounds, each with ways of one more node, and stops after the first that changes
 /// nothing: at most one more than the longest way has nodes, and at most as many as there are
-/// nodes. A round takes time as there are nodes and edges. The only error is want of memory.
+/// nodes. A round takes time as there are nodes and edges. The only error is out of memory.
 pub fn expanded_sizes(
     alloc: Global,
     own: &[u64],
@@ -37,7 +37,7 @@ pub fn expanded_sizes(
     Ok(sizes)
 }
 
-/// The sizes of all nodes with ways of one more node than those given. The only error is want of
+/// The sizes of all nodes with ways of one more node than those given. The only error is out of
 /// memory.
 fn next_sizes(
     alloc: Global,

@@ -45,7 +45,7 @@ pub done_line : (w : WorldState) (line : Option Line) (done : DoneLine) (text : 
 unfolding reply_block
 done_line w line done text step is = inl (is ∙ ap reply_block (sym step), ap (world_after w) (sym step))
 
--- Where memory is wanting, the line counts as not given.
+-- Where memory runs out, the line counts as not given.
 pub wanting_line : (old new : WorldState) (line : Option Line) (text : List ℕ) → new ≡ old → text ≡ refusal_text NoMemory ++ 10 ∷ [] → AnswersLine old line text new
 unfolding reply_block
 wanting_line old new line text same is = inr (is, same)

@@ -1,4 +1,4 @@
--- A run never goes back in time, no reply is the block for want of memory, and so what is written tells which
+-- A run never goes back in time, no reply is the block for out of memory, and so what is written tells which
 -- world is left.
 use Rattle.std.specs.Prelude.{⊤}
 use Rattle.std.proofs.Common.{◌≡◌, ◌≢◌, refl, sym, ap, ◌∙◌, subst, ℕ, ℤ, List, [], ◌∷◌, ◌++◌, get_or, nat_eq, codes, Option, Some, None, Result, Ok, Err, ok_or, Bool, true, false, ◌&&◌, is_some, int_lt, inl, inr}
@@ -19,7 +19,7 @@ use Rattle.ld_rules.specs.LawWords.{is_property}
 use Rattle.ld_firing.specs.RunSettling.{Settlement, run_settling}
 use Rattle.ld_firing.proofs.LawsOpenings.{settling_leaves, told_apart}
 use Rattle.ld_run.specs.Changes.{directly_changed, has_change}
-use Rattle.ld_checks.specs.Checks.{admitted, in_time, running, last_moment, is_started, none_short, shortage_if_running, the_cell, fitting_value, may_write, the_person, the_role, the_activity, the_property, does_not_hold, holds_it, has_room, keeps_apart, only_by_choice, not_enrolled, has_seat, not_running}
+use Rattle.ld_checks.specs.Checks.{admitted, in_time, running, last_moment, is_started, none_short, shortage_if_running, fitting_value, may_write, the_person, the_role, the_activity, the_property, does_not_hold, holds_it, has_room, keeps_apart, only_by_choice, not_enrolled, has_seat, not_running}
 use Rattle.ld_checks.specs.Commands.{Admitted, enrols, assigns, drops, starts, opens, completes, sets, clears, gets, shows_tree, shows_outbox, reports, ticks}
 use Rattle.ld_checks.specs.Refusals.{Refusal, BadLine, UnknownUnit, RunExists, UnknownRun, MomentBack, NotStarted, StartedAlready, UnknownPerson, PersonExists, RunFull, UnknownRole, HoldsAlready, NotHeld, RoleFull, RoleExclusive, RoleShort, UnknownActivity, NotByChoice, UnknownProperty, UnknownGlobal, BadValue, NotAllowed, TurnBudget, NotOpen, NoMemory, ◌unless_refused◌ as ◌>>=◌, ◌>>◌, refuse_if}
 use Rattle.ld_replies.specs.Replies.{refusal_text}
@@ -119,7 +119,7 @@ moments_never_go_back unit s store moment asked d is = subst (Each (IsDoneAt s m
 
 -- ---- refusals by a line
 
--- The refusal is not that memory is wanting.
+-- The refusal is not that memory runs out.
 abbrev is_of_line : Refusal → Bool
 is_of_line NoMemory = false
 is_of_line _ = true
@@ -166,15 +166,15 @@ module _ (unit : Unit) (s : RunState) (moment : ℤ) where
   admitted_by_line Start =
       timely _ (and_then (not_running s) _ (stops_if _ _ refl) (and_then (none_short unit (short_at_start unit s.persons)) _ (stops_short unit _) tt))
   admitted_by_line (Open person activity) =
-      started _ (and_with (the_person s person) _ (stops_without _ _ refl) λ p. and_with (the_activity unit activity) _ (stops_without _ _ refl) λ thing. tt)
+      started _ (and_with (the_person s person) _ (stops_without _ _ refl) λ p. and_with (the_activity unit activity) _ (stops_without _ _ refl) λ found. tt)
   admitted_by_line (Complete person activity) =
-      started _ (and_with (the_person s person) _ (stops_without _ _ refl) λ p. and_with (the_activity unit activity) _ (stops_without _ _ refl) λ thing. and_then (only_by_choice unit activity) _ (stops_if _ _ refl) tt)
+      started _ (and_with (the_person s person) _ (stops_without _ _ refl) λ p. and_with (the_activity unit activity) _ (stops_without _ _ refl) λ found. and_then (only_by_choice found.activity) _ (stops_if _ _ refl) tt)
   admitted_by_line (Set person property text) =
-      started _ (and_with (the_person s person) _ (stops_without _ _ refl) λ p. and_with (the_property unit property) _ (stops_without _ _ refl) λ found. and_with (fitting_value found text) _ (stops_without _ _ refl) λ value. and_then (may_write unit s p found) _ (stops_if _ _ refl) (and_with (the_cell unit p property) _ (stops_without _ _ refl) λ cell. tt))
+      started _ (and_with (the_person s person) _ (stops_without _ _ refl) λ p. and_with (the_property unit property) _ (stops_without _ _ refl) λ found. and_with (fitting_value found.property text) _ (stops_without _ _ refl) λ value. and_then (may_write unit s p found.property) _ (stops_if _ _ refl) tt)
   admitted_by_line (Clear person property) =
-      started _ (and_with (the_person s person) _ (stops_without _ _ refl) λ p. and_with (the_property unit property) _ (stops_without _ _ refl) λ found. and_then (may_write unit s p found) _ (stops_if _ _ refl) (and_with (the_cell unit p property) _ (stops_without _ _ refl) λ cell. tt))
+      started _ (and_with (the_person s person) _ (stops_without _ _ refl) λ p. and_with (the_property unit property) _ (stops_without _ _ refl) λ found. and_then (may_write unit s p found.property) _ (stops_if _ _ refl) tt)
   admitted_by_line (Get person property) =
-      started _ (and_with (the_person s person) _ (stops_without _ _ refl) λ p. and_with (the_cell unit p property) _ (stops_without _ _ refl) λ cell. tt)
+      started _ (and_with (the_person s person) _ (stops_without _ _ refl) λ p. and_with (the_property unit property) _ (stops_without _ _ refl) λ found. tt)
   admitted_by_line (Tree person) = started _ (and_with (the_person s person) _ (stops_without _ _ refl) λ p. tt)
   admitted_by_line (Outbox person) = started _ (and_with (the_person s person) _ (stops_without _ _ refl) λ p. tt)
   admitted_by_line Report = started _ tt
@@ -225,7 +225,7 @@ world_by_line w (Some line) = by_line w line
 
 -- ---- texts
 
--- No text begins both with the block and with the one for want of memory.
+-- No text begins both with the block and with the one out of memory.
 abbrev IsTelling : List ℕ → Type 0
 IsTelling block = (rest more : List ℕ) → block ++ rest ≡ reply_block (Err NoMemory) ++ more → ⊥
 
@@ -278,7 +278,7 @@ reply_tells : (result : Result DoneLine Refusal) → IsOfLine result → Tells (
 reply_tells (Ok done) is = deed_tells done.deed
 reply_tells (Err refusal) is = refusal_tells refusal is
 
--- No text begins both with the reply to a line and with the block for want of memory.
+-- No text begins both with the reply to a line and with the block for out of memory.
 pub no_reply_is_want_of_memory : (w : WorldState) (line : Option Line) (rest more : List ℕ) → reply_block (world_step w line) ++ rest ≢ reply_block (Err NoMemory) ++ more
 unfolding reply_block
 no_reply_is_want_of_memory w line rest more same = (reply_tells (world_step w line) (world_by_line w line)).block rest more same

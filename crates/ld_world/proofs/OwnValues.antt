@@ -16,7 +16,7 @@ use Rattle.ld_state.specs.RunCells.{begins_as, property_begins, stored_value}
 use Rattle.ld_state.specs.RunState.{RunState, is_kept_for, joined}
 use Rattle.ld_firing.specs.RunSettling.{Settlement}
 use Rattle.ld_run.specs.Changes.{directly_changed, has_change}
-use Rattle.ld_checks.specs.Checks.{admitted, fitting_value, in_time, is_started, keeps_apart, does_not_hold, has_room, has_seat, holds_it, may_write, none_short, not_enrolled, not_running, only_by_choice, running, shortage_if_running, the_activity, the_cell, the_person, the_property, the_role}
+use Rattle.ld_checks.specs.Checks.{admitted, fitting_value, in_time, is_started, keeps_apart, does_not_hold, has_room, has_seat, holds_it, may_write, none_short, not_enrolled, not_running, only_by_choice, running, shortage_if_running, the_activity, the_person, the_property, the_role}
 use Rattle.ld_checks.specs.Commands.{Admitted, enrols, assigns, drops, starts, opens, completes, sets, clears, gets, shows_tree, shows_outbox, reports, ticks}
 use Rattle.ld_checks.specs.Refusals.{Refusal, ◌unless_refused◌ as ◌>>=◌, ◌>>◌}
 use Rattle.ld_run.specs.RunStep.{DoneCommand, at_moment, done_by, open_for_it, run_step, settled}
@@ -83,19 +83,19 @@ admitted_is unit s moment Start =
     each_then P (in_time s moment) _ (each_then P (not_running s) _ (each_then P (none_short unit (short_at_start unit s.persons)) _ refl))
 admitted_is unit s moment (Open person activity) =
     let P = IsOf (Open person activity) in
-    each_then P (in_time s moment) _ (each_then P (running s) _ (each_bound P (the_person s person) _ λ p. each_bound P (the_activity unit activity) _ λ thing. refl))
+    each_then P (in_time s moment) _ (each_then P (running s) _ (each_bound P (the_person s person) _ λ p. each_bound P (the_activity unit activity) _ λ found. refl))
 admitted_is unit s moment (Complete person activity) =
     let P = IsOf (Complete person activity) in
-    each_then P (in_time s moment) _ (each_then P (running s) _ (each_bound P (the_person s person) _ λ p. each_bound P (the_activity unit activity) _ λ thing. each_then P (only_by_choice unit activity) _ refl))
+    each_then P (in_time s moment) _ (each_then P (running s) _ (each_bound P (the_person s person) _ λ p. each_bound P (the_activity unit activity) _ λ found. each_then P (only_by_choice found.activity) _ refl))
 admitted_is unit s moment (Set person property text) =
     let P = IsOf (Set person property text) in
-    each_then P (in_time s moment) _ (each_then P (running s) _ (each_bound P (the_person s person) _ λ p. each_bound P (the_property unit property) _ λ found. each_bound P (fitting_value found text) _ λ value. each_then P (may_write unit s p found) _ (each_bound P (the_cell unit p property) _ λ cell. refl)))
+    each_then P (in_time s moment) _ (each_then P (running s) _ (each_bound P (the_person s person) _ λ p. each_bound P (the_property unit property) _ λ found. each_bound P (fitting_value found.property text) _ λ value. each_then P (may_write unit s p found.property) _ refl))
 admitted_is unit s moment (Clear person property) =
     let P = IsOf (Clear person property) in
-    each_then P (in_time s moment) _ (each_then P (running s) _ (each_bound P (the_person s person) _ λ p. each_bound P (the_property unit property) _ λ found. each_then P (may_write unit s p found) _ (each_bound P (the_cell unit p property) _ λ cell. refl)))
+    each_then P (in_time s moment) _ (each_then P (running s) _ (each_bound P (the_person s person) _ λ p. each_bound P (the_property unit property) _ λ found. each_then P (may_write unit s p found.property) _ refl))
 admitted_is unit s moment (Get person property) =
     let P = IsOf (Get person property) in
-    each_then P (in_time s moment) _ (each_then P (running s) _ (each_bound P (the_person s person) _ λ p. each_bound P (the_cell unit p property) _ λ cell. refl))
+    each_then P (in_time s moment) _ (each_then P (running s) _ (each_bound P (the_person s person) _ λ p. each_bound P (the_property unit property) _ λ found. refl))
 admitted_is unit s moment (Tree person) =
     let P = IsOf (Tree person) in
     each_then P (in_time s moment) _ (each_then P (running s) _ (each_bound P (the_person s person) _ λ p. refl))

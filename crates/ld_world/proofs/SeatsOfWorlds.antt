@@ -49,7 +49,7 @@ all_in_state_same n name s (run ∷ runs) = λ i. in_state_same n name s run i �
 
 -- ---- seats
 
--- The run has seats, and not more than so many.
+-- The run has seats, and not more than this many.
 abbrev SeatedIn : ℕ → RunOf → Type 0
 SeatedIn n run = HasSeats run.state × (run.state.seats ≤ n)
 
@@ -57,7 +57,7 @@ abbrev AllSeated : ℕ → List RunOf → Type 0
 AllSeated n [] = ⊤
 AllSeated n (run ∷ runs) = SeatedIn n run × AllSeated n runs
 
--- There is a seat in each run that is made, and not more than so many; and so in the runs that there are.
+-- There is a seat in each run that is made, and not more than this many; and so in the runs that there are.
 abbrev IsSeated : ℕ → WorldState → Type 0
 IsSeated n w = (0 < w.seats) × (w.seats ≤ n) × AllSeated n w.runs
 

@@ -7,17 +7,14 @@ ghost use Rattle.ld_value.specs.Datum.{datum_of};
 ghost use Rattle.ld_value.specs.Values.{restrictions_of};
 ghost use Rattle.ld_world.specs.Declaring.{pairs_at, pairs_by};
 
-use ld_base::memory::NoMemory;
-use ld_base::numbers::{PropNo, number};
-use ld_base::text::Text;
-use ld_globals::declared::{Declared, DeclaredList, GlobalKind};
-use ld_model::property::PropertyKind;
-use ld_rules::prepared::PreparedUnit;
-use ld_value::limits::{Limits, ValueList};
-use ld_value::value::Value;
+use ld_base::{NoMemory, PropNo, Text, number};
+use ld_globals::{Declared, DeclaredList, GlobalKind};
+use ld_model::PropertyKind;
+use ld_rules::PreparedUnit;
+use ld_value::{Limits, Value, ValueList};
 use std::alloc::Global;
 
-/// Each uri of the unit's properties, with how it is declared. The only error is want of memory.
+/// Each uri of the unit's properties, with how it is declared. The only error is out of memory.
 pub(crate) fn declarations_of(alloc: Global, unit: &PreparedUnit) -> Result<DeclaredList, NoMemory>
     ensures { IfOk result (λ list. pairs_of list ≡ pairs_by unit.now.properties) }
 {

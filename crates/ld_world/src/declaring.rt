@@ -9,16 +9,11 @@ ghost use Rattle.ld_world.specs.Published.{differing, differs_at};
 ghost use Rattle.ld_world.specs.WorldView.{IsStoreOf};
 
 use crate::declarations::declarations_of;
-use ld_base::memory::NoMemory;
-use ld_base::text::Text;
-use ld_globals::faults::DeclareFault;
-use ld_globals::globals::Globals;
-use ld_json::code::Code;
-use ld_json::fault::{Fault, ReadFault};
-use ld_json::file::FileNo;
-use ld_json::place::push_item;
-use ld_model::property::Property;
-use ld_rules::prepared::PreparedUnit;
+use ld_base::{NoMemory, Text};
+use ld_globals::{DeclareFault, Globals};
+use ld_json::{Code, Fault, FileNo, ReadFault, push_item};
+use ld_model::Property;
+use ld_rules::PreparedUnit;
 use std::alloc::Global;
 
 /// Declares the uris of the unit's properties. It is refused at the first property whose uri is

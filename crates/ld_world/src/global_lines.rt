@@ -12,21 +12,15 @@ ghost use Rattle.ld_world.specs.Answers.{AnswersLine};
 ghost use Rattle.ld_world.specs.GlobalFaults.{refusal_to_get, refusal_to_set};
 ghost use Rattle.ld_world.specs.WorldView.{IsStoreOf, world_with};
 
-use ld_base::id::Id;
-use ld_base::memory::NoMemory;
-use ld_base::plain_text::PlainText;
-use ld_base::steps::Steps;
-use ld_base::text::Text;
-use ld_checks::refusal::Refusal;
-use ld_globals::faults::{GlobalFault, SetFault};
-use ld_globals::globals::Globals;
-use ld_replies::telling::refuse;
-use ld_replies::value_text::push_value;
-use ld_value::value::Value;
+use ld_base::{Id, NoMemory, PlainText, Steps, Text};
+use ld_checks::Refusal;
+use ld_globals::{GlobalFault, Globals, SetFault};
+use ld_replies::{push_value, refuse};
+use ld_value::Value;
 use std::alloc::Global;
 use std::sync::ledger::Ledger;
 
-/// Gives the key the value of the text, or says why not. Where memory is wanting the store stays as
+/// Gives the key the value of the text, or says why not. Where memory runs out the store stays as
 /// it was.
 pub(crate) fn set_global(
     alloc: Global,
@@ -102,7 +96,7 @@ fn tell_value(alloc: Global, value: Option<&Value>, out: &mut Text) -> Result<()
     out.push("\n")
 }
 
-/// Says why the value was not set. The only error is want of memory.
+/// Says why the value was not set. The only error is out of memory.
 fn refuse_to_set(fault: SetFault, out: &mut Text) -> Result<(), NoMemory>
     ensures text { OnOk result (out.new.bytes ≡ refusal_text (refusal_to_set fault) ++ 10 ∷ []) }
     ensures memory { OnOk result (fault ≢ SetFault.NoMemory) }
@@ -116,7 +110,7 @@ fn refuse_to_set(fault: SetFault, out: &mut Text) -> Result<(), NoMemory>
     }
 }
 
-/// Says why the value is not told. The only error is want of memory.
+/// Says why the value is not told. The only error is out of memory.
 fn refuse_to_get(fault: GlobalFault, out: &mut Text) -> Result<(), NoMemory>
     ensures text { OnOk result (out.new.bytes ≡ refusal_text (refusal_to_get fault) ++ 10 ∷ []) }
     ensures room { KeepsRoom out.old out.new }

@@ -8,3 +8,5 @@ mod global_lines;
 mod publishing;
 mod runs;
 pub mod world;
+
+pub use world::World;

@@ -5,13 +5,10 @@ ghost use Rattle.ld_json.specs.Fault.{Says, SaysFirst};
 ghost use Rattle.ld_world.specs.Published.{repeated_unit, repeats_unit};
 ghost use Rattle.ld_world.specs.World.{unit_named};
 
-use ld_base::id::Id;
-use ld_base::text::Text;
-use ld_json::code::Code;
-use ld_json::fault::{Fault, ReadFault};
-use ld_json::file::FileNo;
-use ld_model::unit::Unit;
-use ld_rules::prepared::PreparedUnit;
+use ld_base::{Id, Text};
+use ld_json::{Code, Fault, FileNo, ReadFault};
+use ld_model::Unit;
+use ld_rules::PreparedUnit;
 use std::alloc::Global;
 use std::rc::Rc;
 

@@ -9,24 +9,20 @@ ghost use Rattle.ld_world.specs.WorldView.{ServesAll, ServesRuns, world_with};
 
 use crate::publishing::find_unit;
 use indexmap::IndexMap;
-use ld_base::id::Id;
-use ld_base::memory::NoMemory;
-use ld_base::steps::Steps;
-use ld_base::text::Text;
-use ld_checks::refusal::Refusal;
-use ld_globals::globals::Globals;
-use ld_lines::command::RunCommand;
-use ld_replies::telling::refuse;
-use ld_rules::prepared::PreparedUnit;
-use ld_run::command_room::CommandRoom;
-use ld_run::run::Run;
-use ld_value::moment::Moment;
+use ld_base::{Id, NoMemory, Steps, Text};
+use ld_checks::Refusal;
+use ld_globals::Globals;
+use ld_lines::RunCommand;
+use ld_replies::refuse;
+use ld_rules::PreparedUnit;
+use ld_run::{CommandRoom, Run};
+use ld_value::Moment;
 use std::alloc::Global;
 use std::rc::Rc;
 use std::sync::ledger::Ledger;
 
-/// Makes a run of the unit of this identifier under the name, or says why not. Where memory is
-/// wanting no run is made.
+/// Makes a run of the unit of this identifier under the name, or says why not. Where memory runs
+/// out no run is made.
 pub(crate) fn make_run<L: Ledger>(
     alloc: Global,
     units: &[Rc<PreparedUnit>],

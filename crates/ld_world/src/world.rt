@@ -15,33 +15,25 @@ use crate::global_lines::{get_global, set_global};
 use crate::publishing::check_identifier;
 use crate::runs::{ask_run, make_run};
 use indexmap::IndexMap;
-use ld_base::id::Id;
-use ld_base::memory::NoMemory;
-use ld_base::steps::Steps;
-use ld_base::text::Text;
-use ld_checks::refusal::Refusal;
-use ld_globals::globals::Globals;
-use ld_json::fault::ReadFault;
-use ld_lines::command::RunCommand;
-use ld_lines::command_reader::CommandReader;
-use ld_lines::fault::LineFault;
-use ld_lines::line::Line;
-use ld_lines::lines::LINE_LIMIT;
-use ld_refs::check::Checked;
-use ld_replies::telling::{refuse, say_no_memory};
-use ld_rules::prepared::PreparedUnit;
-use ld_run::command_room::CommandRoom;
-use ld_run::run::Run;
-use ld_value::moment::Moment;
+use ld_base::{Id, NoMemory, Steps, Text};
+use ld_checks::Refusal;
+use ld_globals::Globals;
+use ld_json::ReadFault;
+use ld_lines::{CommandReader, LINE_LIMIT, Line, LineFault, RunCommand};
+use ld_refs::Checked;
+use ld_replies::{refuse, say_no_memory};
+use ld_rules::PreparedUnit;
+use ld_run::{CommandRoom, Run};
+use ld_value::Moment;
 use std::alloc::Global;
 use std::marker::Model;
 use std::rc::Rc;
 use std::sync::ledger::Ledger;
 
 /// Published units, the store of the values of their global properties, and the runs that were made
-/// of them by their names. (docs/MEANING.md, "Histories") What reads the lines, and the room for the
-/// lists that a command makes on its way, are kept beside them, and are no part of what the world
-/// means.
+/// of them by their names. (docs/MEANING.md, "Histories") What reads the lines, and the room for
+/// the lists that a command makes on its way, are kept beside them, and are no part of what the
+/// world means.
 pub struct World {
     units: Vec<Rc<PreparedUnit>>,
     globals: Globals,
@@ -51,7 +43,7 @@ pub struct World {
     command_room: CommandRoom,
 }
 
-// By hand, so that a function which lets one go calls this and is not proved over each field anew.
+// By hand, so that a function which lets one go calls this and is not proved over each field again.
 impl Drop for World {
     fn drop(self) {
         let Self {
@@ -123,7 +115,7 @@ impl World {
         Ok(())
     }
 
-    /// Answers a line: `out` is emptied and then holds the reply block. Where memory is wanting it
+    /// Answers a line: `out` is emptied and then holds the reply block. Where memory runs out it
     /// says so, and the line counts as not given.
     pub fn answer<L: Ledger>(
         &mut self,
@@ -153,7 +145,7 @@ impl World {
         }
     }
 
-    /// Answers a line. Where memory is wanting the world stays as it was.
+    /// Answers a line. Where memory runs out the world stays as it was.
     fn try_answer<L: Ledger>(
         &mut self,
         alloc: Global,
@@ -177,7 +169,7 @@ impl World {
         }
     }
 
-    /// Does what the line asks for. Where memory is wanting the world stays as it was.
+    /// Does what the line asks for. Where memory runs out the world stays as it was.
     fn do_line<L: Ledger>(
         &mut self,
         alloc: Global,

@@ -1,10 +1,9 @@
 //! A run of one person in which the first act is open and nothing is done.
 ghost use Rattle.std.specs.Prelude.{◌≡◌};
 
-use ld_base::steps::Steps;
-use ld_model::cell::CellName;
-use ld_model::view::View;
-use ld_value::value::Value;
+use ld_base::Steps;
+use ld_model::{CellName, View};
+use ld_value::Value;
 use std::sync::ledger::Ledger;
 
 /// A run of one person, where each mark has the one value and every other cell has the other.

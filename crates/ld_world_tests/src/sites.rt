@@ -9,23 +9,17 @@ ghost use Rattle.ld_state.specs.StateView.{IsStateOf, run_of};
 
 use crate::begun::{Subject, begin, test};
 use crate::units::check;
-use ld_base::fired::Fired;
-use ld_base::numbers::RuleNo;
-use ld_base::steps::Steps;
-use ld_cascade::settled::Settled;
-use ld_firing::firing::fire;
-use ld_globals::globals::Globals;
-use ld_graph::slots::SlotList;
-use ld_model::cell::Owner;
-use ld_model::view::View;
-use ld_names::rule::RuleKind;
-use ld_settling::reads::site_reads;
+use ld_base::{Fired, RuleNo, Steps};
+use ld_cascade::Settled;
+use ld_firing::fire;
+use ld_globals::Globals;
+use ld_graph::SlotList;
+use ld_model::{Owner, View};
+use ld_names::RuleKind;
 use ld_rules::judge::judge;
-use ld_rules::prepared::PreparedUnit;
-use ld_rules::site::Site;
-use ld_settling::links::RunLinks;
-use ld_settling::settling::{restore, settle};
-use ld_state::state::State;
+use ld_rules::{PreparedUnit, Site};
+use ld_settling::{RunLinks, restore, settle, site_reads};
+use ld_state::State;
 use std::alloc::Global;
 use std::sync::ledger::Ledger;
 use std::test::Fail;
@@ -219,7 +213,7 @@ fn go_joined<L: Ledger>(
     settle_so(alloc, unit, state, links, 0, steps)
 }
 
-/// Settles the run, where so many sites fire, in one turn at most. Its links are clean then.
+/// Settles the run, where this many sites fire, in one turn at most. Its links are clean then.
 fn settle_so<L: Ledger>(
     alloc: Global,
     unit: &PreparedUnit,

@@ -5,11 +5,9 @@ ghost use Rattle.ld_world.specs.World.{first_world};
 ghost use Rattle.ld_world.specs.WorldView.{world_of};
 
 use crate::units::{COURSE, SWING, check, checked};
-use ld_base::steps::Steps;
-use ld_base::text::Text;
-use ld_json::code::Code;
-use ld_json::fault::ReadFault;
-use ld_world::world::World;
+use ld_base::{Steps, Text};
+use ld_json::{Code, ReadFault};
+use ld_world::World;
 use std::alloc::Global;
 use std::marker::Brand;
 use std::sync::ledger::{Blank, Ledger};

@@ -4,13 +4,11 @@ ghost use Rattle.std.specs.Prelude.{◌≡◌, ◌<◌};
 
 use crate::opening::Opening;
 use crate::units::{check, id, small};
-use ld_base::id::Id;
-use ld_base::numbers::PersonNo;
-use ld_base::steps::Steps;
-use ld_base::text::Text;
-use ld_rules::prepared::PreparedUnit;
-use ld_tree::tree::{is_open, tree_text};
-use ld_value::value::Value;
+use ld_base::{Id, PersonNo, Steps, Text};
+use ld_names::Named;
+use ld_rules::PreparedUnit;
+use ld_tree::{is_open, tree_text};
+use ld_value::Value;
 use std::alloc::Global;
 use std::marker::Brand;
 use std::sync::ledger::{Blank, Ledger};
@@ -74,6 +72,9 @@ fn shows<L: Ledger>(
     let Ok((text, count)) = tree_text(alloc, unit.scope(&view), PersonNo(0), none, steps) else {
         return false;
     };
-    let open = is_open(unit.scope(&view), PersonNo(0), activity, steps);
+    let Some(Named::Thing(thing)) = unit.names().number(activity) else {
+        return false;
+    };
+    let open = is_open(unit.scope(&view), PersonNo(0), thing, steps);
     count == 5 && text.as_str() == wanted && open != done
 }

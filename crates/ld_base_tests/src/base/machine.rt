@@ -1,11 +1,6 @@
 //! The shelf, the source and the sink over the machine.
 use super::{answers, cut};
-use ld_base::folder_shelf::FolderShelf;
-use ld_base::shelf::{FILE_LIMIT, Shelf};
-use ld_base::source::Source;
-use ld_base::stdin_source::StdinSource;
-use ld_base::stdout_sink::StdoutSink;
-use ld_base::write::write_all;
+use ld_base::{FILE_LIMIT, FolderShelf, Shelf, Source, StdinSource, StdoutSink, write_all};
 use std::test::Fail;
 use std::{env, fs, io};
 
@@ -29,7 +24,7 @@ fn put(rt: &HostRuntime, room: &str, file: &str, bytes: &[u8]) -> io::Result<()>
     fs::write(rt, format!(in rt.alloc(); "{room}/course/{file}")?, bytes)
 }
 
-/// Writes a file of so many blanks of the course in this folder.
+/// Writes a file of this many blanks of the course in this folder.
 fn put_blanks(rt: &HostRuntime, room: &str, file: &str, count: usize) -> io::Result<()> {
     let blanks = vec![in rt.alloc(); b' '; count]?;
     put(rt, room, file, blanks.as_slice())

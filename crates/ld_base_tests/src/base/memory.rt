@@ -2,18 +2,10 @@
 ghost use Rattle.std.specs.Prelude.{Some, None};
 
 use super::{answers, cut};
-use ld_base::bytes::{Bytes, CallList};
-use ld_base::file::{File, FileList};
-use ld_base::items::Items;
-use ld_base::memory::NoMemory;
-use ld_base::memory_shelf::MemoryShelf;
-use ld_base::memory_sink::MemorySink;
-use ld_base::memory_source::MemorySource;
-use ld_base::shelf::{FILE_LIMIT, Shelf};
-use ld_base::sink::{Sink, SinkFailed};
-use ld_base::source::Source;
-use ld_base::text::Text;
-use ld_base::write::write_all;
+use ld_base::{
+    Bytes, CallList, FILE_LIMIT, File, FileList, Items, MemoryShelf, MemorySink, MemorySource,
+    NoMemory, Shelf, Sink, SinkFailed, Source, Text, write_all,
+};
 use std::alloc::{AllocError, Global};
 use std::test::Fail;
 
@@ -71,7 +63,7 @@ fn add(
     })
 }
 
-/// Whether the source gives these bytes where so many are asked for, or is said to fail.
+/// Whether the source gives these bytes where this many are asked for, or is said to fail.
 fn gives(source: &mut MemorySource, asked: usize, wanted: &str) -> bool {
     let mut into = [0u8; 8];
     match source.take(&mut into[..asked.clamp(1, 8)]) {

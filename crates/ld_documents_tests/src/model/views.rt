@@ -4,10 +4,9 @@ ghost use Rattle.ld_value.specs.Datum.{datum_of};
 ghost use Rattle.ld_model.specs.Cells.{same_cell};
 ghost use Rattle.ld_model.specs.declared.cell.CellName.TheVariants as names;
 
-use ld_base::steps::Steps;
-use ld_model::cell::CellName;
-use ld_model::view::View;
-use ld_value::value::Value;
+use ld_base::Steps;
+use ld_model::{CellName, View};
+use ld_value::Value;
 use std::marker::Brand;
 use std::sync::ledger::{Blank, Ledger};
 use std::test::Fail;

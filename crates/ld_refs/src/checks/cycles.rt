@@ -7,17 +7,12 @@ ghost use Rattle.ld_refs.specs.Edges.{edges_of};
 ghost use Rattle.ld_refs.specs.Reaching.{cycle_faults, environment_graph, graph_faults, node_number, numbers_among, structure_graph};
 
 use crate::checks::targets::kind_of;
-use ld_base::id::Id;
-use ld_base::memory::NoMemory;
-use ld_json::code::Code;
-use ld_json::fault::ReadFault;
-use ld_json::file::FileNo;
-use ld_model::unit::Unit;
-use ld_names::names::Names;
-use ld_walk::kind::Kind;
-use ld_walk::place::Place;
-use ld_walk::spot::Spot;
-use ld_ways::cycles::first_on_cycle;
+use ld_base::{Id, NoMemory};
+use ld_json::{Code, FileNo, ReadFault};
+use ld_model::Unit;
+use ld_names::Names;
+use ld_walk::{Kind, Place, Spot};
+use ld_ways::first_on_cycle;
 use std::alloc::Global;
 
 /// What is a node of a graph.
@@ -49,7 +44,7 @@ pub(crate) struct Graphs {
     pub(crate) structures: Vec<Vec<usize>>,
 }
 
-// By hand, so that a function which lets one go calls this and is not proved over each field anew.
+// By hand, so that a function which lets one go calls this and is not proved over each field again.
 impl Drop for Graphs {
     fn drop(self) {
         let Self {

@@ -2,11 +2,10 @@
 ghost use Rattle.std.specs.Prelude.{◌≡◌, [], IfErr, OnOk, flat_map};
 ghost use Rattle.ld_json.specs.Fault.{SaysFirst};
 
-use ld_json::fault::ReadFault;
-use ld_model::unit::Level;
-use ld_parts::listing::Listing;
-use ld_walk::part::What;
-use ld_walk::spot::Spot;
+use ld_json::ReadFault;
+use ld_model::Level;
+use ld_parts::Listing;
+use ld_walk::{Spot, What};
 use std::alloc::Global;
 
 /// A check that looks at one part alone.

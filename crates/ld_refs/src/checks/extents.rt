@@ -15,17 +15,11 @@ use crate::checks::limits::method_fault;
 use crate::checks::sizes::{Sizes, add, feedback_size};
 use crate::checks::targets::kind_of;
 use crate::method::{act_at, play_at, role_part_at};
-use ld_json::code::Code;
-use ld_json::fault::ReadFault;
-use ld_model::completion::OnCompletion;
-use ld_model::method::RolePart;
-use ld_model::unit::{Level, Unit};
-use ld_names::names::Names;
-use ld_parts::listing::Listing;
-use ld_walk::kind::Kind;
-use ld_walk::part::What;
-use ld_walk::place::Place;
-use ld_walk::spot::Spot;
+use ld_json::{Code, ReadFault};
+use ld_model::{Level, OnCompletion, RolePart, Unit};
+use ld_names::Names;
+use ld_parts::Listing;
+use ld_walk::{Kind, Place, Spot, What};
 use std::alloc::Global;
 
 /// The greatest size of a role-part.

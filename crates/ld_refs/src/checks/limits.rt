@@ -6,18 +6,12 @@ ghost use Rattle.ld_json.specs.Fault.{Says, SaysFirst};
 ghost use Rattle.ld_parts.specs.Listing.{method_at};
 ghost use Rattle.ld_walk.specs.PartView.{what_of};
 ghost use Rattle.ld_walk.specs.Places.{fault_at};
-ghost use Rattle.ld_names.specs.Rules.{rules_in};
 ghost use Rattle.ld_refs.specs.Bounds.{beyond, count_faults, declares, is_counted, is_leaf, leaves_in, object_limit_faults, over};
 
-use ld_json::code::Code;
-use ld_json::fault::ReadFault;
-use ld_json::file::FileNo;
-use ld_names::rule::{Rule, list_rules};
-use ld_parts::listing::Listing;
-use ld_walk::kind::Kind;
-use ld_walk::part::What;
-use ld_walk::place::Place;
-use ld_walk::spot::Spot;
+use ld_json::{Code, FileNo, ReadFault};
+use ld_names::Names;
+use ld_parts::Listing;
+use ld_walk::{Kind, Place, Spot, What};
 use std::alloc::Global;
 
 /// What is counted together.
@@ -72,7 +66,7 @@ pub(crate) fn check_objects(alloc: Global, listing: &Listing<'_>) -> Result<(), 
     Ok(())
 }
 
-/// That there are at most so many of what is counted.
+/// That there are at most this many of what is counted.
 fn check_limit(
     alloc: Global,
     limit: usize,
@@ -95,33 +89,25 @@ fn check_limit(
     Ok(())
 }
 
-/// The rules of a unit, and how many leaves its expressions have.
-#[derive(Drop)]
-pub(crate) struct Counts {
-    pub(crate) rules: Vec<Rule>,
-    pub(crate) leaves: u32,
-}
-
-/// That rules and leaves keep to their limits; the rules and the number of leaves.
-pub(crate) fn check_counts(alloc: Global, listing: &Listing<'_>) -> Result<Counts, ReadFault>
-    ensures rules { IfOk result (λ counts. counts.rules.items ≡ rules_in listing.now) }
-    ensures few_rules { IfOk result (λ counts. length counts.rules.items ≤ 600) }
-    ensures leaves { IfOk result (λ counts. counts.leaves ≡ leaves_in false listing.now) }
-    ensures faultless { OnOk result (count_faults listing.now ≡ []) }
-    ensures first { IfErr result (SaysFirst (count_faults listing.now)) }
+/// That rules and leaves keep to their limits; the number of leaves.
+pub(crate) fn check_counts(
+    alloc: Global,
+    names: &Names,
+    listing: &Listing<'_>,
+) -> Result<u32, ReadFault>
+    ensures few_rules { OnOk result (length names.now.rules ≤ 600) }
+    ensures leaves { IfOk result (λ leaves. leaves ≡ leaves_in false listing.now) }
+    ensures faultless { OnOk result (count_faults names.now listing.now ≡ []) }
+    ensures first { IfErr result (SaysFirst (count_faults names.now listing.now)) }
 {
-    let rules = list_rules(alloc, listing)?;
-    check_over(alloc, 600, rules.len())?;
+    check_over(alloc, 600, names.rules().len())?;
     let leaves = count_leaves(listing, false);
     check_over(alloc, 4_000, leaves)?;
     check_over(alloc, 100, count_leaves(listing, true))?;
-    Ok(Counts {
-        rules,
-        leaves: leaves as u32,
-    })
+    Ok(leaves as u32)
 }
 
-/// That the unit has no more than so many.
+/// That the unit has no more than `limit`.
 fn check_over(alloc: Global, limit: usize, count: usize) -> Result<(), ReadFault>
     ensures within { OnOk result (count ≤ limit) }
     ensures faultless { OnOk result (over limit count ≡ []) }

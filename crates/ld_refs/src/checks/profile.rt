@@ -4,11 +4,9 @@ ghost use Rattle.ld_walk.specs.PartView.{what_of};
 ghost use Rattle.ld_refs.specs.Bounds.{is_above, is_left_out};
 
 use crate::checks::each::PartCheck;
-use ld_json::code::Code;
-use ld_json::fault::ReadFault;
-use ld_model::unit::Level;
-use ld_walk::part::What;
-use ld_walk::spot::Spot;
+use ld_json::{Code, ReadFault};
+use ld_model::Level;
+use ld_walk::{Spot, What};
 use std::alloc::Global;
 
 /// That nothing has a higher level than this.

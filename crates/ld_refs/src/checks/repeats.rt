@@ -7,12 +7,10 @@ ghost use Rattle.ld_walk.specs.PartView.{what_of};
 ghost use Rattle.ld_refs.specs.Repeats.{repeated_faults, repeated_if, repeated_in, repeated_target, text_in};
 ghost use Rattle.ld_refs.specs.SeenTexts.{HasSeen};
 
-use ld_base::id::Id;
-use ld_json::code::Code;
-use ld_json::fault::ReadFault;
-use ld_parts::listing::Listing;
-use ld_walk::part::What;
-use ld_walk::spot::Spot;
+use ld_base::Id;
+use ld_json::{Code, ReadFault};
+use ld_parts::Listing;
+use ld_walk::{Spot, What};
 use std::alloc::Global;
 use std::collections::HashSet;
 

@@ -8,16 +8,11 @@ ghost use Rattle.ld_refs.specs.SizeView.{capped, sizes_by};
 
 use crate::checks::cycles::Graphs;
 use crate::checks::targets::kind_of;
-use ld_base::id::Id;
-use ld_base::memory::NoMemory;
-use ld_model::activity::{Activity, Structure};
-use ld_model::completion::OnCompletion;
-use ld_model::environment::{Environment, LearningObject};
-use ld_model::unit::Unit;
-use ld_names::names::Names;
-use ld_walk::kind::Kind;
-use ld_walk::place::Place;
-use ld_ways::sizes::{GREATEST, expanded_sizes};
+use ld_base::{Id, NoMemory};
+use ld_model::{Activity, Environment, LearningObject, OnCompletion, Structure, Unit};
+use ld_names::Names;
+use ld_walk::{Kind, Place};
+use ld_ways::{GREATEST, expanded_sizes};
 use std::alloc::Global;
 
 /// What things expand to, each by its number, or `GREATEST` where that is less.
@@ -27,7 +22,7 @@ pub(crate) struct Sizes {
     structures: Vec<u64>,
 }
 
-// By hand, so that a function which lets one go calls this and is not proved over each field anew.
+// By hand, so that a function which lets one go calls this and is not proved over each field again.
 impl Drop for Sizes {
     fn drop(self) {
         let Self {

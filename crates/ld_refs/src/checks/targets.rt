@@ -6,15 +6,11 @@ ghost use Rattle.ld_walk.specs.Kinds.{allows};
 ghost use Rattle.ld_refs.specs.Targets.{kind_by, nth_target_fault, target_code, target_fault};
 
 use crate::checks::each::PartCheck;
-use ld_base::id::Id;
-use ld_json::code::Code;
-use ld_json::fault::ReadFault;
-use ld_model::unit::Level;
-use ld_names::names::{Named, Names};
-use ld_walk::kind::{Kind, Wanted};
-use ld_walk::part::What;
-use ld_walk::place::Place;
-use ld_walk::spot::Spot;
+use ld_base::Id;
+use ld_json::{Code, ReadFault};
+use ld_model::Level;
+use ld_names::{Named, Names};
+use ld_walk::{Kind, Place, Spot, Wanted, What};
 use std::alloc::Global;
 
 /// That references name what they should, where the unit has these names.

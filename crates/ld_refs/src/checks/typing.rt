@@ -1,10 +1,9 @@
 //! The check of types.
 use crate::checks::each::PartCheck;
-use ld_json::fault::ReadFault;
-use ld_model::unit::Level;
-use ld_types::typing::Typing;
-use ld_walk::part::What;
-use ld_walk::spot::Spot;
+use ld_json::ReadFault;
+use ld_model::Level;
+use ld_types::Typing;
+use ld_walk::{Spot, What};
 use std::alloc::Global;
 
 impl<'a> PartCheck for Typing<'a> {

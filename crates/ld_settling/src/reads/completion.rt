@@ -13,13 +13,10 @@ use crate::reads::marks::{read_mark, read_marks};
 use crate::reads::reader::Reader;
 use crate::reads::terms::read_property;
 use crate::reads::test_reads::read_users;
-use ld_base::id::Id;
-use ld_base::memory::NoMemory;
-use ld_base::steps::Steps;
-use ld_graph::slots::SlotList;
-use ld_model::cell::{CellName, Owner};
-use ld_model::completion::Completion;
-use ld_rules::completion::Completing;
+use ld_base::{Id, NoMemory, Steps};
+use ld_graph::SlotList;
+use ld_model::{CellName, Completion, Owner};
+use ld_rules::Completing;
 use std::sync::ledger::Ledger;
 
 /// Gathers what is read to know whether there is a completion rule and it holds. It takes at most a
@@ -107,10 +104,13 @@ fn read_start(
 /// Gathers what is read to know whether the last act, if there is one, is done.
 fn read_last_act(reader: &Reader<'_>, act: Option<&Id>, list: &mut SlotList) -> Result<(), NoMemory>
     ensures gathers { OnOk result (Gathers reader.now.unit.now (run_of reader.now.state.now)
-        (list_from (done_looks reader.now.unit.now Owner.Run)
+        (list_from (done_looks reader.now.unit.now
+        (seen_in reader.now.unit.now (run_of reader.now.state.now)) Owner.Run)
         (option_copied act.entry)) list.old list.new) }
     ensures short { OnErr result (FallsShort reader.now.unit.now (run_of reader.now.state.now)
-        (list_from (done_looks reader.now.unit.now Owner.Run) (option_copied act.entry)) list.old) }
+        (list_from (done_looks reader.now.unit.now
+        (seen_in reader.now.unit.now (run_of reader.now.state.now)) Owner.Run)
+        (option_copied act.entry)) list.old) }
     ensures room { list.old.room ≤ list.new.room }
 {
     match act {

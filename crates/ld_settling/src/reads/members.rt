@@ -10,12 +10,9 @@ ghost use Rattle.ld_settling.specs.Gathering.{FallsShort, Gathers, cells_if};
 
 use crate::reads::marks::read_mark;
 use crate::reads::reader::Reader;
-use ld_base::id::Id;
-use ld_base::memory::NoMemory;
-use ld_base::numbers::{PersonNo, RoleNo};
-use ld_base::steps::Steps;
-use ld_graph::slots::SlotList;
-use ld_model::cell::{CellName, Owner};
+use ld_base::{Id, NoMemory, PersonNo, RoleNo, Steps};
+use ld_graph::SlotList;
+use ld_model::{CellName, Owner};
 use std::sync::ledger::Ledger;
 
 /// Gathers what is read to know whether the owner is a member of the role.
@@ -26,13 +23,17 @@ pub(crate) fn read_member(
     list: &mut SlotList,
 ) -> Result<(), NoMemory>
     ensures gathers { OnOk result (Gathers reader.now.unit.now (run_of reader.now.state.now)
-        (member_looks reader.now.unit.now owner role.now) list.old list.new) }
+        (member_looks reader.now.unit.now
+        (seen_in reader.now.unit.now (run_of reader.now.state.now)) owner role.now)
+        list.old list.new) }
     ensures short { OnErr result (FallsShort reader.now.unit.now (run_of reader.now.state.now)
-        (member_looks reader.now.unit.now owner role.now) list.old) }
+        (member_looks reader.now.unit.now
+        (seen_in reader.now.unit.now (run_of reader.now.state.now)) owner role.now) list.old) }
     ensures room { list.old.room ≤ list.new.room }
 {
-    let Owner::Person(person) = owner else {
-        return Ok(());
+    let person = match owner {
+        Owner::Person(person) => person,
+        Owner::Run => return Ok(()),
     };
     match reader.role(role) {
         Some(role) => reader.put(CellName::Member(role, person), list),
@@ -91,12 +92,14 @@ pub(crate) fn read_members_marks<L: Ledger>(
     steps: &mut Steps<L>,
 ) -> Result<(), NoMemory>
     ensures gathers { OnOk result (Gathers reader.now.unit.now (run_of reader.now.state.now)
-        (flat_map (λ p. done_looks reader.now.unit.now (of_person p) target.now)
+        (flat_map (λ p. done_looks reader.now.unit.now
+        (seen_in reader.now.unit.now (run_of reader.now.state.now)) (of_person p) target.now)
         (members_of reader.now.unit.now
         (seen_in reader.now.unit.now (run_of reader.now.state.now)) role.now))
         list.old list.new) }
     ensures short { OnErr result (FallsShort reader.now.unit.now (run_of reader.now.state.now)
-        (flat_map (λ p. done_looks reader.now.unit.now (of_person p) target.now)
+        (flat_map (λ p. done_looks reader.now.unit.now
+        (seen_in reader.now.unit.now (run_of reader.now.state.now)) (of_person p) target.now)
         (members_of reader.now.unit.now
         (seen_in reader.now.unit.now (run_of reader.now.state.now)) role.now))
         list.old) }
@@ -119,11 +122,13 @@ fn read_marks_of_members<L: Ledger>(
     steps: &mut Steps<L>,
 ) -> Result<(), NoMemory>
     ensures gathers { OnOk result (Gathers reader.now.unit.now (run_of reader.now.state.now)
-        (flat_map (λ p. done_looks reader.now.unit.now (of_person p) target.now)
+        (flat_map (λ p. done_looks reader.now.unit.now
+        (seen_in reader.now.unit.now (run_of reader.now.state.now)) (of_person p) target.now)
         (members (seen_in reader.now.unit.now (run_of reader.now.state.now)) role.0))
         list.old list.new) }
     ensures short { OnErr result (FallsShort reader.now.unit.now (run_of reader.now.state.now)
-        (flat_map (λ p. done_looks reader.now.unit.now (of_person p) target.now)
+        (flat_map (λ p. done_looks reader.now.unit.now
+        (seen_in reader.now.unit.now (run_of reader.now.state.now)) (of_person p) target.now)
         (members (seen_in reader.now.unit.now (run_of reader.now.state.now)) role.0))
         list.old) }
     ensures room { list.old.room ≤ list.new.room }
@@ -148,11 +153,15 @@ fn read_mark_of<L: Ledger>(
 ) -> Result<(), NoMemory>
     ensures gathers { OnOk result (Gathers reader.now.unit.now (run_of reader.now.state.now)
         (cells_if (is_member (seen_in reader.now.unit.now (run_of reader.now.state.now))
-        role.0 person.0) (done_looks reader.now.unit.now (of_person person.0) target.now))
+        role.0 person.0) (done_looks reader.now.unit.now
+        (seen_in reader.now.unit.now (run_of reader.now.state.now)) (of_person person.0)
+        target.now))
         list.old list.new) }
     ensures short { OnErr result (FallsShort reader.now.unit.now (run_of reader.now.state.now)
         (cells_if (is_member (seen_in reader.now.unit.now (run_of reader.now.state.now))
-        role.0 person.0) (done_looks reader.now.unit.now (of_person person.0) target.now))
+        role.0 person.0) (done_looks reader.now.unit.now
+        (seen_in reader.now.unit.now (run_of reader.now.state.now)) (of_person person.0)
+        target.now))
         list.old) }
     ensures room { list.old.room ≤ list.new.room }
     ensures cost { steps.new ≡ steps.old + 1 }

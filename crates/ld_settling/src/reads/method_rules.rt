@@ -12,14 +12,11 @@ use crate::reads::completion::read_completion;
 use crate::reads::marks::read_mark;
 use crate::reads::members::{read_members, read_members_marks};
 use crate::reads::reader::Reader;
-use ld_base::memory::NoMemory;
-use ld_base::steps::Steps;
-use ld_graph::slots::SlotList;
-use ld_model::cell::{CellName, Owner};
-use ld_model::method::{Act, Play, RolePart};
-use ld_names::rule::Rule;
-use ld_rules::completion::Completing;
-use ld_rules::method_rules::{act_at, completing_play, is_environment, opening_cell};
+use ld_base::{NoMemory, Steps};
+use ld_graph::SlotList;
+use ld_model::{Act, CellName, Owner, Play, RolePart};
+use ld_names::Rule;
+use ld_rules::{Completing, act_at, completing_play, is_environment, opening_cell};
 use std::sync::ledger::Ledger;
 
 /// Gathers what is read to know what the rule asks of the run; of a rule for persons, nothing. It
@@ -77,9 +74,11 @@ fn read_opening(
     list: &mut SlotList,
 ) -> Result<(), NoMemory>
     ensures gathers { OnOk result (Gathers reader.now.unit.now (run_of reader.now.state.now)
-        (opening_looks reader.now.unit.now play act) list.old list.new) }
+        (opening_looks reader.now.unit.now
+        (seen_in reader.now.unit.now (run_of reader.now.state.now)) play act) list.old list.new) }
     ensures short { OnErr result (FallsShort reader.now.unit.now (run_of reader.now.state.now)
-        (opening_looks reader.now.unit.now play act) list.old) }
+        (opening_looks reader.now.unit.now
+        (seen_in reader.now.unit.now (run_of reader.now.state.now)) play act) list.old) }
     ensures room { list.old.room ≤ list.new.room }
 {
     if act == 0 {
@@ -101,11 +100,12 @@ fn read_part<L: Ledger>(
     steps: &mut Steps<L>,
 ) -> Result<(), NoMemory>
     ensures gathers { OnOk result (Gathers reader.now.unit.now (run_of reader.now.state.now)
-        (site_part_looks reader.now.unit.now (seen_in reader.now.unit.now (run_of reader.now.state.now))
-        act.now part.now) list.old list.new) }
+        (site_part_looks reader.now.unit.now
+        (seen_in reader.now.unit.now (run_of reader.now.state.now)) act.now part.now)
+        list.old list.new) }
     ensures short { OnErr result (FallsShort reader.now.unit.now (run_of reader.now.state.now)
-        (site_part_looks reader.now.unit.now (seen_in reader.now.unit.now (run_of reader.now.state.now))
-        act.now part.now) list.old) }
+        (site_part_looks reader.now.unit.now
+        (seen_in reader.now.unit.now (run_of reader.now.state.now)) act.now part.now) list.old) }
     ensures room { list.old.room ≤ list.new.room }
     ensures cost { steps.new ≤ steps.old + length (site_part_looks reader.now.unit.now
         (seen_in reader.now.unit.now (run_of reader.now.state.now)) act.now part.now) }

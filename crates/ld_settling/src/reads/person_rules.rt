@@ -12,15 +12,11 @@ use crate::reads::completion::read_completion;
 use crate::reads::marks::read_marks;
 use crate::reads::reader::Reader;
 use crate::reads::test_reads::read_test;
-use ld_base::memory::NoMemory;
-use ld_base::numbers::{PersonNo, RoleNo};
-use ld_base::steps::Steps;
-use ld_graph::slots::SlotList;
-use ld_model::activity::{Activity, Structure};
-use ld_model::cell::{CellName, Owner};
-use ld_model::condition::Condition;
-use ld_names::rule::Rule;
-use ld_rules::person_rules::completing_activity;
+use ld_base::{NoMemory, PersonNo, RoleNo, Steps};
+use ld_graph::SlotList;
+use ld_model::{Activity, CellName, Condition, Owner, Structure};
+use ld_names::Rule;
+use ld_rules::completing_activity;
 use std::sync::ledger::Ledger;
 
 /// Gathers what is read to know what the rule asks of the person; of a rule for the run, nothing.
@@ -151,10 +147,14 @@ fn read_structure(
     list: &mut SlotList,
 ) -> Result<(), NoMemory>
     ensures gathers { OnOk result (Gathers reader.now.unit.now (run_of reader.now.state.now)
-        (all_done_looks reader.now.unit.now (of_person person.0) structure.now.children)
+        (all_done_looks reader.now.unit.now
+        (seen_in reader.now.unit.now (run_of reader.now.state.now)) (of_person person.0)
+        structure.now.children)
         list.old list.new) }
     ensures short { OnErr result (FallsShort reader.now.unit.now (run_of reader.now.state.now)
-        (all_done_looks reader.now.unit.now (of_person person.0) structure.now.children)
+        (all_done_looks reader.now.unit.now
+        (seen_in reader.now.unit.now (run_of reader.now.state.now)) (of_person person.0)
+        structure.now.children)
         list.old) }
     ensures room { list.old.room ≤ list.new.room }
 {

@@ -7,16 +7,12 @@ ghost use Rattle.ld_state.specs.RunState.{seen_in};
 ghost use Rattle.ld_state.specs.StateView.{IsStateOf, run_of};
 ghost use Rattle.ld_settling.specs.Gathering.{FallsShort, Gathers, with_slot};
 
-use ld_base::id::Id;
-use ld_base::memory::NoMemory;
-use ld_base::numbers::{PersonNo, RoleNo};
-use ld_base::steps::Steps;
-use ld_expr::cells::{role_number, says_yes};
-use ld_graph::slots::SlotList;
-use ld_model::cell::CellName;
-use ld_model::view::View;
-use ld_rules::prepared::PreparedUnit;
-use ld_state::state::State;
+use ld_base::{Id, NoMemory, PersonNo, RoleNo, Steps};
+use ld_expr::{role_number, says_yes};
+use ld_graph::SlotList;
+use ld_model::{CellName, View};
+use ld_rules::PreparedUnit;
+use ld_state::State;
 use std::alloc::Global;
 use std::sync::ledger::Ledger;
 
@@ -31,7 +27,7 @@ pub(crate) struct Reader<'a> {
 
 impl<'a> Reader<'a> {
     /// Adds the slot of the cell, if the run has the cell and the slot is not in the list. Where
-    /// there is no room for it, the list gets more. The only error is want of memory.
+    /// there is no room for it, the list gets more. The only error is out of memory.
     pub(crate) fn put(&self, cell: CellName, list: &mut SlotList) -> Result<(), NoMemory>
         ensures gathers { OnOk result (Gathers self.now.unit.now (run_of self.now.state.now)
             (cell ∷ []) list.old list.new) }
@@ -117,7 +113,7 @@ fn make_room(alloc: Global, slot: u32, list: &mut SlotList) -> Result<(), NoMemo
     grow(alloc, list)
 }
 
-/// Makes the room about twice as large. A refusal, for want of memory, changes nothing.
+/// Makes the room about twice as large. A refusal comes where memory runs out, and changes nothing.
 fn grow(alloc: Global, list: &mut SlotList) -> Result<(), NoMemory>
     ensures more { OnOk result (list.old.room < list.new.room) }
     ensures items { list.new.items ≡ list.old.items }

@@ -5,16 +5,15 @@ ghost use Rattle.ld_expr.specs.Looks.{property_looks, term_looks, terms_looks};
 ghost use Rattle.ld_expr.specs.Lookup.{list_from};
 ghost use Rattle.ld_expr.specs.Seen.{opened_cell};
 ghost use Rattle.ld_names.specs.Names.{thing_number};
+ghost use Rattle.ld_state.specs.RunState.{seen_in};
 ghost use Rattle.ld_state.specs.StateView.{run_of};
 ghost use Rattle.ld_settling.specs.Gathering.{FallsShort, Gathers};
 
 use crate::reads::reader::Reader;
-use ld_base::id::Id;
-use ld_base::memory::NoMemory;
-use ld_expr::cells::{cell_of_property, thing_number};
-use ld_graph::slots::SlotList;
-use ld_model::cell::{CellName, Owner};
-use ld_model::expression::{Term, TermForm};
+use ld_base::{Id, NoMemory};
+use ld_expr::{cell_of_property, thing_number};
+use ld_graph::SlotList;
+use ld_model::{CellName, Owner, Term, TermForm};
 
 /// Gathers what is read for the value of the property that the identifier names, for the owner.
 pub(crate) fn read_property(
@@ -24,9 +23,12 @@ pub(crate) fn read_property(
     list: &mut SlotList,
 ) -> Result<(), NoMemory>
     ensures gathers { OnOk result (Gathers reader.now.unit.now (run_of reader.now.state.now)
-        (property_looks reader.now.unit.now owner id.now) list.old list.new) }
+        (property_looks reader.now.unit.now
+        (seen_in reader.now.unit.now (run_of reader.now.state.now)) owner id.now)
+        list.old list.new) }
     ensures short { OnErr result (FallsShort reader.now.unit.now (run_of reader.now.state.now)
-        (property_looks reader.now.unit.now owner id.now) list.old) }
+        (property_looks reader.now.unit.now
+        (seen_in reader.now.unit.now (run_of reader.now.state.now)) owner id.now) list.old) }
     ensures room { list.old.room ≤ list.new.room }
 {
     let cell = cell_of_property(reader.unit.unit(), reader.unit.names(), owner, id);
@@ -42,9 +44,12 @@ pub(crate) fn read_term(
     list: &mut SlotList,
 ) -> Result<(), NoMemory>
     ensures gathers { OnOk result (Gathers reader.now.unit.now (run_of reader.now.state.now)
-        (term_looks reader.now.unit.now owner term.now) list.old list.new) }
+        (term_looks reader.now.unit.now
+        (seen_in reader.now.unit.now (run_of reader.now.state.now)) owner term.now)
+        list.old list.new) }
     ensures short { OnErr result (FallsShort reader.now.unit.now (run_of reader.now.state.now)
-        (term_looks reader.now.unit.now owner term.now) list.old) }
+        (term_looks reader.now.unit.now
+        (seen_in reader.now.unit.now (run_of reader.now.state.now)) owner term.now) list.old) }
     ensures room { list.old.room ≤ list.new.room }
 {
     match &*term.form {
@@ -73,9 +78,13 @@ fn read_terms(
     list: &mut SlotList,
 ) -> Result<(), NoMemory>
     ensures gathers { OnOk result (Gathers reader.now.unit.now (run_of reader.now.state.now)
-        (terms_looks reader.now.unit.now owner (terms_from terms.now)) list.old list.new) }
+        (terms_looks reader.now.unit.now
+        (seen_in reader.now.unit.now (run_of reader.now.state.now)) owner (terms_from terms.now))
+        list.old list.new) }
     ensures short { OnErr result (FallsShort reader.now.unit.now (run_of reader.now.state.now)
-        (terms_looks reader.now.unit.now owner (terms_from terms.now)) list.old) }
+        (terms_looks reader.now.unit.now
+        (seen_in reader.now.unit.now (run_of reader.now.state.now)) owner (terms_from terms.now))
+        list.old) }
     ensures room { list.old.room ≤ list.new.room }
 {
     for term in terms {
@@ -94,10 +103,16 @@ pub(crate) fn read_both(
     list: &mut SlotList,
 ) -> Result<(), NoMemory>
     ensures gathers { OnOk result (Gathers reader.now.unit.now (run_of reader.now.state.now)
-        (term_looks reader.now.unit.now owner a.now ++ term_looks reader.now.unit.now owner b.now)
+        (term_looks reader.now.unit.now
+        (seen_in reader.now.unit.now (run_of reader.now.state.now)) owner a.now
+        ++ term_looks reader.now.unit.now
+        (seen_in reader.now.unit.now (run_of reader.now.state.now)) owner b.now)
         list.old list.new) }
     ensures short { OnErr result (FallsShort reader.now.unit.now (run_of reader.now.state.now)
-        (term_looks reader.now.unit.now owner a.now ++ term_looks reader.now.unit.now owner b.now)
+        (term_looks reader.now.unit.now
+        (seen_in reader.now.unit.now (run_of reader.now.state.now)) owner a.now
+        ++ term_looks reader.now.unit.now
+        (seen_in reader.now.unit.now (run_of reader.now.state.now)) owner b.now)
         list.old) }
     ensures room { list.old.room ≤ list.new.room }
 {

@@ -13,13 +13,9 @@ use crate::reads::marks::read_mark;
 use crate::reads::members::{read_member, read_members};
 use crate::reads::reader::Reader;
 use crate::reads::terms::{read_both, read_property};
-use ld_base::id::Id;
-use ld_base::memory::NoMemory;
-use ld_base::numbers::{PersonNo, RoleNo};
-use ld_base::steps::Steps;
-use ld_graph::slots::SlotList;
-use ld_model::cell::Owner;
-use ld_model::expression::{Test, TestForm};
+use ld_base::{Id, NoMemory, PersonNo, RoleNo, Steps};
+use ld_graph::SlotList;
+use ld_model::{Owner, Test, TestForm};
 use std::sync::ledger::Ledger;
 
 /// Gathers what is read to know whether the test holds for the owner. It takes at most a step for

@@ -2,9 +2,7 @@
 ghost use Rattle.std.specs.Prelude.{◌<◌};
 
 use super::{put, readers, relink};
-use ld_graph::dirty::Dirty;
-use ld_graph::graph::Graph;
-use ld_graph::slots::SlotList;
+use ld_graph::{Dirty, Graph, SlotList};
 use std::test::Fail;
 
 const SITES: usize = 40;

@@ -11,12 +11,8 @@ ghost use Rattle.ld_top.specs.Reading.{held_by, json_faults_of};
 
 use crate::reader::stop::fault_of_file;
 use json::Scratch;
-use ld_base::bytes::Bytes;
-use ld_json::code::Code;
-use ld_json::doc::{Doc, DocFault, document};
-use ld_json::docs::{Docs, Scratches};
-use ld_json::fault::ReadFault;
-use ld_json::file::FileNo;
+use ld_base::Bytes;
+use ld_json::{Code, Doc, DocFault, Docs, FileNo, ReadFault, Scratches, document};
 use std::alloc::Global;
 
 /// The documents in two of the files.

@@ -8,17 +8,14 @@ ghost use Rattle.ld_top.specs.InFolder.{WhereTold};
 ghost use Rattle.ld_top.specs.Reading.{StopsAtFirst};
 
 use crate::reader::stop::{FolderStop, fault_of_file};
-use ld_base::bytes::Bytes;
-use ld_base::items::Items;
-use ld_base::shelf::{Shelf, ShelfRefusal};
-use ld_json::code::Code;
-use ld_json::file::FileNo;
+use ld_base::{Bytes, Items, Shelf, ShelfRefusal};
+use ld_json::{Code, FileNo};
 use std::alloc::Global;
 
 /// The bytes of the six files of the folder, in their order; None where one is not there.
 ///
 /// # Errors
-/// The first file that is too big or is wanting, `ShelfFault` only where the shelf's count of
+/// The first file that is too big or is missing, `ShelfFault` only where the shelf's count of
 /// faults rose, and `NoMemory`. The files behind that are not asked for.
 pub(super) fn read_files<H: Shelf>(
     alloc: Global,

@@ -10,9 +10,9 @@ ghost use Rattle.ld_top.specs.Reading.{StopsAtFirst};
 use crate::reader::files::read_files;
 use crate::reader::stop::FolderStop;
 use crate::reader::unit::read_unit;
-use ld_base::shelf::Shelf;
-use ld_json::fault::ReadFault;
-use ld_refs::check::Checked;
+use ld_base::Shelf;
+use ld_json::ReadFault;
+use ld_refs::Checked;
 use std::alloc::Global;
 
 /// The unit of the folder, in which nothing is wrong. All six files are read first, in their order;

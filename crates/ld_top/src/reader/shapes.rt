@@ -6,11 +6,10 @@ ghost use Rattle.ld_json.specs.Fault.{SaysFirst};
 ghost use Rattle.ld_formats.specs.Units.{is_well_formed};
 ghost use Rattle.ld_top.specs.Folder.{shape_faults, unit_of};
 
-use ld_json::docs::Docs;
-use ld_json::fault::ReadFault;
-use ld_method::whole::read_method;
-use ld_model::unit::Unit;
-use ld_reader::parts::read_parts;
+use ld_json::{Docs, ReadFault};
+use ld_method::read_method;
+use ld_model::Unit;
+use ld_reader::read_parts;
 use std::alloc::Global;
 
 /// The unit for which the documents stand.

@@ -3,10 +3,8 @@ ghost use Rattle.std.specs.Prelude.{◌≡◌};
 ghost use Rattle.ld_json.specs.Fault.{told_by};
 ghost use Rattle.ld_top.specs.Folder.{file_fault};
 
-use ld_base::text::Text;
-use ld_json::code::Code;
-use ld_json::fault::Fault;
-use ld_json::file::FileNo;
+use ld_base::Text;
+use ld_json::{Code, Fault, FileNo};
 use std::alloc::Global;
 
 /// Why a folder has given no unit.
@@ -16,7 +14,7 @@ pub enum FolderStop {
     ShelfFault,
     /// This is the folder's first fault.
     Refused(Fault),
-    /// Memory is wanting.
+    /// Memory ran out.
     NoMemory,
 }
 

@@ -9,11 +9,11 @@ ghost use Rattle.ld_top.specs.Reading.{content_faults, form_faults, held_by};
 
 use crate::reader::documents::read_documents;
 use crate::reader::shapes::unit_of_documents;
-use ld_base::bytes::Bytes;
-use ld_json::docs::Scratches;
-use ld_json::fault::ReadFault;
-use ld_model::unit::Unit;
-use ld_refs::check::{Checked, check};
+use ld_base::Bytes;
+use ld_json::{ReadFault, Scratches};
+use ld_model::Unit;
+use ld_refs::Checked;
+use ld_refs::check::check;
 use std::alloc::Global;
 
 /// The checked unit of these files, in their order, or the first fault of what they hold. Files and

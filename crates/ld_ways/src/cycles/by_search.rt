@@ -5,7 +5,7 @@ ghost use Rattle.std.specs.List.{list_any};
 ghost use Rattle.std.specs.Option.{unwrap_or};
 ghost use Rattle.ld_ways.specs.Graphs.{first_on_cycle, is_on_cycle};
 
-use ld_base::memory::NoMemory;
+use ld_base::NoMemory;
 use std::alloc::Global;
 
 /// The first node that leads to itself. It takes time as the square of the number of nodes times

@@ -4,7 +4,7 @@
 //! It is Tarjan's search in depth, with one number for each node. None of this is proved: whoever
 //! takes the labels looks whether they are right.
 use super::next_of;
-use ld_base::memory::NoMemory;
+use ld_base::NoMemory;
 use std::alloc::Global;
 
 /// The label of each node, from 1 on. It takes time as the number of nodes and edges.
@@ -56,7 +56,7 @@ struct Walk {
 }
 
 impl Walk {
-    /// A walk that has entered none of so many nodes.
+    /// A walk that has entered none of this many nodes.
     fn new(alloc: Global, nodes: usize) -> Result<Walk, NoMemory> {
         let mut labels = Vec::with_capacity(alloc, nodes)?;
         for _node in 0..nodes {
@@ -71,7 +71,7 @@ impl Walk {
         })
     }
 
-    /// Goes on until the way is empty, by no more than so many steps.
+    /// Goes on until the way is empty, by no more than this many steps.
     fn go(&mut self, edges: &[Vec<usize>], steps: usize) -> Result<(), NoMemory> {
         for _step in 0..steps {
             let Some(visit) = self.way.pop() else {

@@ -4,7 +4,7 @@ ghost use Rattle.std.specs.List.{list_all, list_any};
 ghost use Rattle.ld_ways.specs.Graphs.{is_on_cycle};
 
 use super::next_of;
-use ld_base::memory::NoMemory;
+use ld_base::NoMemory;
 use std::alloc::Global;
 
 /// Whether the start was found to lead to itself. It takes time as the number of nodes and edges.

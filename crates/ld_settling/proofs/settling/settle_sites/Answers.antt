@@ -11,7 +11,7 @@ use Rattle.ld_settling.specs.SitesView.{unit_run_of}
 use Rattle.ld_settling.specs.UnitRuns.{RunSetting, unit_runs}
 use Rattle.ld_settling.proofs.CleanLinks.{clean_settled}
 use Rattle.ld_settling.proofs.Outcomes.{if_both, on_five, on_if}
-use Rattle.ld_settling.proofs.RunLinks.{bound_in_units, covers_in_units, sites_few, tidy_in_units}
+use Rattle.ld_settling.proofs.Linking.{bound_in_units, covers_in_units, sites_few, tidy_in_units}
 use Rattle.ld_settling.proofs.UnitSettling.{passed_run, settled_run, spends_in_unit}
 use Rattle.ld_settling.proofs.settling.settle_sites.Goals as goal
 

@@ -7,12 +7,12 @@ use Rattle.ld_firing.specs.Actions.{if_fitting}
 use Rattle.ld_firing.proofs.NewValues.{no_value, unfitted, fitted, worked_out}
 use Rattle.ld_state.proofs.SeenSame.{seen_same}
 use Rattle.ld_state.specs.RunState.{seen_in}
-use Rattle.ld_state.specs.StateView.{run_of}
+use Rattle.ld_state.specs.StateView.{run_of, seen_of}
 use Rattle.ld_firing.proofs.actor.Actor.new_value.Goals as goal
 
 pub returns-in_err-value-clause-cost : goal.returns-in_err-value-clause-cost
 returns-in_err-value-clause-cost g c =
-    worked_out c.args.self.now.unit.now c.args.owner c.args.change.now.value c.args.steps.now c.value_of.new.steps c.value_of.ensures.cost
+    worked_out c.args.self.now.unit.now (seen_of c.args.state.now) c.args.owner c.args.change.now.value c.args.steps.now c.value_of.new.steps c.value_of.ensures.cost
 
 pub returns-in_default-clause-value : goal.returns-in_default-clause-value
 returns-in_default-clause-value g c =
@@ -24,7 +24,7 @@ returns-in_default-clause-value g c =
 
 pub returns-in_default-clause-cost : goal.returns-in_default-clause-cost
 returns-in_default-clause-cost g c =
-    worked_out c.args.self.now.unit.now c.args.owner c.args.change.now.value c.args.steps.now c.value_of.new.steps c.value_of.ensures.cost
+    worked_out c.args.self.now.unit.now (seen_of c.args.state.now) c.args.owner c.args.change.now.value c.args.steps.now c.value_of.new.steps c.value_of.ensures.cost
 
 pub returns-then-not-fits-clause-value : goal.returns-then-not-fits-clause-value
 returns-then-not-fits-clause-value g c =
@@ -37,7 +37,7 @@ returns-then-not-fits-clause-value g c =
 
 pub returns-then-not-fits-clause-cost : goal.returns-then-not-fits-clause-cost
 returns-then-not-fits-clause-cost g c =
-    worked_out c.args.self.now.unit.now c.args.owner c.args.change.now.value c.args.steps.now c.value_of.new.steps c.value_of.ensures.cost
+    worked_out c.args.self.now.unit.now (seen_of c.args.state.now) c.args.owner c.args.change.now.value c.args.steps.now c.value_of.new.steps c.value_of.ensures.cost
 
 pub returns-clause-value : goal.returns-clause-value
 returns-clause-value g c =
@@ -50,4 +50,4 @@ returns-clause-value g c =
 
 pub returns-clause-cost : goal.returns-clause-cost
 returns-clause-cost g c =
-    worked_out c.args.self.now.unit.now c.args.owner c.args.change.now.value c.args.steps.now c.value_of.new.steps c.value_of.ensures.cost
+    worked_out c.args.self.now.unit.now (seen_of c.args.state.now) c.args.owner c.args.change.now.value c.args.steps.now c.value_of.new.steps c.value_of.ensures.cost

@@ -1,10 +1,10 @@
 use Rattle.std.proofs.Common.{◌≡◌, ◌<◌, ◌∙◌, IfSome, option_map, length, true, false, ap, sym, subst}
 use Rattle.ld_roles.specs.Changes.{persons_before}
-use Rattle.ld_roles.specs.Kept.{IsAsMarked, persons_of}
+use Rattle.ld_roles.specs.Kept.{IsAsSaved, persons_of}
 use Rattle.ld_roles.specs.Persons.{changed_at, holds_role}
 use Rattle.ld_roles.specs.Seats.{with_held}
 use Rattle.ld_roles.specs.declared.change.Change.TheVariants.{Gave}
-use Rattle.ld_roles.proofs.Marks.{free_to_hold, noted_keeps, noted_undoable, still_there}
+use Rattle.ld_roles.proofs.Savepoints.{free_to_hold, noted_keeps, noted_undoable, still_there}
 use Rattle.ld_roles.proofs.People.{changed_back}
 use Rattle.ld_roles.proofs.roster.Roster.assign.Goals as goal
 
@@ -15,7 +15,7 @@ invariant_of-self c =
     let role = c.args.role.0 in
     let person : p < length s.seats.rows = rw (ap (λ roster. roster.rows) (sym c.self.view_is)) at c.requires.person in
     let within : role < length s.seats.roles = rw (ap (λ roster. roster.roles) (sym c.self.view_is)) at c.requires.role in
-    rw c.and-self-inside.ensures (noted_undoable c.set.new.self s.mark (Gave p role) (still_there s.seats c.set.new.self p role (with_held role true) c.set.ensures.rows c.set.ensures.roles person within))
+    rw c.and-self-inside.ensures (noted_undoable c.set.new.self s.since (Gave p role) (still_there s.seats c.set.new.self p role (with_held role true) c.set.ensures.rows c.set.ensures.roles person within))
 
 pub returns-clause-kept : goal.returns-clause-kept
 returns-clause-kept c =
@@ -25,5 +25,5 @@ returns-clause-kept c =
     let person : p < length s.seats.rows = rw (ap (λ roster. roster.rows) (sym c.self.view_is)) at c.requires.person in
     let free : holds_role (persons_of s.seats.rows) role p ≡ false = ap (λ roster. holds_role (persons_of roster.rows) role p) c.self.view_is ∙ free_to_hold c.args.self.now.roles (persons_of c.args.self.now.rows) role p c.in_ok-may_assign.ensures.refused in
     let back : changed_at (with_held role false) p c.set.new.self.rows ≡ s.seats.rows = ap (changed_at (with_held role false) p) c.set.ensures.rows ∙ changed_back s.seats.rows p role false true person free in
-    let marked : IfSome (option_map (λ each. persons_before each s.seats.rows) s.mark) (λ kept. kept ≡ s.seats.rows) = subst IsAsMarked (sym c.self.view_is) c.requires.marked in
-    rw c.and-self-inside.ensures (noted_keeps s.mark (Gave p role) s.seats.rows c.set.new.self.rows back marked) ∙ ap (λ roster. roster.kept) c.self.view_is
+    let marked : IfSome (option_map (λ each. persons_before each s.seats.rows) s.since) (λ kept. kept ≡ s.seats.rows) = subst IsAsSaved (sym c.self.view_is) c.requires.saved in
+    rw c.and-self-inside.ensures (noted_keeps s.since (Gave p role) s.seats.rows c.set.new.self.rows back marked) ∙ ap (λ roster. roster.kept) c.self.view_is

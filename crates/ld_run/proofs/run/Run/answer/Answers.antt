@@ -37,7 +37,7 @@ pub invariant_of-self : goal.invariant_of-self
 invariant_of-self g c = (
   subst (λ (unit : Unit). IsStateOf unit c.step.new.state) c.deref.ensures c.step.ensures.own,
   subst (λ (unit : Unit). IsRunning unit (run_of c.step.new.state) c.step.new.links) c.deref.ensures c.step.ensures.running,
-  c.step.ensures.unmarked,
+  c.step.ensures.no_savepoint,
   returns-in_default-clause-reached g c,
 )
 
@@ -45,7 +45,7 @@ pub invariant_of-self-2 : goal.invariant_of-self-2
 invariant_of-self-2 g c = (
   subst (λ (unit : Unit). IsStateOf unit c.step.new.state) c.deref.ensures c.step.ensures.own,
   subst (λ (unit : Unit). IsRunning unit (run_of c.step.new.state) c.step.new.links) c.deref.ensures c.step.ensures.running,
-  c.step.ensures.unmarked,
+  c.step.ensures.no_savepoint,
   returns-clause-reached g c,
 )
 

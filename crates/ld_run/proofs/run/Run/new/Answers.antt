@@ -36,6 +36,6 @@ invariant_of-result g c = (
     order = subst (λ (unit : Unit). IsInOrder unit (run_of c.in_ok-state.state)) c.deref.ensures c.in_ok-state.ensures.order;
     linked = returns-clause-linked g c;
   },
-  c.in_ok-state.ensures.unmarked,
+  c.in_ok-state.ensures.no_savepoint,
   returns-clause-reached g c,
 )

@@ -1,14 +1,14 @@
-use Rattle.std.proofs.Common.{◌≡◌, ℕ, arith, refl, sym, ap, ◌∙◌, subst, inl, inr, Bool, List, [], get_or, true, Contains}
+use Rattle.std.proofs.Common.{◌≡◌, ℕ, arith, refl, sym, ap, ◌∙◌, subst, inl, inr, Bool, List, [], get_or, length, true, Contains}
 use Rattle.ld_graph.specs.Edges.{Edges, IsLinked}
 use Rattle.ld_graph.specs.Table.{has}
 use Rattle.ld_cascade.proofs.Edges.{follows_then}
 use Rattle.ld_state.specs.StateView.{run_of}
 use Rattle.ld_state.proofs.SeenSame.{persons_counted}
 use Rattle.ld_firing.specs.RunSystem.{run_system}
-use Rattle.ld_settling.specs.RunLinking.{AreLinksOf, RunLinksFollow, RunWiring, linked_with}
+use Rattle.ld_settling.specs.RunLinking.{AreLinksOf, AreNewcomers, IsNewcomer, RunLinksFollow, RunWiring, linked_with}
 use Rattle.ld_settling.proofs.CleanLinks.{rooms_stay}
 use Rattle.ld_settling.proofs.PersonsTold.{follows_loosened, links_of_persons}
-use Rattle.ld_settling.proofs.RunLinks.{slots_many}
+use Rattle.ld_settling.proofs.Linking.{slots_many}
 use Rattle.ld_settling.proofs.links.RunLinks.tell_persons.Goals as goal
 
 pub loosen_readers-requires : goal.loosen_readers-requires
@@ -33,8 +33,9 @@ returns-clause-linked c =
     let grown = c.in_ok-grow.ensures in
     let r = c.loosen_readers.ensures in
     let e = c.loosen_newcomers.ensures in
-    let count = c.rule_count-rules.ensures.count in
-    let persons = persons_counted c.args.state.now in
+    let joined = c.persons.ensures ∙ sym (persons_counted c.args.state.now) in
+    let between : (P : ℕ → ℕ → Type 0) → P c.args.before c.persons.result → P (length told.0.persons) (length t.persons) =
+    λ P is. subst (λ n. P n (length t.persons)) (sym told.1) (subst (P c.args.before) joined is) in
     let before = subst (λ (w : RunWiring). AreLinksOf unit told.0 w) (sym c.self.view_is) told.3 in
     let wired = links_of_persons unit told.0 t c.args.changed.now told.2 c.requires.sound told.4 refl
     c.self.inside.links c.grow.new.self c.loosen_readers.new.self c.loosen_newcomers.new.links
@@ -45,13 +46,11 @@ returns-clause-linked c =
       loosens = r.loosens;
     })
     e.rest
-    (λ rule place lower personal from below. e.dirty rule place (omega (arith, lower, count)) personal (omega (arith, from, told.1))
-    (omega (arith, below, c.persons.ensures, persons)))
-    (λ rule place lower personal from below. e.loose rule place (omega (arith, lower, count)) personal (omega (arith, from, told.1))
-    (omega (arith, below, c.persons.ensures, persons)))
+    (between (AreNewcomers unit c.loosen_newcomers.new.links.dirty) e.dirty)
+    (between (AreNewcomers unit c.loosen_newcomers.new.links.loose) e.loose)
     before.wired
     (record {
-      sites = omega (arith, grown.sites, r.sites, e.rest.sites, count);
+      sites = omega (arith, grown.sites, r.sites, e.rest.sites, c.count.ensures);
       slots = omega (
         arith,
         grown.slots,
@@ -73,7 +72,6 @@ returns-in_err-grow-clause-only c i is_in =
 
 pub returns-clause-only : goal.returns-clause-only
 returns-clause-only c i is_in =
-    let persons = persons_counted c.args.state.now in
     elim (c.loosen_newcomers.ensures.only i is_in) [
       | inl was ↦ elim (c.loosen_readers.ensures.only i was) [
         | inl first ↦ inl (subst (λ (w : RunWiring). has w.wiring.dirty i ≡ true) c.self.view_is (sym (c.grow.ensures.dirty i) ∙ first))
@@ -84,14 +82,7 @@ returns-clause-only c i is_in =
               (subst (λ (row : List ℕ). Contains row read.0) (c.grow.ensures.edges i) read.2),
         ))
       ]
-      | inr new ↦ inr (inr (record {
-        rule = new.rule;
-        place = new.place;
-        number = new.number;
-        personal = new.personal;
-        is_from = omega (arith, new.is_from);
-        is_below = omega (arith, new.is_below, c.persons.ensures, persons);
-      }))
+      | inr new ↦ inr (inr (subst (λ n. IsNewcomer c.args.unit.now c.args.before n i) (c.persons.ensures ∙ sym (persons_counted c.args.state.now)) new))
     ]
 
 pub returns-in_err-grow-clause-follows : goal.returns-in_err-grow-clause-follows

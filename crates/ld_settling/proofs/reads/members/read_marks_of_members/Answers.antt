@@ -14,8 +14,9 @@ use Rattle.ld_settling.proofs.reads.members.read_marks_of_members.Goals as goal
 pub returns-in_err-read_mark_of-clause-short : goal.returns-in_err-read_mark_of-clause-short
 returns-in_err-read_mark_of-clause-short g c =
     let unit = c.args.reader.now.unit.now in
-    let looks : ℕ → List CellName = λ p. done_looks unit (of_person p) c.args.target.now in
-    let member = is_member (seen_in unit (run_of c.args.reader.now.state.now)) c.args.role.0 in
+    let seen = seen_in unit (run_of c.args.reader.now.state.now) in
+    let looks : ℕ → List CellName = λ p. done_looks unit seen (of_person p) c.args.target.now in
+    let member = is_member seen c.args.role.0 in
     let i = c.loop-number.number in
     let end = c.persons-number-end.result in
     so_err c.from_residual.result
@@ -30,8 +31,9 @@ returns-in_err-read_mark_of-clause-cost g c =
 pub loop-number-preserved : goal.loop-number-preserved
 loop-number-preserved g c =
     let unit = c.args.reader.now.unit.now in
-    let looks : ℕ → List CellName = λ p. done_looks unit (of_person p) c.args.target.now in
-    let member = is_member (seen_in unit (run_of c.args.reader.now.state.now)) c.args.role.0 in
+    let seen = seen_in unit (run_of c.args.reader.now.state.now) in
+    let looks : ℕ → List CellName = λ p. done_looks unit seen (of_person p) c.args.target.now in
+    let member = is_member seen c.args.role.0 in
     let i = c.loop-number.number in
     let end = c.persons-number-end.result in
     let counted = range_counted i end c.loop-number-test.true in (

@@ -14,7 +14,7 @@ invariant-loop-number g l =
     let unit = l.reader.unit.now in
     let run = run_of l.reader.state.now in
     let seen = seen_in unit run in
-    let looks = of_members (λ p. done_looks unit (of_person p) l.target) (is_member seen l.role.0) in
+    let looks = of_members (λ p. done_looks unit seen (of_person p) l.target) (is_member seen l.role.0) in
     let left = range_with_len l.number (l.number-end - l.number) in
     Remaining unit run (looks (everyone seen)) (looks left) l.fn.list l.list
     × (l.steps + length left ≤ l.fn.steps + length (everyone seen))

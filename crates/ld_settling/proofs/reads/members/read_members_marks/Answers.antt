@@ -13,7 +13,7 @@ pub returns-in-Some-clause-gathers : goal.returns-in-Some-clause-gathers
 returns-in-Some-clause-gathers g c =
     let unit = c.args.reader.now.unit.now in
     let run = run_of c.args.reader.now.state.now in
-    let looks : ℕ → List CellName = λ p. done_looks unit (of_person p) c.args.target.now in
+    let looks : ℕ → List CellName = λ p. done_looks unit (seen_in unit run) (of_person p) c.args.target.now in
     subst
     (λ (number : Option ℕ). OnOk c.read_marks_of_members.result
     (Gathers unit run (flat_map looks (list_from (members (seen_in unit run)) number)) c.args.list.now c.read_marks_of_members.new.list))
@@ -23,7 +23,7 @@ pub returns-in-Some-clause-short : goal.returns-in-Some-clause-short
 returns-in-Some-clause-short g c =
     let unit = c.args.reader.now.unit.now in
     let run = run_of c.args.reader.now.state.now in
-    let looks : ℕ → List CellName = λ p. done_looks unit (of_person p) c.args.target.now in
+    let looks : ℕ → List CellName = λ p. done_looks unit (seen_in unit run) (of_person p) c.args.target.now in
     subst
     (λ (number : Option ℕ). OnErr c.read_marks_of_members.result
     (FallsShort unit run (flat_map looks (list_from (members (seen_in unit run)) number)) c.args.list.now))
