@@ -8,7 +8,6 @@ use Rattle.ld_model.specs.Counting.{each_numbered}
 use Rattle.ld_model.specs.declared.activity.Activity.{Activity as ActivityOf}
 use Rattle.ld_model.specs.declared.cell.CellName.{CellName}
 use Rattle.ld_model.specs.declared.cell.Owner.{Owner}
-use Rattle.ld_model.specs.declared.cell.Owner.TheVariants.{Run}
 use Rattle.ld_model.specs.declared.completion.Change.{Change as ChangeOf}
 use Rattle.ld_model.specs.declared.completion.OnCompletion.{OnCompletion}
 use Rattle.ld_model.specs.declared.condition.Action.{Action}

@@ -1,5 +1,5 @@
 -- Which sites are judged first once a run has changed, and what its settling takes.
-use Rattle.std.proofs.Common.{◌≡◌, refl, sym, ap, ◌∙◌, ℕ, ◌+◌, ◌*◌, ◌≤◌, ◌⊎◌, inl, inr, List, length, Bool, true, false, not, ◌||◌, Contains, arith}
+use Rattle.std.proofs.Common.{◌≡◌, refl, sym, ap, ◌∙◌, ℕ, ◌+◌, ◌≤◌, ◌⊎◌, inl, inr, List, length, Bool, true, false, not, ◌||◌, Contains, arith}
 use Rattle.ld_graph.specs.Edges.{IsLinked}
 use Rattle.ld_graph.specs.Table.{has}
 use Rattle.ld_cascade.specs.Settling.{all_firings}
