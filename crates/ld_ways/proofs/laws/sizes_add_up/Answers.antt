@@ -1,5 +1,0 @@
-use Rattle.ld_ways.proofs.Bounded.{add_up}
-use Rattle.ld_ways.proofs.laws.sizes_add_up.Goals as goal
-
-pub returns : goal.returns
-returns c own g = add_up own g
