@@ -81,6 +81,24 @@ Passed-more {old} {mid} {new} {before} {between} {now} {line} passed cut all_bla
       shorter = omega (arith, passed.shorter, length-append mid.held cut.piece, length-append passed.piece cut.piece, Ends-shorter (mid.held ++ cut.piece) line new ends);
     }
 
+nothing : (xs : List ℕ) → length xs ≡ 0 → xs ≡ []
+nothing [] e = refl
+nothing (x ∷ xs) e = absurd (cc e)
+
+-- A piece that is passed over takes no ended line with it, where nothing more was taken.
+pub same_ended : {mid new : LinesRead} {between now : Option (List ℕ)} {line : List ℕ} → CutsOff mid between (WholeLine line) new now → list_all is_blank line ≡ true → new.taken ≡ mid.taken → new.ended ≡ false → ended_lines_of mid.held ≡ ended_lines_of new.held
+same_ended {mid} {new} {between} {now} {line} cut all_blank same going =
+    let none : cut.piece ≡ [] = nothing cut.piece (omega (arith, cut.takes.counted, same)) in
+    let one = Leaves-piece (mid.held ++ cut.piece) line new cut.cuts_of.0 in
+    sym (ap ended_lines_of (append-nil (mid.held ++ cut.piece) ∙ ap (λ xs. mid.held ++ xs) none ∙ append-nil mid.held))
+    ∙ one.by_feed [] going
+    ∙ ap (λ lines. lines ++ ended_lines_of (new.held ++ [])) (without_blank-passed line (blank line cut.cuts_of.1 all_blank))
+    ∙ ap ended_lines_of (append-nil new.held)
+
+-- Where an ended line is held, a cut asks nothing, and so the source is the first one still.
+pub still_unasked : {S : Type 0} {first mid last : S} (held : List ℕ) → (mid ≡ first) × (ended_lines_of held ≢ []) → ((HasNoFeed held → ⊥) → last ≡ mid) → last ≡ first
+still_unasked held was asks = asks (λ clear. was.1 (ended_lines_of-none held clear)) ∙ was.0
+
 -- What `advance` answers, by what the last piece was.
 pub HandsOut-whole : {old mid new : LinesRead} {before between now : Option (List ℕ)} {line : List ℕ} → Passed old before mid between → CutsOff mid between (WholeLine line) new now → list_all is_blank line ≡ false → new.taken ≤ 2 ^ 40 → HandsOut old before (WholeLine line) new now
 HandsOut-whole {old} {mid} {new} {before} {between} {now} {line} passed cut some limit =

@@ -43,6 +43,10 @@ pub record Fetches (old : LinesRead) (before : Option (List ℕ)) (new : LinesRe
   pub held : new.held ≡ old.held ++ piece
   pub ended : new.ended ≡ false
 
+-- Nothing was asked of the source, and its end is not told.
+abbrev pub AsksNothing : {S : Type 0} → LinesRead → S → LinesRead → S → Type 0
+AsksNothing old before new now = (now ≡ before) × (new.taken ≡ old.taken) × (new.ended ≡ false)
+
 -- What a cut says of the bytes that were held or taken.
 abbrev pub CutsOf : List ℕ → Answer → LinesRead → Type 0
 CutsOf bytes (WholeLine line) new = Ends bytes line new × (length line ≤ 65536)

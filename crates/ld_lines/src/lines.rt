@@ -49,7 +49,8 @@ impl Lines {
     /// at most 65,536 bytes that are all spaces, tabs and carriage returns is passed over. Takes no
     /// memory.
     ///
-    /// The lines are of one source: each call is given the same. Once it told its end, it is not
+    /// The lines are of one source: each call is given the same. Where a line that a line feed ends
+    /// is held already, it is not asked. Once it told its end, it is not
     /// asked again, and every further answer is `End`. The end comes only where fewer than 2^40
     /// bytes were taken.
     ///
@@ -66,6 +67,7 @@ impl Lines {
         ensures counts { S.faults source.old ≤ S.faults source.new }
         ensures after_end { self.old.ended ≡ true → source.new ≡ source.old }
         ensures after_limit { self.old.taken ≡ 2 ^ 40 → source.new ≡ source.old }
+        ensures unasked { ended_lines_of self.old.held ≢ [] → source.new ≡ source.old }
     {
         match self.reader.advance(source)? {
             Cut::Whole => Ok(Next::Whole(self.reader.line())),

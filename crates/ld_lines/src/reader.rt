@@ -4,7 +4,7 @@ ghost use Rattle.ld_base.specs.Outside.{Rose};
 ghost use Rattle.ld_lines.specs.Lines.{HasNoFeed, ended_lines_of, is_blank, is_passed_over};
 ghost use Rattle.ld_lines.specs.Reading.{IsEnd};
 ghost use Rattle.ld_lines.specs.Answer.{HandsOut};
-ghost use Rattle.ld_lines.specs.Cutting.{Cutting, FeedAt, Fetches, CutsOf, CutsOff, StopsAt, answer_of_cut};
+ghost use Rattle.ld_lines.specs.Cutting.{AsksNothing, Cutting, FeedAt, Fetches, CutsOf, CutsOff, StopsAt, answer_of_cut};
 ghost use Rattle.std.specs.List.{list_all};
 
 use crate::buffer::Buffer;
@@ -108,6 +108,7 @@ impl Reader {
         ensures counts { S.faults source.old ≤ S.faults source.new }
         ensures after_end { self.old.reading.ended ≡ true → source.new ≡ source.old }
         ensures after_limit { self.old.reading.taken ≡ 2 ^ 40 → source.new ≡ source.old }
+        ensures unasked { ended_lines_of self.old.reading.held ≢ [] → source.new ≡ source.old }
     {
         loop {
             match self.next_piece(source)? {
@@ -145,6 +146,8 @@ impl Reader {
         ensures counts { S.faults source.old ≤ S.faults source.new }
         ensures after_end { self.old.reading.ended ≡ true → source.new ≡ source.old }
         ensures after_limit { self.old.reading.taken ≡ 2 ^ 40 → source.new ≡ source.old }
+        ensures unasked { (HasNoFeed self.old.reading.held → ⊥)
+            → AsksNothing self.old.reading source.old self.new.reading source.new }
     {
         if self.ended {
             return Ok(Cut::End);

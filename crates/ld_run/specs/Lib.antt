@@ -3,6 +3,7 @@ pub mod CommandWork
 pub mod FittingCommands
 pub mod Linked
 pub mod Reached
+pub mod Reply
 pub mod Running
 pub mod RunStep
 pub mod RunView

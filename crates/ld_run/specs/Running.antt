@@ -7,8 +7,8 @@ use Rattle.ld_firing.specs.RunSystem.{IsSoundRun}
 use Rattle.ld_settling.specs.RunLinking.{RunWiring}
 use Rattle.ld_sharing.specs.Fitting.{HasFittingGlobals}
 use Rattle.ld_replies.specs.Printing.{AreNoticesOf}
-use Rattle.ld_checks.specs.AdmittedView.{IsPossible}
-use Rattle.ld_checks.specs.Commands.{Admitted}
+use Rattle.ld_admission.specs.AdmittedView.{IsPossible}
+use Rattle.ld_admission.specs.Commands.{Admitted}
 use Rattle.ld_run.specs.FittingCommands.{WritesFitting}
 use Rattle.ld_run.specs.Linked.{HasLinks}
 

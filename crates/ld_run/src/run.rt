@@ -1,17 +1,22 @@
 //! A run of a unit.
-ghost use Rattle.std.specs.Prelude.{◌≡◌, ◌≤◌, IfOk, None};
+ghost use Rattle.std.specs.Prelude.{◌≡◌, ◌≤◌, Err, IfOk, None, false};
 ghost use Rattle.ld_base.specs.Roomy.{room_of};
 ghost use Rattle.ld_roles.specs.declared.limit.TheConstants.{SEATS};
 ghost use Rattle.ld_state.specs.RunState.{made_at};
 ghost use Rattle.ld_state.specs.StateView.{IsStateOf, run_of};
 ghost use Rattle.ld_value.specs.Calendar.{IsMoment};
 ghost use Rattle.ld_sharing.specs.StoreView.{Serves, values_of};
+ghost use Rattle.ld_admission.specs.AdmittedView.{wants_memory};
+ghost use Rattle.ld_admission.specs.Checks.{admitted};
+ghost use Rattle.ld_admission.specs.Refusals.{Refusal};
+ghost use Rattle.ld_run.specs.Reply.{reply_to_refusal};
 ghost use Rattle.ld_run.specs.Linked.{HasLinks as AreLinked};
 ghost use Rattle.ld_run.specs.Reached.{IsReached};
 ghost use Rattle.ld_run.specs.Running.{IsInOrder};
 ghost use Rattle.ld_run.specs.RunView.{AnswersCommand};
 
 use crate::command_room::{CommandRoom, Scratch};
+use crate::reply::Reply;
 use crate::stages::step;
 use ld_base::{NoMemory, Steps, Text};
 use ld_cells::UndoLog;
@@ -92,10 +97,13 @@ impl Run {
         Ok(Run { unit, state, links })
     }
 
-    /// Does the command at the moment, or refuses it: `out` is emptied and then holds the reply
-    /// block. The run takes in the store's values of its global properties, and the store takes
-    /// them back. Where memory runs out the block says so, and the command counts as not given.
-    /// Lists that it makes on its way stand in the room that is lent.
+    /// Does the command at the moment, or refuses it: the reply says which, and `out` is emptied and
+    /// then holds the reply block. The run takes in the store's values of its global properties, and
+    /// the store takes them back. Lists that it makes on its way stand in the room that is lent.
+    ///
+    /// Where memory runs out the reply says so, and the command counts as not given. What a check
+    /// refuses is answered by that refusal, with or without memory; the value of a `set` alone may
+    /// want some before.
     pub fn apply<L: Ledger>(
         &mut self,
         alloc: Global,
@@ -105,14 +113,17 @@ impl Run {
         command: &RunCommand,
         out: &mut Text,
         steps: &mut Steps<L>,
-    )
+    ) -> Reply
         requires serves { Serves globals.old self.old.unit }
         requires moment { IsMoment moment.0 }
         requires room { 128 ≤ room_of out.old }
         ensures unit { self.new.unit ≡ self.old.unit }
         ensures answers { AnswersCommand self.old.unit (run_of self.old.state)
-            (values_of globals.old) moment.0 command.now out.new.bytes (run_of self.new.state)
-            (values_of globals.new) }
+            (values_of globals.old) moment.0 command.now result out.new.bytes
+            (run_of self.new.state) (values_of globals.new) }
+        ensures checked { (refusal : Refusal)
+            → admitted self.old.unit (run_of self.old.state) moment.0 command.now ≡ Err refusal
+            → wants_memory command.now ≡ false → result ≡ reply_to_refusal refusal }
         ensures declared { globals.new.declared ≡ globals.old.declared }
         ensures reached { IsReached self.new.unit (run_of self.new.state) }
         ensures linked { AreLinked self.new.unit (run_of self.new.state) self.new.links }
@@ -121,8 +132,9 @@ impl Run {
     {
         self.exchange(&mut lent.undo_log);
         let scratch = &mut lent.scratch;
-        self.answer(alloc, globals, scratch, moment, command, out, steps);
+        let reply = self.answer(alloc, globals, scratch, moment, command, out, steps);
         self.exchange(&mut lent.undo_log);
+        reply
     }
 
     /// Exchanges the room in which the state records writes with that of the log.
@@ -145,20 +157,23 @@ impl Run {
         command: &RunCommand,
         out: &mut Text,
         steps: &mut Steps<L>,
-    )
+    ) -> Reply
         requires serves { Serves globals.old self.old.unit }
         requires moment { IsMoment moment.0 }
         requires room { 128 ≤ room_of out.old }
         ensures unit { self.new.unit ≡ self.old.unit }
         ensures answers { AnswersCommand self.old.unit (run_of self.old.state)
-            (values_of globals.old) moment.0 command.now out.new.bytes (run_of self.new.state)
-            (values_of globals.new) }
+            (values_of globals.old) moment.0 command.now result out.new.bytes
+            (run_of self.new.state) (values_of globals.new) }
+        ensures checked { (refusal : Refusal)
+            → admitted self.old.unit (run_of self.old.state) moment.0 command.now ≡ Err refusal
+            → wants_memory command.now ≡ false → result ≡ reply_to_refusal refusal }
         ensures declared { globals.new.declared ≡ globals.old.declared }
         ensures reached { IsReached self.new.unit (run_of self.new.state) }
         ensures linked { AreLinked self.new.unit (run_of self.new.state) self.new.links }
         ensures room { 128 ≤ room_of out.new }
     {
-        let Err(refusal) = step(
+        let refusal = match step(
             alloc,
             &self.unit,
             &mut self.state,
@@ -169,10 +184,12 @@ impl Run {
             command,
             out,
             steps,
-        ) else {
-            return;
+        ) {
+            Ok(totals) => return Reply::Done(totals),
+            Err(refusal) => refusal,
         };
         tell_refusal(refusal, out);
+        Reply::refused(refusal)
     }
 }
 

@@ -10,19 +10,19 @@ ghost use Rattle.ld_run.specs.CommandWork.{MayCount, judged_first, steps_settlin
 ghost use Rattle.ld_firing.specs.SettledView.{settlement_of, sums_in};
 ghost use Rattle.ld_cascade.specs.Settling.{plus};
 ghost use Rattle.ld_settling.specs.RunLinking.{AreCleanLinks, AreLinksOf, RunLinksFollow, RunWiring};
-ghost use Rattle.ld_checks.specs.AdmittedView.{admitted_of};
-ghost use Rattle.ld_checks.specs.Checks.{is_started};
+ghost use Rattle.ld_admission.specs.AdmittedView.{admitted_of};
+ghost use Rattle.ld_admission.specs.Checks.{is_started};
 ghost use Rattle.ld_run.specs.Changes.{has_change};
 ghost use Rattle.ld_run.specs.Linked.{HasLinks, MayRelink, relinking_of, relinks_all};
 ghost use Rattle.ld_replies.specs.Printing.{IsPrintable};
-ghost use Rattle.ld_checks.specs.RefusalView.{RefusesWith, refusal_of};
+ghost use Rattle.ld_admission.specs.RefusalView.{RefusesWith, refusal_of};
 ghost use Rattle.ld_run.specs.Running.{IsInOrder, IsRunning};
 ghost use Rattle.ld_run.specs.RunStep.{settled};
 
 use crate::command_room::Scratch;
+use ld_admission::{Admitted, Refusal};
 use ld_base::{NoMemory, Steps};
 use ld_cascade::{Settled, Stop};
-use ld_checks::{Admitted, Refusal};
 use ld_model::{CellName, View};
 use ld_rules::PreparedUnit;
 use ld_settling::{RunLinks, restore, settle};
@@ -82,8 +82,18 @@ pub(crate) fn settle_if<L: Ledger>(
     }
     match settle(alloc, unit, state, links, steps) {
         Ok(totals) => Ok(totals),
-        Err(Stop::TurnBudget) => Err(Refusal::TurnBudget),
-        Err(Stop::NoMemory) => Err(Refusal::NoMemory),
+        Err(stop) => Err(refusal_of_stop(stop)),
+    }
+}
+
+/// The refusal of a command whose settling stopped so: each cause has its own.
+fn refusal_of_stop(stop: Stop) -> Refusal<'static>
+    ensures budget { stop ≡ Stop.TurnBudget → result ≡ Refusal.TurnBudget }
+    ensures memory { stop ≡ Stop.NoMemory → result ≡ Refusal.NoMemory }
+{
+    match stop {
+        Stop::TurnBudget => Refusal::TurnBudget,
+        Stop::NoMemory => Refusal::NoMemory,
     }
 }
 

@@ -1,5 +1,5 @@
 //! What a command does to its run and to the store, in stages.
-ghost use Rattle.std.specs.Prelude.{◌≡◌, ◌++◌, ◌∷◌, [], false, IfErr, IfOk, None, Ok, OnErr, OnOk};
+ghost use Rattle.std.specs.Prelude.{◌≡◌, ◌++◌, ◌∷◌, [], false, Err, IfErr, IfOk, None, Ok, OnErr, OnOk};
 ghost use Rattle.ld_base.specs.Roomy.{KeepsRoom};
 ghost use Rattle.ld_state.specs.GlobalValues.{GlobalValues};
 ghost use Rattle.ld_state.specs.StateView.{HasSavedPersons, IsStateOf, run_of};
@@ -8,10 +8,13 @@ ghost use Rattle.ld_value.specs.Calendar.{IsMoment};
 ghost use Rattle.ld_sharing.specs.Globals.{giving_back};
 ghost use Rattle.ld_sharing.specs.StoreView.{Serves, values_of};
 ghost use Rattle.ld_sharing.specs.Writes.{AreWritesOf};
-ghost use Rattle.ld_checks.specs.AdmittedView.{admitted_of};
+ghost use Rattle.ld_admission.specs.AdmittedView.{admitted_of, wants_memory};
 ghost use Rattle.ld_replies.specs.Printing.{IsPrintable, IsTellable};
 ghost use Rattle.ld_run.specs.Changes.{renews_sites};
-ghost use Rattle.ld_checks.specs.RefusalView.{RefusesWith, refusal_of};
+ghost use Rattle.ld_admission.specs.RefusalView.{RefusesWith, refusal_of};
+ghost use Rattle.ld_admission.specs.Checks.{admitted};
+ghost use Rattle.ld_admission.specs.Refusals.{Refusal as Reason};
+ghost use Rattle.ld_run.specs.Reply.{IsRefusedWith, numbers_of};
 ghost use Rattle.ld_run.specs.RunView.{done_text};
 ghost use Rattle.ld_run.specs.Running.{IsInOrder, IsRunning, MayBeDone};
 ghost use Rattle.ld_run.specs.RunStep.{DoneCommand, done_by, run_step};
@@ -20,9 +23,9 @@ ghost use Rattle.ld_run.specs.StageView.{done_with};
 use crate::command_room::Scratch;
 use crate::doing::do_admitted;
 use crate::settling::{leaves_unmoved, take_back};
+use ld_admission::{Admitted, Refusal, admit};
 use ld_base::{NoMemory, Steps, Text};
 use ld_cascade::Settled;
-use ld_checks::{Admitted, Refusal, admit};
 use ld_globals::Globals;
 use ld_lines::RunCommand;
 use ld_replies::push_done;
@@ -48,17 +51,21 @@ pub(crate) fn step<'a, L: Ledger>(
     command: &'a RunCommand,
     out: &mut Text,
     steps: &mut Steps<L>,
-) -> Result<(), Refusal<'a>>
+) -> Result<Settled, Refusal<'a>>
     requires own { IsStateOf unit.now state.old }
     requires running { IsRunning unit.now (run_of state.old) links.old }
     requires serves { Serves globals.old unit.now }
     requires moment { IsMoment moment.0 }
     requires no_savepoint { state.old.kept ≡ None }
-    ensures done { OnOk result ((d : DoneCommand) × (run_step unit.now (run_of state.old)
+    ensures done { IfOk result (λ totals. (d : DoneCommand) × (run_step unit.now (run_of state.old)
         (values_of globals.old) moment.0 command.now ≡ Ok d) × (run_of state.new ≡ d.state)
-        × (values_of globals.new ≡ d.store) × (out.new.bytes ≡ done_text unit.now d ++ 10 ∷ [])) }
+        × (values_of globals.new ≡ d.store) × (out.new.bytes ≡ done_text unit.now d ++ 10 ∷ [])
+        × (totals ≡ numbers_of d.turns d.sums)) }
     ensures refused { IfErr result (RefusesWith
         (run_step unit.now (run_of state.old) (values_of globals.old) moment.0 command.now)) }
+    ensures checked { (refusal : Reason)
+        → admitted unit.now (run_of state.old) moment.0 command.now ≡ Err refusal
+        → wants_memory command.now ≡ false → IsRefusedWith refusal result }
     ensures back { OnErr result (run_of state.new ≡ run_of state.old) }
     ensures untouched { OnErr result (values_of globals.new ≡ values_of globals.old) }
     ensures declared { globals.new.declared ≡ globals.old.declared }
@@ -89,16 +96,17 @@ fn try_admitted<'a, L: Ledger>(
     command: &Admitted<'_>,
     out: &mut Text,
     steps: &mut Steps<L>,
-) -> Result<(), Refusal<'a>>
+) -> Result<Settled, Refusal<'a>>
     requires own { IsStateOf unit.now state.old }
     requires running { IsRunning unit.now (run_of state.old) links.old }
     requires serves { Serves globals.old unit.now }
     requires may { MayBeDone unit.now (run_of state.old) moment.0 (admitted_of command.now) }
     requires no_savepoint { state.old.kept ≡ None }
-    ensures done { OnOk result ((d : DoneCommand) × (done_by unit.now (run_of state.old)
+    ensures done { IfOk result (λ totals. (d : DoneCommand) × (done_by unit.now (run_of state.old)
         (values_of globals.old) moment.0 (admitted_of command.now) ≡ Ok d)
         × (run_of state.new ≡ d.state) × (values_of globals.new ≡ d.store)
-        × (out.new.bytes ≡ done_text unit.now d ++ 10 ∷ [])) }
+        × (out.new.bytes ≡ done_text unit.now d ++ 10 ∷ [])
+        × (totals ≡ numbers_of d.turns d.sums)) }
     ensures refused { IfErr result (RefusesWith (done_by unit.now (run_of state.old)
         (values_of globals.old) moment.0 (admitted_of command.now))) }
     ensures back { OnErr result (run_of state.new ≡ run_of state.old) }
@@ -115,10 +123,10 @@ fn try_admitted<'a, L: Ledger>(
     match do_and_tell(
         alloc, unit, state, links, globals, scratch, moment, command, out, steps,
     ) {
-        Ok(writes) => {
+        Ok((totals, writes)) => {
             state.keep();
             give_back(globals, writes);
-            Ok(())
+            Ok(totals)
         }
         Err(refusal) => {
             state.undo();
@@ -128,8 +136,8 @@ fn try_admitted<'a, L: Ledger>(
     }
 }
 
-/// Does an admitted command, tells it, and gives the writes by which the store is to take the run's
-/// values. After a refusal the state is another one with the same savepoint.
+/// Does an admitted command, tells it, and gives its numbers and the writes by which the store is
+/// to take the run's values. After a refusal the state is another one with the same savepoint.
 fn do_and_tell<'u, L: Ledger>(
     alloc: Global,
     unit: &'u PreparedUnit,
@@ -141,19 +149,20 @@ fn do_and_tell<'u, L: Ledger>(
     command: &Admitted<'_>,
     out: &mut Text,
     steps: &mut Steps<L>,
-) -> Result<Vec<Write<'u>>, Refusal<'static>>
+) -> Result<(Settled, Vec<Write<'u>>), Refusal<'static>>
     requires own { IsStateOf unit.now state.old }
     requires running { IsRunning unit.now (run_of state.old) links.old }
     requires serves { Serves globals.old unit.now }
     requires may { MayBeDone unit.now (run_of state.old) moment.0 (admitted_of command.now) }
     requires persons { HasSavedPersons state.old }
-    ensures done { OnOk result ((d : DoneCommand) × (done_by unit.now (run_of state.old)
+    ensures done { IfOk result (λ done. (d : DoneCommand) × (done_by unit.now (run_of state.old)
         (values_of globals.old) moment.0 (admitted_of command.now) ≡ Ok d)
         × (run_of state.new ≡ d.state)
         × (giving_back unit.now (run_of state.new) (values_of globals.old) ≡ d.store)
-        × (out.new.bytes ≡ done_text unit.now d ++ 10 ∷ [])) }
-    ensures writes { IfOk result (λ writes.
-        AreWritesOf unit.now (run_of state.new) globals.new writes.items) }
+        × (out.new.bytes ≡ done_text unit.now d ++ 10 ∷ [])
+        × (done.0 ≡ numbers_of d.turns d.sums)) }
+    ensures writes { IfOk result (λ done.
+        AreWritesOf unit.now (run_of state.new) globals.new done.1.items) }
     ensures refused { IfErr result (RefusesWith (done_by unit.now (run_of state.old)
         (values_of globals.old) moment.0 (admitted_of command.now))) }
     ensures values { values_of globals.new ≡ values_of globals.old }
@@ -177,10 +186,10 @@ fn do_and_tell<'u, L: Ledger>(
     }
     if leaves_unmoved(command, totals) {
         // The store has the values of a run that is as it was when it had taken them in.
-        return Ok(Vec::new(alloc));
+        return Ok((totals, Vec::new(alloc)));
     }
     match prepare(alloc, unit, state, globals, steps) {
-        Ok(writes) => Ok(writes),
+        Ok(writes) => Ok((totals, writes)),
         Err(_) => Err(Refusal::NoMemory),
     }
 }

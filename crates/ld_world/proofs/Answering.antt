@@ -1,5 +1,5 @@
 -- How a line is answered.
-use Rattle.std.proofs.Common.{◌≡◌, ℕ, List, [], ◌∷◌, ◌++◌, map, Option, None, Some, is_some, option_map, Result, Ok, Err, OnOk, subst, true, false, inl, inr, refl, sym, ap, ◌∙◌, codes}
+use Rattle.std.proofs.Common.{◌≡◌, ℕ, List, [], ◌∷◌, ◌++◌, map, Option, None, Some, is_some, option_map, Result, Ok, Err, IfOk, subst, true, false, inl, inr, refl, sym, ap, ◌∙◌, codes}
 use Rattle.std.proofs.lemmas.List.{map-append}
 use Rattle.std.specs.List.{IsDistinct}
 use Rattle.std.specs.Map.{keys_of, lookup, set_value}
@@ -14,41 +14,53 @@ use Rattle.ld_globals.specs.Store.{Store}
 use Rattle.ld_sharing.specs.StoreView.{values_of}
 use Rattle.ld_state.specs.RunState.{RunState, made_at}
 use Rattle.ld_state.specs.StateView.{run_of}
-use Rattle.ld_checks.specs.Refusals.{Refusal, BadLine, UnknownUnit, RunExists, UnknownRun, NoMemory, ◌unless_refused◌ as ◌>>=◌}
+use Rattle.ld_admission.specs.Refusals.{Refusal, BadLine, UnknownUnit, RunExists, UnknownRun, NoMemory, ◌unless_refused◌ as ◌>>=◌}
 use Rattle.ld_replies.specs.Replies.{refusal_text}
 use Rattle.ld_run.specs.RunStep.{DoneCommand, run_step}
 use Rattle.ld_run.specs.RunView.{AnswersCommand, RunView, block_of, state_after, store_after}
-use Rattle.ld_world.specs.Answers.{AnswersLine}
+use Rattle.ld_run.specs.Reply.{done_alone, reply_of, reply_to_refusal}
+use Rattle.ld_run.specs.declared.reply.Reply.{Reply}
+use Rattle.ld_world.specs.Answers.{RepliesTo, reply_to_deed, reply_to_line}
 use Rattle.ld_world.specs.World.{DoneLine, RunOf, WorldState, deed_text, in_state, made, ran, reply_block, run_named, unit_named, with_run, world_after, world_step}
 use Rattle.ld_world.specs.WorldView.{run_named_so, world_with}
 use Rattle.ld_world.proofs.Named.{found_run, is_there, set_in_state, set_same}
 
-pub on_ok : {A B : Type 0} {P Q : Type 0} (r : Result A B) → OnOk r P → (P → Q) → OnOk r Q
-on_ok (Ok x) p next = next p
-on_ok (Err e) p next = p
-
-pub on_ok_too : {A B : Type 0} {P Q R : Type 0} (r : Result A B) → OnOk r P → OnOk r Q → (P → Q → R) → OnOk r R
-on_ok_too (Ok x) p q next = next p q
-on_ok_too (Err e) p q next = p
+pub if_ok : {A B : Type 0} {P Q : A → Type 0} (r : Result A B) → IfOk r P → ((x : A) → P x → Q x) → IfOk r Q
+if_ok (Ok x) p next = next x p
+if_ok (Err e) p next = p
 
 -- ---- any line
 
+-- What is answered to a refusal.
+abbrev pub IsRefusedBy : Refusal → Reply → List ℕ → Type 0
+IsRefusedBy refusal reply text = (reply ≡ reply_to_refusal refusal) × (text ≡ refusal_text refusal ++ 10 ∷ [])
+
 -- A line that is refused.
-pub refused_line : (w : WorldState) (line : Option Line) (refusal : Refusal) (text : List ℕ) → world_step w line ≡ Err refusal
-    → text ≡ refusal_text refusal ++ 10 ∷ [] → AnswersLine w line text w
+pub refused_line : (w : WorldState) (line : Option Line) (refusal : Refusal) (reply : Reply) (text : List ℕ)
+    → world_step w line ≡ Err refusal → IsRefusedBy refusal reply text → RepliesTo w line reply text w
 unfolding reply_block
-refused_line w line refusal text step is = inl (is ∙ ap reply_block (sym step), ap (world_after w) (sym step))
+refused_line w line refusal reply text step is = inl (
+  is.0 ∙ ap reply_to_line (sym step),
+  is.1 ∙ ap reply_block (sym step),
+  ap (world_after w) (sym step),
+)
 
 -- A line that is done.
-pub done_line : (w : WorldState) (line : Option Line) (done : DoneLine) (text : List ℕ) → world_step w line ≡ Ok done
-    → text ≡ deed_text done.deed ++ 10 ∷ [] → AnswersLine w line text done.world
+pub done_line : (w : WorldState) (line : Option Line) (done : DoneLine) (reply : Reply) (text : List ℕ)
+    → world_step w line ≡ Ok done → reply ≡ reply_to_deed done.deed → text ≡ deed_text done.deed ++ 10 ∷ []
+    → RepliesTo w line reply text done.world
 unfolding reply_block
-done_line w line done text step is = inl (is ∙ ap reply_block (sym step), ap (world_after w) (sym step))
+done_line w line done reply text step replied is = inl (
+  replied ∙ ap reply_to_line (sym step),
+  is ∙ ap reply_block (sym step),
+  ap (world_after w) (sym step),
+)
 
 -- Where memory runs out, the line counts as not given.
-pub wanting_line : (old new : WorldState) (line : Option Line) (text : List ℕ) → new ≡ old → text ≡ refusal_text NoMemory ++ 10 ∷ [] → AnswersLine old line text new
+pub wanting_line : (old new : WorldState) (line : Option Line) (text : List ℕ) → new ≡ old
+    → text ≡ refusal_text NoMemory ++ 10 ∷ [] → RepliesTo old line (reply_to_refusal NoMemory) text new
 unfolding reply_block
-wanting_line old new line text same is = inr (is, same)
+wanting_line old new line text same is = inr (refl, is, same)
 
 pub bad_line : (w : WorldState) → world_step w None ≡ Err BadLine
 unfolding world_step
@@ -76,18 +88,19 @@ unfolding world_step
 run_made w moment name id unit found new = rw (found, new) refl
 
 -- A run that was put behind the others.
-pub made_run : (units : List Unit) (store : Store) (runs more : List (List ℕ × RunView)) (moment : Moment) (name id : List ℕ) (unit : Unit) (run : RunView) (text : List ℕ)
+pub made_run : (units : List Unit) (store : Store) (runs more : List (List ℕ × RunView)) (moment : Moment) (name id : List ℕ) (unit : Unit) (run : RunView) (reply : Reply) (text : List ℕ)
     → unit_named units id ≡ Some unit → is_some (lookup (bytes_eq name) runs) ≡ false → run.unit ≡ unit
-    → run_of run.state ≡ made_at SEATS unit (values_of store) moment.0 → more ≡ runs ++ (name, run) ∷ [] → text ≡ codes "ok create\n"
-    → AnswersLine (world_with units store runs) (Some (Create moment name id)) text (world_with units store more)
-made_run units store runs more moment name id unit run text found fresh whose state behind told =
+    → run_of run.state ≡ made_at SEATS unit (values_of store) moment.0 → more ≡ runs ++ (name, run) ∷ [] → reply ≡ done_alone → text ≡ codes "ok create\n"
+    → RepliesTo (world_with units store runs) (Some (Create moment name id)) reply text (world_with units store more)
+made_run units store runs more moment name id unit run reply text found fresh whose state behind replied told =
     let w = world_with units store runs in
     let one : RunOf = record { name = name; unit = unit; state = made_at SEATS unit (values_of store) moment.0 } in
     let same : run_named_so (name, run) ≡ one = λ i. record { name = name; unit = whose i; state = state i } in
     let named : map run_named_so more ≡ map run_named_so runs ++ one ∷ [] = ap (map run_named_so) behind ∙ map-append run_named_so runs ((name, run) ∷ []) ∙ ap (λ last. map run_named_so runs ++ last ∷ []) same in
     let world : (with_new w one).world ≡ world_with units store more = λ i. record { seats = SEATS; units = units; store = values_of store; runs = sym named i } in
     let step = run_made w moment name id unit found (is_there name runs ∙ fresh) in
-    subst (AnswersLine w (Some (Create moment name id)) text) world (done_line w (Some (Create moment name id)) (with_new w one) text step told)
+    subst (RepliesTo w (Some (Create moment name id)) reply text) world
+    (done_line w (Some (Create moment name id)) (with_new w one) reply text step replied told)
 
 -- ---- a run is asked
 
@@ -135,14 +148,22 @@ module _ (units : List Unit) (store left : Store) (runs : List (List ℕ × RunV
   block_told (Ok d) = refl
   block_told (Err refusal) = refl
 
+  same_reply : (r : Result DoneCommand Refusal) → reply_of r ≡ reply_to_line (line_from before name run.unit r)
+  same_reply (Ok d) = refl
+  same_reply (Err refusal) = refl
+
   -- A line of the run, which its command answers.
-  pub asked_run : (moment : Moment) (command : RunCommand) (text : List ℕ)
-      → AnswersCommand run.unit (run_of run.state) (values_of store) moment.0 command text (run_of new.state) (values_of left)
-      → AnswersLine before (Some (OfRun moment name command)) text (world_with units left (set_value (bytes_eq name) runs new))
+  pub asked_run : (moment : Moment) (command : RunCommand) (reply : Reply) (text : List ℕ)
+      → AnswersCommand run.unit (run_of run.state) (values_of store) moment.0 command reply text (run_of new.state) (values_of left)
+      → RepliesTo before (Some (OfRun moment name command)) reply text (world_with units left (set_value (bytes_eq name) runs new))
   unfolding reply_block
-  asked_run moment command text (inl answer) =
+  asked_run moment command reply text (inl answer) =
       let r = run_step run.unit (run_of run.state) (values_of store) moment.0 command in
       let here : run_named (map run_named_so runs) name ≡ Some (run_named_so (name, run)) = found_run name runs ∙ ap (option_map (λ one. run_named_so (name, one))) found in
       let step = found_step before moment name command (run_named_so (name, run)) here in
-      inl (answer.0 ∙ block_told r ∙ ap reply_block (sym step), left_world r answer.1 answer.2 ∙ ap (world_after before) (sym step))
-  asked_run moment command text (inr wanting) = inr (wanting.0, same_state wanting.1 wanting.2)
+      inl (
+        answer.0 ∙ same_reply r ∙ ap reply_to_line (sym step),
+        answer.1 ∙ block_told r ∙ ap reply_block (sym step),
+        left_world r answer.2 answer.3 ∙ ap (world_after before) (sym step),
+      )
+  asked_run moment command reply text (inr wanting) = inr (wanting.0, wanting.1, same_state wanting.2 wanting.3)

@@ -21,17 +21,19 @@ use Rattle.ld_globals.specs.declared.faults.SetFault.{SetFault}
 use Rattle.ld_globals.specs.declared.faults.SetFault.TheVariants as setting
 use Rattle.ld_base.specs.Maybe.{provided}
 use Rattle.ld_expr.specs.Owners.{fits_property}
-use Rattle.ld_checks.specs.Checks.{fitting_value}
-use Rattle.ld_checks.specs.Refusals.{Refusal, UnknownGlobal, BadValue, NotAllowed, ◌unless_refused◌ as ◌>>=◌, ◌>>◌, refuse_if}
-use Rattle.ld_replies.specs.Replies.{printed_value, refusal_text}
+use Rattle.ld_admission.specs.Checks.{fitting_value}
+use Rattle.ld_admission.specs.Refusals.{Refusal, UnknownGlobal, BadValue, NotAllowed, ◌unless_refused◌ as ◌>>=◌, ◌>>◌, refuse_if}
+use Rattle.ld_replies.specs.Replies.{printed_value}
 use Rattle.ld_run.specs.RunView.{RunView}
 use Rattle.ld_sharing.specs.StoreView.{declaration_by, kind_declared, values_of}
 use Rattle.ld_state.specs.GlobalValues.{declared_by}
-use Rattle.ld_world.specs.Answers.{AnswersLine}
+use Rattle.ld_world.specs.Answers.{RepliesTo}
 use Rattle.ld_world.specs.GlobalFaults.{refusal_to_get, refusal_to_set}
 use Rattle.ld_world.specs.World.{DoneLine, WorldState, get_global, known, put_value, set_global, stored, suits_person, world_step}
 use Rattle.ld_world.specs.WorldView.{IsStoreOf, world_with}
-use Rattle.ld_world.proofs.Answering.{done_line, refused_line}
+use Rattle.ld_run.specs.Reply.{done_alone}
+use Rattle.ld_run.specs.declared.reply.Reply.{Reply}
+use Rattle.ld_world.proofs.Answering.{IsRefusedBy, done_line, refused_line}
 use Rattle.ld_world.proofs.Setting.{put_values}
 
 -- ---- what the store refuses
@@ -125,37 +127,42 @@ module _ (units : List Unit) (store : Store) (runs : List (List ℕ × RunView))
   abbrev before : WorldState
   before = world_with units store runs
 
-  pub set_line : (new : Store) (text out : List ℕ) → IsSet store new (key_at uri person) text → out ≡ codes "ok global-set" ++ 10 ∷ []
-      → AnswersLine before (Some (GlobalSet moment uri person text)) out (world_with units new runs)
+  pub set_line : (new : Store) (text : List ℕ) (reply : Reply) (out : List ℕ) → IsSet store new (key_at uri person) text
+      → reply ≡ done_alone → out ≡ codes "ok global-set" ++ 10 ∷ []
+      → RepliesTo before (Some (GlobalSet moment uri person text)) reply out (world_with units new runs)
   unfolding world_step
-  set_line new text out is told =
+  set_line new text reply out is replied told =
       let done : DoneLine = record { deed = stored; world = record before { store = put_value (values_of store) uri person is.value } } in
       let step : world_step before (Some (GlobalSet moment uri person text)) ≡ Ok done = set_step before store is_of uri person text ∙ ap (λ r. set_told r >>= set_there before uri person) is.answer in
       let values : put_value (values_of store) uri person is.value ≡ values_of new = sym (put_values store uri person is.value) ∙ ap values_of (sym is.put) in
       let world : done.world ≡ world_with units new runs = λ i. record before { store = values i } in
-      subst (AnswersLine before (Some (GlobalSet moment uri person text)) out) world (done_line before (Some (GlobalSet moment uri person text)) done out step told)
+      subst (RepliesTo before (Some (GlobalSet moment uri person text)) reply out) world
+      (done_line before (Some (GlobalSet moment uri person text)) done reply out step replied told)
 
-  pub set_refused : (text out : List ℕ) (fault : SetFault) → IsRefused (set_answer store (key_at uri person) text) fault → fault ≢ setting.NoMemory
-      → out ≡ refusal_text (refusal_to_set fault) ++ 10 ∷ [] → AnswersLine before (Some (GlobalSet moment uri person text)) out before
+  pub set_refused : (text : List ℕ) (reply : Reply) (out : List ℕ) (fault : SetFault)
+      → IsRefused (set_answer store (key_at uri person) text) fault → fault ≢ setting.NoMemory
+      → IsRefusedBy (refusal_to_set fault) reply out
+      → RepliesTo before (Some (GlobalSet moment uri person text)) reply out before
   unfolding world_step
-  set_refused text out fault is other told =
+  set_refused text reply out fault is other told =
       let step = set_step before store is_of uri person text ∙ ap (λ r. set_told r >>= set_there before uri person) (is other) in
-      refused_line before (Some (GlobalSet moment uri person text)) (refusal_to_set fault) out step told
+      refused_line before (Some (GlobalSet moment uri person text)) (refusal_to_set fault) reply out step told
 
-  pub get_line : (value : Option Datum) (out : List ℕ) → get_answer store (key_at uri person) ≡ Ok value → out ≡ codes "ok global-get " ++ printed_value value ++ 10 ∷ []
-      → AnswersLine before (Some (GlobalGet moment uri person)) out before
+  pub get_line : (value : Option Datum) (reply : Reply) (out : List ℕ) → get_answer store (key_at uri person) ≡ Ok value
+      → reply ≡ done_alone → out ≡ codes "ok global-get " ++ printed_value value ++ 10 ∷ []
+      → RepliesTo before (Some (GlobalGet moment uri person)) reply out before
   unfolding world_step
-  get_line value out is told =
+  get_line value reply out is replied told =
       let done : DoneLine = record { deed = known value; world = before } in
       let step : world_step before (Some (GlobalGet moment uri person)) ≡ Ok done = get_step before store is_of uri person refl ∙ ap (λ r. get_told r >>= got_there before) is in
-      done_line before (Some (GlobalGet moment uri person)) done out step (told ∙ sym (append_assoc (codes "ok global-get ") (printed_value value) (10 ∷ [])))
+      done_line before (Some (GlobalGet moment uri person)) done reply out step replied (told ∙ sym (append_assoc (codes "ok global-get ") (printed_value value) (10 ∷ [])))
 
-  pub get_refused : (out : List ℕ) (fault : GlobalFault) → get_answer store (key_at uri person) ≡ Err fault → out ≡ refusal_text (refusal_to_get fault) ++ 10 ∷ []
-      → AnswersLine before (Some (GlobalGet moment uri person)) out before
+  pub get_refused : (reply : Reply) (out : List ℕ) (fault : GlobalFault) → get_answer store (key_at uri person) ≡ Err fault
+      → IsRefusedBy (refusal_to_get fault) reply out → RepliesTo before (Some (GlobalGet moment uri person)) reply out before
   unfolding world_step
-  get_refused out fault is told =
+  get_refused reply out fault is told =
       let step = get_step before store is_of uri person refl ∙ ap (λ r. get_told r >>= got_there before) is in
-      refused_line before (Some (GlobalGet moment uri person)) (refusal_to_get fault) out step told
+      refused_line before (Some (GlobalGet moment uri person)) (refusal_to_get fault) reply out step told
 
 -- ---- what is told
 

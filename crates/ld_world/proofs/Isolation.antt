@@ -10,8 +10,8 @@ use Rattle.ld_lines.specs.declared.line.Line.{Line}
 use Rattle.ld_lines.specs.declared.line.Line.TheVariants.{Create, OfRun, GlobalSet, GlobalGet}
 use Rattle.ld_value.specs.declared.moment.Moment.{Moment}
 use Rattle.ld_state.specs.RunState.{RunState, made_at}
-use Rattle.ld_checks.specs.Checks.{fitting_value}
-use Rattle.ld_checks.specs.Refusals.{Refusal, RunExists, UnknownRun, UnknownUnit, ◌unless_refused◌ as ◌>>=◌, refuse_if}
+use Rattle.ld_admission.specs.Checks.{fitting_value}
+use Rattle.ld_admission.specs.Refusals.{Refusal, RunExists, UnknownRun, UnknownUnit, ◌unless_refused◌ as ◌>>=◌, refuse_if}
 use Rattle.ld_run.specs.RunStep.{DoneCommand, run_step}
 use Rattle.ld_run.specs.RunView.{block_of, state_after, store_after}
 use Rattle.ld_run.proofs.SeatsOfChecks.{Each, each_bound, each_then}

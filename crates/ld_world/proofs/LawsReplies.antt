@@ -19,9 +19,9 @@ use Rattle.ld_rules.specs.LawWords.{is_property}
 use Rattle.ld_firing.specs.RunSettling.{Settlement, run_settling}
 use Rattle.ld_firing.proofs.LawsOpenings.{settling_leaves, told_apart}
 use Rattle.ld_run.specs.Changes.{directly_changed, has_change}
-use Rattle.ld_checks.specs.Checks.{admitted, in_time, running, last_moment, is_started, none_short, shortage_if_running, fitting_value, may_write, the_person, the_role, the_activity, the_property, does_not_hold, holds_it, has_room, keeps_apart, only_by_choice, not_enrolled, has_seat, not_running}
-use Rattle.ld_checks.specs.Commands.{Admitted, enrols, assigns, drops, starts, opens, completes, sets, clears, gets, shows_tree, shows_outbox, reports, ticks}
-use Rattle.ld_checks.specs.Refusals.{Refusal, BadLine, UnknownUnit, RunExists, UnknownRun, MomentBack, NotStarted, StartedAlready, UnknownPerson, PersonExists, RunFull, UnknownRole, HoldsAlready, NotHeld, RoleFull, RoleExclusive, RoleShort, UnknownActivity, NotByChoice, UnknownProperty, UnknownGlobal, BadValue, NotAllowed, TurnBudget, NotOpen, NoMemory, ◌unless_refused◌ as ◌>>=◌, ◌>>◌, refuse_if}
+use Rattle.ld_admission.specs.Checks.{admitted, in_time, running, last_moment, is_started, none_short, shortage_if_running, fitting_value, may_write, the_person, the_role, the_activity, the_property, does_not_hold, holds_it, has_room, keeps_apart, only_by_choice, not_enrolled, has_seat, not_running}
+use Rattle.ld_admission.specs.Commands.{Admitted, enrols, assigns, drops, starts, opens, completes, sets, clears, gets, shows_tree, shows_outbox, reports, ticks}
+use Rattle.ld_admission.specs.Refusals.{Refusal, BadLine, UnknownUnit, RunExists, UnknownRun, MomentBack, NotStarted, StartedAlready, UnknownPerson, PersonExists, RunFull, UnknownRole, HoldsAlready, NotHeld, RoleFull, RoleExclusive, RoleShort, UnknownActivity, NotByChoice, UnknownProperty, UnknownGlobal, BadValue, NotAllowed, TurnBudget, NotOpen, NoMemory, ◌unless_refused◌ as ◌>>=◌, ◌>>◌, refuse_if}
 use Rattle.ld_replies.specs.Replies.{refusal_text}
 use Rattle.ld_run.specs.RunStep.{DoneCommand, run_step, settled, open_for_it}
 use Rattle.ld_run.proofs.LawsKept.{Fits, fits, touches, change_leaves, begun}
@@ -296,16 +296,16 @@ leads_same lines mid other rest last new same text leads = subst (λ (w : WorldS
 
 -- What one line's texts are, and the worlds that they leave.
 one_line : (old : WorldState) (line : Option Line) (x y rest last : List ℕ) (mid other : WorldState) → AnswersLine old line x mid → AnswersLine old line y other → x ++ rest ≡ y ++ last → (mid ≡ other) × (rest ≡ last)
-one_line old line x y rest last mid other (inl this) (inl that) same =
-    let text : x ≡ y = this.0 ∙ sym that.0 in
-    (this.1 ∙ sym that.1, append_cancel_left y rest last (ap (λ (t : List ℕ). t ++ rest) (sym text) ∙ same))
-one_line old line x y rest last mid other (inr this) (inr that) same =
-    let text : x ≡ y = this.0 ∙ sym that.0 in
-    (this.1 ∙ sym that.1, append_cancel_left y rest last (ap (λ (t : List ℕ). t ++ rest) (sym text) ∙ same))
-one_line old line x y rest last mid other (inl this) (inr that) same =
-    absurd (no_reply_is_want_of_memory old line rest last (ap (λ (t : List ℕ). t ++ rest) (sym this.0) ∙ same ∙ ap (λ (t : List ℕ). t ++ last) that.0))
-one_line old line x y rest last mid other (inr this) (inl that) same =
-    absurd (no_reply_is_want_of_memory old line last rest (ap (λ (t : List ℕ). t ++ last) (sym that.0) ∙ sym same ∙ ap (λ (t : List ℕ). t ++ rest) this.0))
+one_line old line x y rest last mid other (_, inl this) (_, inl that) same =
+    let text : x ≡ y = this.1 ∙ sym that.1 in
+    (this.2 ∙ sym that.2, append_cancel_left y rest last (ap (λ (t : List ℕ). t ++ rest) (sym text) ∙ same))
+one_line old line x y rest last mid other (_, inr this) (_, inr that) same =
+    let text : x ≡ y = this.1 ∙ sym that.1 in
+    (this.2 ∙ sym that.2, append_cancel_left y rest last (ap (λ (t : List ℕ). t ++ rest) (sym text) ∙ same))
+one_line old line x y rest last mid other (_, inl this) (_, inr that) same =
+    absurd (no_reply_is_want_of_memory old line rest last (ap (λ (t : List ℕ). t ++ rest) (sym this.1) ∙ same ∙ ap (λ (t : List ℕ). t ++ last) that.1))
+one_line old line x y rest last mid other (_, inr this) (_, inl that) same =
+    absurd (no_reply_is_want_of_memory old line last rest (ap (λ (t : List ℕ). t ++ last) (sym that.1) ∙ sym same ∙ ap (λ (t : List ℕ). t ++ rest) this.1))
 
 -- The lines and what is written for them determine the world that is left: no text answers the same lines in
 -- two ways that leave two worlds.

@@ -16,9 +16,9 @@ use Rattle.ld_state.specs.RunCells.{begins_as, property_begins, stored_value}
 use Rattle.ld_state.specs.RunState.{RunState, is_kept_for, joined}
 use Rattle.ld_firing.specs.RunSettling.{Settlement}
 use Rattle.ld_run.specs.Changes.{directly_changed, has_change}
-use Rattle.ld_checks.specs.Checks.{admitted, fitting_value, in_time, is_started, keeps_apart, does_not_hold, has_room, has_seat, holds_it, may_write, none_short, not_enrolled, not_running, only_by_choice, running, shortage_if_running, the_activity, the_person, the_property, the_role}
-use Rattle.ld_checks.specs.Commands.{Admitted, enrols, assigns, drops, starts, opens, completes, sets, clears, gets, shows_tree, shows_outbox, reports, ticks}
-use Rattle.ld_checks.specs.Refusals.{Refusal, ◌unless_refused◌ as ◌>>=◌, ◌>>◌}
+use Rattle.ld_admission.specs.Checks.{admitted, fitting_value, in_time, is_started, keeps_apart, does_not_hold, has_room, has_seat, holds_it, may_write, none_short, not_enrolled, not_running, only_by_choice, running, shortage_if_running, the_activity, the_person, the_property, the_role}
+use Rattle.ld_admission.specs.Commands.{Admitted, enrols, assigns, drops, starts, opens, completes, sets, clears, gets, shows_tree, shows_outbox, reports, ticks}
+use Rattle.ld_admission.specs.Refusals.{Refusal, ◌unless_refused◌ as ◌>>=◌, ◌>>◌}
 use Rattle.ld_run.specs.RunStep.{DoneCommand, at_moment, done_by, open_for_it, run_step, settled}
 use Rattle.ld_run.proofs.SeatsOfChecks.{Each, each_bound, each_then}
 use Rattle.ld_sharing.specs.Globals.{giving_back, taking_in}

@@ -11,8 +11,8 @@ use Rattle.ld_lines.specs.declared.line.Line.TheVariants.{Create, OfRun, GlobalS
 use Rattle.ld_state.specs.RunState.{RunState, made_at}
 use Rattle.ld_firing.specs.Seating.{reseated}
 use Rattle.ld_firing.specs.SiteWalk.{HasSeats}
-use Rattle.ld_checks.specs.Checks.{Passed, fitting_value}
-use Rattle.ld_checks.specs.Refusals.{Refusal, RunFull, RunExists, UnknownRun, UnknownUnit, ◌unless_refused◌ as ◌>>=◌, ◌>>◌, refuse_if}
+use Rattle.ld_admission.specs.Checks.{Passed, fitting_value}
+use Rattle.ld_admission.specs.Refusals.{Refusal, RunFull, RunExists, UnknownRun, UnknownUnit, ◌unless_refused◌ as ◌>>=◌, ◌>>◌, refuse_if}
 use Rattle.ld_run.specs.RunStep.{DoneCommand, run_step}
 use Rattle.ld_run.specs.SameSteps.{done_reseated, step_reseated}
 use Rattle.ld_run.proofs.SeatsOfChecks.{Each, each_bound, each_then}

@@ -3,7 +3,7 @@ use Rattle.ld_globals.specs.declared.faults.GlobalFault.{GlobalFault}
 use Rattle.ld_globals.specs.declared.faults.GlobalFault.TheVariants as getting
 use Rattle.ld_globals.specs.declared.faults.SetFault.{SetFault}
 use Rattle.ld_globals.specs.declared.faults.SetFault.TheVariants as setting
-use Rattle.ld_checks.specs.Refusals.{Refusal, UnknownGlobal, BadValue, NotAllowed, NoMemory}
+use Rattle.ld_admission.specs.Refusals.{Refusal, UnknownGlobal, BadValue, NotAllowed, NoMemory}
 
 -- The refusal of `global-set`, by the store's fault.
 abbrev pub refusal_to_set : SetFault → Refusal

@@ -1,21 +1,24 @@
 //! Lines that ask the store of global values for something.
-ghost use Rattle.std.specs.Prelude.{◌≡◌, ◌≢◌, ◌≤◌, ◌++◌, ◌∷◌, [], List, ℕ, Some, codes, option_copied, option_map, IfSome, OnErr, OnOk};
+ghost use Rattle.std.specs.Prelude.{◌≡◌, ◌≢◌, ◌≤◌, ◌++◌, ◌∷◌, [], List, ℕ, Some, codes, option_copied, option_map, IfOk, IfSome, OnErr, OnOk};
 ghost use Rattle.ld_base.specs.Roomy.{KeepsRoom, room_of};
 ghost use Rattle.ld_lines.specs.declared.line.Line.TheVariants as line;
 ghost use Rattle.ld_model.specs.declared.unit.Unit.{Unit};
 ghost use Rattle.ld_replies.specs.Replies.{printed_value, refusal_text};
+ghost use Rattle.ld_run.specs.Reply.{reply_to_refusal};
 ghost use Rattle.ld_run.specs.RunView.{RunView};
 ghost use Rattle.ld_value.specs.Datum.{datum_of};
 ghost use Rattle.ld_value.specs.Values.{HasText};
 ghost use Rattle.ld_value.specs.declared.moment.Moment.{Moment as MomentOf};
-ghost use Rattle.ld_world.specs.Answers.{AnswersLine};
+ghost use Rattle.ld_world.specs.Answers.{RepliesTo};
 ghost use Rattle.ld_world.specs.GlobalFaults.{refusal_to_get, refusal_to_set};
 ghost use Rattle.ld_world.specs.WorldView.{IsStoreOf, world_with};
 
+use crate::refusing::refuse_line;
+use ld_admission::Refusal;
 use ld_base::{Id, NoMemory, PlainText, Steps, Text};
-use ld_checks::Refusal;
 use ld_globals::{GlobalFault, Globals, SetFault};
-use ld_replies::{push_value, refuse};
+use ld_replies::push_value;
+use ld_run::Reply;
 use ld_value::Value;
 use std::alloc::Global;
 use std::sync::ledger::Ledger;
@@ -29,12 +32,12 @@ pub(crate) fn set_global(
     person: Option<&Id>,
     text: &PlainText,
     out: &mut Text,
-) -> Result<(), NoMemory>
+) -> Result<Reply, NoMemory>
     requires room { 128 ≤ room_of out.old }
     ensures ok { (units : List Unit) (runs : List (List ℕ × RunView)) (moment : MomentOf)
-        → IsStoreOf units globals.old → OnOk result (AnswersLine (world_with units globals.old runs)
+        → IsStoreOf units globals.old → IfOk result (λ reply. RepliesTo (world_with units globals.old runs)
         (Some (line.GlobalSet moment uri.now (option_copied person.entry) text.now))
-        out.new.bytes (world_with units globals.new runs)) }
+        reply out.new.bytes (world_with units globals.new runs)) }
     ensures declared { globals.new.declared ≡ globals.old.declared }
     ensures err { OnErr result (globals.new ≡ globals.old) }
     ensures room { 128 ≤ room_of out.new }
@@ -43,7 +46,7 @@ pub(crate) fn set_global(
     match globals.set(&key, person, text.as_str()) {
         Ok(()) => {
             say_set(out);
-            Ok(())
+            Ok(Reply::done_alone())
         }
         Err(fault) => refuse_to_set(fault, out),
     }
@@ -57,16 +60,19 @@ pub(crate) fn get_global<L: Ledger>(
     person: Option<&Id>,
     out: &mut Text,
     steps: &mut Steps<L>,
-) -> Result<(), NoMemory>
+) -> Result<Reply, NoMemory>
     ensures ok { (units : List Unit) (runs : List (List ℕ × RunView)) (moment : MomentOf)
-        → IsStoreOf units globals.now → OnOk result (AnswersLine (world_with units globals.now runs)
+        → IsStoreOf units globals.now → IfOk result (λ reply. RepliesTo (world_with units globals.now runs)
         (Some (line.GlobalGet moment uri.now (option_copied person.entry)))
-        out.new.bytes (world_with units globals.now runs)) }
+        reply out.new.bytes (world_with units globals.now runs)) }
     ensures room { KeepsRoom out.old out.new }
 {
     let key = Text::of(alloc, uri.as_str())?;
     match globals.get(&key, person, steps) {
-        Ok(value) => tell_value(alloc, value, out),
+        Ok(value) => {
+            tell_value(alloc, value, out)?;
+            Ok(Reply::done_alone())
+        }
         Err(fault) => refuse_to_get(fault, out),
     }
 }
@@ -97,26 +103,28 @@ fn tell_value(alloc: Global, value: Option<&Value>, out: &mut Text) -> Result<()
 }
 
 /// Says why the value was not set. The only error is out of memory.
-fn refuse_to_set(fault: SetFault, out: &mut Text) -> Result<(), NoMemory>
-    ensures text { OnOk result (out.new.bytes ≡ refusal_text (refusal_to_set fault) ++ 10 ∷ []) }
-    ensures memory { OnOk result (fault ≢ SetFault.NoMemory) }
+fn refuse_to_set(fault: SetFault, out: &mut Text) -> Result<Reply, NoMemory>
+    ensures refused { IfOk result (λ reply. (fault ≢ SetFault.NoMemory)
+        × (reply ≡ reply_to_refusal (refusal_to_set fault))
+        × (out.new.bytes ≡ refusal_text (refusal_to_set fault) ++ 10 ∷ [])) }
     ensures room { KeepsRoom out.old out.new }
 {
     match fault {
-        SetFault::UnknownGlobal => refuse(Refusal::UnknownGlobal, out),
-        SetFault::BadValue => refuse(Refusal::BadValue, out),
-        SetFault::NotAllowed => refuse(Refusal::NotAllowed, out),
+        SetFault::UnknownGlobal => refuse_line(Refusal::UnknownGlobal, out),
+        SetFault::BadValue => refuse_line(Refusal::BadValue, out),
+        SetFault::NotAllowed => refuse_line(Refusal::NotAllowed, out),
         SetFault::NoMemory => Err(NoMemory),
     }
 }
 
 /// Says why the value is not told. The only error is out of memory.
-fn refuse_to_get(fault: GlobalFault, out: &mut Text) -> Result<(), NoMemory>
-    ensures text { OnOk result (out.new.bytes ≡ refusal_text (refusal_to_get fault) ++ 10 ∷ []) }
+fn refuse_to_get(fault: GlobalFault, out: &mut Text) -> Result<Reply, NoMemory>
+    ensures refused { IfOk result (λ reply. (reply ≡ reply_to_refusal (refusal_to_get fault))
+        × (out.new.bytes ≡ refusal_text (refusal_to_get fault) ++ 10 ∷ [])) }
     ensures room { KeepsRoom out.old out.new }
 {
     match fault {
-        GlobalFault::UnknownGlobal => refuse(Refusal::UnknownGlobal, out),
-        GlobalFault::NotAllowed => refuse(Refusal::NotAllowed, out),
+        GlobalFault::UnknownGlobal => refuse_line(Refusal::UnknownGlobal, out),
+        GlobalFault::NotAllowed => refuse_line(Refusal::NotAllowed, out),
     }
 }

@@ -6,7 +6,9 @@ mod declarations;
 mod declaring;
 mod global_lines;
 mod publishing;
+mod refusing;
 mod runs;
 pub mod world;
 
+pub use ld_run::Reply;
 pub use world::World;

@@ -1,21 +1,21 @@
 //! Runs by their names: making one, and asking one.
-ghost use Rattle.std.specs.Prelude.{◌≡◌, ◌≤◌, Some, List, map, OnOk, OnErr};
+ghost use Rattle.std.specs.Prelude.{◌≡◌, ◌≤◌, Some, List, map, IfOk, OnErr};
 ghost use Rattle.ld_base.specs.Roomy.{room_of, KeepsRoom};
 ghost use Rattle.ld_lines.specs.declared.line.Line.TheVariants as line;
 ghost use Rattle.ld_model.specs.declared.unit.Unit.{Unit};
 ghost use Rattle.ld_value.specs.Calendar.{IsMoment};
-ghost use Rattle.ld_world.specs.Answers.{AnswersLine};
+ghost use Rattle.ld_world.specs.Answers.{RepliesTo};
 ghost use Rattle.ld_world.specs.WorldView.{ServesAll, ServesRuns, world_with};
 
 use crate::publishing::find_unit;
+use crate::refusing::refuse_line;
 use indexmap::IndexMap;
+use ld_admission::Refusal;
 use ld_base::{Id, NoMemory, Steps, Text};
-use ld_checks::Refusal;
 use ld_globals::Globals;
 use ld_lines::RunCommand;
-use ld_replies::refuse;
 use ld_rules::PreparedUnit;
-use ld_run::{CommandRoom, Run};
+use ld_run::{CommandRoom, Reply, Run};
 use ld_value::Moment;
 use std::alloc::Global;
 use std::rc::Rc;
@@ -33,29 +33,29 @@ pub(crate) fn make_run<L: Ledger>(
     unit: &Id,
     out: &mut Text,
     steps: &mut Steps<L>,
-) -> Result<(), NoMemory>
+) -> Result<Reply, NoMemory>
     requires moment { IsMoment moment.0 }
     requires units { ServesAll globals.now (map (λ unit. unit.value) units.now) }
     requires runs { ServesRuns globals.now runs.old.entries }
-    ensures ok { OnOk result (AnswersLine
+    ensures ok { IfOk result (λ reply. RepliesTo
         (world_with (map (λ unit. unit.value) units.now) globals.now runs.old.entries)
-        (Some (line.Create moment name unit.now)) out.new.bytes
+        (Some (line.Create moment name unit.now)) reply out.new.bytes
         (world_with (map (λ unit. unit.value) units.now) globals.now runs.new.entries)) }
     ensures err { OnErr result (runs.new.entries ≡ runs.old.entries) }
     ensures runs { ServesRuns globals.now runs.new.entries }
     ensures room { KeepsRoom out.old out.new }
 {
     let Some(unit) = find_unit(units, unit) else {
-        return refuse(Refusal::UnknownUnit, out);
+        return refuse_line(Refusal::UnknownUnit, out);
     };
     if runs.contains_key(&name) {
-        return refuse(Refusal::RunExists, out);
+        return refuse_line(Refusal::RunExists, out);
     }
     let run = Run::new(alloc, unit.clone()?, globals, moment, steps)?;
     out.clear();
     out.push("ok create\n")?;
     runs.insert(name, run)?;
-    Ok(())
+    Ok(Reply::done_alone())
 }
 
 /// Does what is asked of the run of this name, or says that there is none.
@@ -69,13 +69,13 @@ pub(crate) fn ask_run<L: Ledger>(
     command: &RunCommand,
     out: &mut Text,
     steps: &mut Steps<L>,
-) -> Result<(), NoMemory>
+) -> Result<Reply, NoMemory>
     requires moment { IsMoment moment.0 }
     requires runs { ServesRuns globals.old runs.old.entries }
     requires room { 128 ≤ room_of out.old }
-    ensures ok { (units : List Unit) → OnOk result (AnswersLine
+    ensures ok { (units : List Unit) → IfOk result (λ reply. RepliesTo
         (world_with units globals.old runs.old.entries)
-        (Some (line.OfRun moment name.now command.now))
+        (Some (line.OfRun moment name.now command.now)) reply
         out.new.bytes (world_with units globals.new runs.new.entries)) }
     ensures declared { globals.new.declared ≡ globals.old.declared }
     ensures err { OnErr result (globals.new ≡ globals.old) }
@@ -84,8 +84,7 @@ pub(crate) fn ask_run<L: Ledger>(
     ensures room { 128 ≤ room_of out.new }
 {
     let Some(run) = runs.get_mut(name) else {
-        return refuse(Refusal::UnknownRun, out);
+        return refuse_line(Refusal::UnknownRun, out);
     };
-    run.apply(alloc, globals, room, moment, command, out, steps);
-    Ok(())
+    Ok(run.apply(alloc, globals, room, moment, command, out, steps))
 }

@@ -1,11 +1,13 @@
 //! The world of published units, the store of global values, and the runs.
-ghost use Rattle.std.specs.Prelude.{◌≡◌, ◌≤◌, ◌++◌, [], ◌∷◌, None, Some, IfErr, OnErr, OnOk};
+ghost use Rattle.std.specs.Prelude.{◌≡◌, ◌≤◌, ◌++◌, [], ◌∷◌, None, Some, IfErr, IfOk, OnErr, OnOk};
 ghost use Rattle.ld_base.specs.Roomy.{room_of, KeepsRoom};
 ghost use Rattle.ld_json.specs.Fault.{SaysFirst};
 ghost use Rattle.ld_lines.specs.LineMoment.{moment_of_line};
 ghost use Rattle.ld_lines.specs.declared.line.Line.TheVariants as line;
 ghost use Rattle.ld_value.specs.Calendar.{IsMoment};
-ghost use Rattle.ld_world.specs.Answers.{AnswersLine, line_of};
+ghost use Rattle.ld_admission.specs.Refusals.{BadLine};
+ghost use Rattle.ld_run.specs.Reply.{reply_to_refusal};
+ghost use Rattle.ld_world.specs.Answers.{RepliesTo, line_of};
 ghost use Rattle.ld_world.specs.Published.{faults_beside};
 ghost use Rattle.ld_world.specs.World.{first_world};
 ghost use Rattle.ld_world.specs.WorldView.{world_of};
@@ -13,17 +15,18 @@ ghost use Rattle.ld_world.specs.WorldView.{world_of};
 use crate::declaring::declare_uris;
 use crate::global_lines::{get_global, set_global};
 use crate::publishing::check_identifier;
+use crate::refusing::refuse_line;
 use crate::runs::{ask_run, make_run};
 use indexmap::IndexMap;
+use ld_admission::Refusal;
 use ld_base::{Id, NoMemory, Steps, Text};
-use ld_checks::Refusal;
 use ld_globals::Globals;
 use ld_json::ReadFault;
 use ld_lines::{CommandReader, LINE_LIMIT, Line, LineFault, RunCommand};
 use ld_refs::Checked;
-use ld_replies::{refuse, say_no_memory};
+use ld_replies::{say_no_memory, tell_refusal};
 use ld_rules::PreparedUnit;
-use ld_run::{CommandRoom, Run};
+use ld_run::{CommandRoom, Reply, Run};
 use ld_value::Moment;
 use std::alloc::Global;
 use std::marker::Model;
@@ -115,34 +118,39 @@ impl World {
         Ok(())
     }
 
-    /// Answers a line: `out` is emptied and then holds the reply block. Where memory runs out it
-    /// says so, and the line counts as not given.
+    /// Answers a line: `out` is emptied and then holds the reply block. Where memory runs out the
+    /// reply says so, and the line counts as not given. (docs/MEANING.md, "Histories")
     pub fn answer<L: Ledger>(
         &mut self,
         alloc: Global,
         line: &[u8],
         out: &mut Text,
         steps: &mut Steps<L>,
-    )
+    ) -> Reply
         requires room { 128 ≤ room_of out.old }
-        ensures answers { AnswersLine (world_of self.old) (line_of line.now)
+        ensures answers { RepliesTo (world_of self.old) (line_of line.now) result
             out.new.bytes (world_of self.new) }
         ensures room { 128 ≤ room_of out.new }
     {
-        if let Err(_) = self.try_answer(alloc, line, out, steps) {
-            say_no_memory(out)
+        match self.try_answer(alloc, line, out, steps) {
+            Ok(reply) => reply,
+            Err(_) => {
+                say_no_memory(out);
+                Reply::NoMemory
+            }
         }
     }
 
-    /// Answers a line that is too long to be one.
-    pub fn answer_bad_line(&mut self, out: &mut Text)
+    /// Answers a line that is too long to be one. It takes no memory.
+    pub fn answer_bad_line(&mut self, out: &mut Text) -> Reply
         requires room { 128 ≤ room_of out.old }
-        ensures answers { AnswersLine (world_of self.old) None out.new.bytes (world_of self.new) }
+        ensures answers { RepliesTo (world_of self.old) None result
+            out.new.bytes (world_of self.new) }
+        ensures refused { result ≡ reply_to_refusal BadLine }
         ensures room { 128 ≤ room_of out.new }
     {
-        if let Err(_) = refuse(Refusal::BadLine, out) {
-            say_no_memory(out)
-        }
+        tell_refusal(Refusal::BadLine, out);
+        Reply::refused(Refusal::BadLine)
     }
 
     /// Answers a line. Where memory runs out the world stays as it was.
@@ -152,19 +160,19 @@ impl World {
         line: &[u8],
         out: &mut Text,
         steps: &mut Steps<L>,
-    ) -> Result<(), NoMemory>
+    ) -> Result<Reply, NoMemory>
         requires room { 128 ≤ room_of out.old }
-        ensures ok { OnOk result (AnswersLine (world_of self.old) (line_of line.now)
+        ensures ok { IfOk result (λ reply. RepliesTo (world_of self.old) (line_of line.now) reply
             out.new.bytes (world_of self.new)) }
         ensures err { OnErr result (self.new ≡ self.old) }
         ensures room { 128 ≤ room_of out.new }
     {
         if line.len() > LINE_LIMIT {
-            return refuse(Refusal::BadLine, out);
+            return refuse_line(Refusal::BadLine, out);
         }
         match self.commands.read(alloc, line) {
             Ok(line) => self.do_line(alloc, line, out, steps),
-            Err(LineFault::BadLine) => refuse(Refusal::BadLine, out),
+            Err(LineFault::BadLine) => refuse_line(Refusal::BadLine, out),
             Err(LineFault::NoMemory) => Err(NoMemory),
         }
     }
@@ -176,10 +184,10 @@ impl World {
         line: Line,
         out: &mut Text,
         steps: &mut Steps<L>,
-    ) -> Result<(), NoMemory>
+    ) -> Result<Reply, NoMemory>
         requires moment { IsMoment (moment_of_line line).0 }
         requires room { 128 ≤ room_of out.old }
-        ensures ok { OnOk result (AnswersLine (world_of self.old) (Some line)
+        ensures ok { IfOk result (λ reply. RepliesTo (world_of self.old) (Some line) reply
             out.new.bytes (world_of self.new)) }
         ensures err { OnErr result (self.new ≡ self.old) }
         ensures room { 128 ≤ room_of out.new }
@@ -216,10 +224,10 @@ impl World {
         unit: &Id,
         out: &mut Text,
         steps: &mut Steps<L>,
-    ) -> Result<(), NoMemory>
+    ) -> Result<Reply, NoMemory>
         requires { IsMoment moment.0 }
-        ensures ok { OnOk result (AnswersLine (world_of self.old)
-            (Some (line.Create moment name unit.now)) out.new.bytes (world_of self.new)) }
+        ensures ok { IfOk result (λ reply. RepliesTo (world_of self.old)
+            (Some (line.Create moment name unit.now)) reply out.new.bytes (world_of self.new)) }
         ensures err { OnErr result (self.new ≡ self.old) }
         ensures room { KeepsRoom out.old out.new }
     {
@@ -236,11 +244,12 @@ impl World {
         command: &RunCommand,
         out: &mut Text,
         steps: &mut Steps<L>,
-    ) -> Result<(), NoMemory>
+    ) -> Result<Reply, NoMemory>
         requires moment { IsMoment moment.0 }
         requires room { 128 ≤ room_of out.old }
-        ensures ok { OnOk result (AnswersLine (world_of self.old)
-            (Some (line.OfRun moment name.now command.now)) out.new.bytes (world_of self.new)) }
+        ensures ok { IfOk result (λ reply. RepliesTo (world_of self.old)
+            (Some (line.OfRun moment name.now command.now)) reply out.new.bytes
+            (world_of self.new)) }
         ensures err { OnErr result (self.new ≡ self.old) }
         ensures room { 128 ≤ room_of out.new }
     {

@@ -5,9 +5,9 @@ use Rattle.ld_state.specs.StateView.{run_of}
 use Rattle.ld_settling.proofs.CleanLinks.{run_follows_then}
 use Rattle.ld_sharing.specs.Globals.{giving_back}
 use Rattle.ld_sharing.specs.StoreView.{values_of}
-use Rattle.ld_checks.specs.AdmittedView.{admitted_of}
-use Rattle.ld_checks.specs.Refusals.{NotOpen, Refusal}
-use Rattle.ld_checks.specs.RefusalView.{refusal_of}
+use Rattle.ld_admission.specs.AdmittedView.{admitted_of}
+use Rattle.ld_admission.specs.Refusals.{NotOpen, Refusal}
+use Rattle.ld_admission.specs.RefusalView.{refusal_of}
 use Rattle.ld_run.specs.RunStep.{DoneCommand}
 use Rattle.ld_run.proofs.StepStages.{first_refused, is_done, not_open, second_refused}
 use Rattle.ld_run.proofs.doing.do_admitted.Goals as goal

@@ -7,9 +7,9 @@ use Rattle.ld_state.specs.RunState.{RunState}
 use Rattle.ld_state.specs.StateView.{run_of}
 use Rattle.ld_sharing.specs.StoreView.{values_of}
 use Rattle.ld_replies.specs.Printing.{IsTellable, AreNoticesOf}
-use Rattle.ld_checks.specs.AdmittedView.{admitted_of}
-use Rattle.ld_checks.specs.Checks.{is_started}
-use Rattle.ld_checks.specs.RefusalView.{RefusesWith}
+use Rattle.ld_admission.specs.AdmittedView.{admitted_of}
+use Rattle.ld_admission.specs.Checks.{is_started}
+use Rattle.ld_admission.specs.RefusalView.{RefusesWith}
 use Rattle.ld_run.specs.Changes.{has_change}
 use Rattle.ld_run.specs.Linked.{MayRelink, relinking_of, relinks_all}
 use Rattle.ld_run.specs.Running.{IsInOrder}

@@ -5,8 +5,8 @@ use Rattle.ld_firing.specs.SettledView.{settlement_of}
 use Rattle.ld_state.specs.StateView.{run_of}
 use Rattle.ld_settling.proofs.CleanLinks.{clean_linked}
 use Rattle.ld_sharing.specs.StoreView.{values_of}
-use Rattle.ld_checks.specs.Checks.{is_started}
-use Rattle.ld_checks.specs.RefusalView.{RefusesWith}
+use Rattle.ld_admission.specs.Checks.{is_started}
+use Rattle.ld_admission.specs.RefusalView.{RefusesWith}
 use Rattle.ld_run.specs.Running.{IsInOrder}
 use Rattle.ld_run.specs.RunStep.{at_moment, settled}
 use Rattle.ld_run.proofs.FittingRuns.{dated_fits, taken_fits}

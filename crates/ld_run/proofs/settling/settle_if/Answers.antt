@@ -54,11 +54,8 @@ returns-then-not-settles-clause-follows g c _ = run_follows_self
 pub returns-in-Ok-clause-follows : goal.returns-in-Ok-clause-follows
 returns-in-Ok-clause-follows g c plain = run_follows_then (c.relink.ensures.follows plain) c.settle.ensures.follows
 
-pub returns-in-Err-TurnBudget-clause-follows : goal.returns-in-Err-TurnBudget-clause-follows
-returns-in-Err-TurnBudget-clause-follows g c plain = run_follows_then (c.relink.ensures.follows plain) c.settle.ensures.follows
-
-pub returns-in-Err-NoMemory-clause-follows : goal.returns-in-Err-NoMemory-clause-follows
-returns-in-Err-NoMemory-clause-follows g c plain = run_follows_then (c.relink.ensures.follows plain) c.settle.ensures.follows
+pub returns-in-Err-settle-clause-follows : goal.returns-in-Err-settle-clause-follows
+returns-in-Err-settle-clause-follows g c plain = run_follows_then (c.relink.ensures.follows plain) c.settle.ensures.follows
 
 pub returns-in-Ok-clause-cost : goal.returns-in-Ok-clause-cost
 returns-in-Ok-clause-cost g c begun before seats may =
@@ -68,16 +65,8 @@ returns-in-Ok-clause-cost g c begun before seats may =
     (c.relink.ensures.dirties before may i is_in))
     c.relink.ensures.relinked
 
-pub returns-in-Err-TurnBudget-clause-cost : goal.returns-in-Err-TurnBudget-clause-cost
-returns-in-Err-TurnBudget-clause-cost g c begun before seats may =
-    settled_cost c.args.unit.now (run_of c.args.state.now) begun before c.args.how c.args.scratch.now.changed.items c.args.links.now
-    c.relink.new.links c.settle.new.links c.args.steps.now c.settle.new.steps c.requires.order.sound refl seats c.settle.ensures.spends
-    (λ i is_in. subst (λ slots. judged_first c.args.how c.args.unit.now before slots i ≡ true) c.deref.ensures.value
-    (c.relink.ensures.dirties before may i is_in))
-    c.relink.ensures.relinked
-
-pub returns-in-Err-NoMemory-clause-cost : goal.returns-in-Err-NoMemory-clause-cost
-returns-in-Err-NoMemory-clause-cost g c begun before seats may =
+pub returns-in-Err-settle-clause-cost : goal.returns-in-Err-settle-clause-cost
+returns-in-Err-settle-clause-cost g c begun before seats may =
     settled_cost c.args.unit.now (run_of c.args.state.now) begun before c.args.how c.args.scratch.now.changed.items c.args.links.now
     c.relink.new.links c.settle.new.links c.args.steps.now c.settle.new.steps c.requires.order.sound refl seats c.settle.ensures.spends
     (λ i is_in. subst (λ slots. judged_first c.args.how c.args.unit.now before slots i ≡ true) c.deref.ensures.value

@@ -1,6 +1,6 @@
 use Rattle.std.proofs.Common.{◌∙◌, ap, arith, sym}
 use Rattle.ld_state.proofs.Elements.{different}
-use Rattle.ld_checks.specs.Checks.{is_started}
+use Rattle.ld_admission.specs.Checks.{is_started}
 use Rattle.ld_state.specs.StateView.{run_of}
 use Rattle.ld_firing.specs.RunSystem.{run_system}
 use Rattle.ld_firing.proofs.Lawful.{run_is_lawful}

@@ -4,8 +4,8 @@ use Rattle.ld_settling.specs.RunLinking.{AreCleanLinks}
 use Rattle.ld_sharing.specs.Globals.{giving_back}
 use Rattle.ld_sharing.specs.StoreView.{values_of}
 use Rattle.ld_state.specs.StateView.{StateView, run_of}
-use Rattle.ld_checks.specs.AdmittedView.{admitted_of}
-use Rattle.ld_checks.specs.Checks.{is_started}
+use Rattle.ld_admission.specs.AdmittedView.{admitted_of}
+use Rattle.ld_admission.specs.Checks.{is_started}
 use Rattle.ld_run.specs.Running.{IsInOrder, IsRunning, MayBeDone}
 use Rattle.ld_run.specs.RunStep.{done_by}
 use Rattle.ld_run.proofs.LinkedRuns.{renews_none}
@@ -79,12 +79,13 @@ returns-in-Ok-clause-done g c =
     let unit = c.args.unit.now in
     let store = values_of c.args.globals.now in
     let left = run_of c.do_and_tell.new.state in
-    let (d, is, state_is, store_is, text) = c.in-Ok.ensures.done in (
+    let (d, is, state_is, store_is, text, totals_are) = c.in-Ok.ensures.done in (
       d,
       ap (λ (s : StateView). done_by unit (run_of s) store c.args.moment.0 (admitted_of c.args.command.now)) (sym c.mark.ensures) ∙ is,
       ap run_of c.keep.ensures.rest ∙ state_is,
       c.give_back.ensures.values unit left c.in-Ok.ensures.writes ∙ ap (giving_back unit left) c.do_and_tell.ensures.values ∙ store_is,
       text,
+      totals_are,
     )
 
 pub returns-in-Ok-clause-running : goal.returns-in-Ok-clause-running

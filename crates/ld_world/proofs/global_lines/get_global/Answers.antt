@@ -3,7 +3,7 @@ use Rattle.ld_globals.specs.Answers.{key_given, meaning}
 use Rattle.ld_globals.specs.Store.{get_answer, key_at}
 use Rattle.ld_replies.specs.Replies.{printed_value}
 use Rattle.ld_value.specs.Values.{HasText}
-use Rattle.ld_world.proofs.Answering.{on_ok}
+use Rattle.ld_world.proofs.Answering.{if_ok}
 use Rattle.ld_world.proofs.AnsweringGlobals.{get_line, get_refused, meant, tellable}
 use Rattle.ld_world.proofs.global_lines.get_global.Goals as goal
 
@@ -18,10 +18,10 @@ returns-in-Ok-clause-ok g c = λ units runs moment is_of.
     let person = option_copied c.args.person in
     let uri = c.in_ok-key.ensures.ok ∙ c.as_str.ensures.bytes in
     let answer = sym c.in-Ok.ensures.answer in
-    on_ok c.tell_value.result c.tell_value.ensures.text (λ told.
-    get_line units store runs is_of moment c.args.uri.now person (meaning c.in-Ok.value) c.tell_value.new.out.bytes
+    get_line units store runs is_of moment c.args.uri.now person (meaning c.in-Ok.value) c.done_alone.result c.tell_value.new.out.bytes
     (subst (λ u. get_answer store (key_at u person) ≡ Ok (meaning c.in-Ok.value)) uri answer)
-    (told ∙ ap (λ value. codes "ok global-get " ++ printed_value value ++ 10 ∷ []) (meant c.in-Ok.value)))
+    c.done_alone.ensures
+    (c.in_ok-tell_value-in-Ok.ensures.text ∙ ap (λ value. codes "ok global-get " ++ printed_value value ++ 10 ∷ []) (meant c.in-Ok.value))
 
 pub returns-clause-ok : goal.returns-clause-ok
 returns-clause-ok g c = λ units runs moment is_of.
@@ -29,6 +29,6 @@ returns-clause-ok g c = λ units runs moment is_of.
     let person = option_copied c.args.person in
     let uri = c.in_ok-key.ensures.ok ∙ c.as_str.ensures.bytes in
     let answer = sym c.in-Err.ensures.answer in
-    on_ok c.refuse_to_get.result c.refuse_to_get.ensures.text (λ told.
-    get_refused units store runs is_of moment c.args.uri.now person c.refuse_to_get.new.out.bytes c.in-Err.fault
+    if_ok c.refuse_to_get.result c.refuse_to_get.ensures.refused (λ reply told.
+    get_refused units store runs is_of moment c.args.uri.now person reply c.refuse_to_get.new.out.bytes c.in-Err.fault
     (subst (λ u. get_answer store (key_at u person) ≡ Err c.in-Err.fault) uri answer) told)

@@ -1,9 +1,9 @@
 use Rattle.std.proofs.Common.{Some, sym, subst}
 use Rattle.ld_lines.specs.declared.line.Line.TheVariants as line
-use Rattle.ld_checks.specs.Refusals.{UnknownRun}
+use Rattle.ld_admission.specs.Refusals.{UnknownRun}
 use Rattle.ld_sharing.specs.StoreView.{Serves}
 use Rattle.ld_world.specs.WorldView.{world_with}
-use Rattle.ld_world.proofs.Answering.{asked_run, on_ok, refused_line, unknown_run}
+use Rattle.ld_world.proofs.Answering.{asked_run, if_ok, refused_line, unknown_run}
 use Rattle.ld_world.proofs.Named.{found_serves, no_run, set_serves}
 use Rattle.ld_world.proofs.Serving.{runs_alike}
 use Rattle.ld_world.proofs.runs.ask_run.Goals as goal
@@ -13,7 +13,8 @@ returns-in_default-clause-ok g c = λ units.
     let w = world_with units c.args.globals.now c.args.runs.now.entries in
     let none = no_run c.args.name.now c.args.runs.now.entries c.in_default.ensures.value in
     let step = unknown_run w c.args.moment c.args.name.now c.args.command.now none in
-    rw c.get_mut.follows.holds-at-none (on_ok c.refuse.result c.refuse.ensures.text (refused_line w (Some (line.OfRun c.args.moment c.args.name.now c.args.command.now)) UnknownRun c.refuse.new.out.bytes step))
+    rw c.get_mut.follows.holds-at-none (if_ok c.refuse_line.result c.refuse_line.ensures.refused (λ reply.
+    refused_line w (Some (line.OfRun c.args.moment c.args.name.now c.args.command.now)) UnknownRun reply c.refuse_line.new.out.bytes step))
 
 pub apply-requires-clause-serves : goal.apply-requires-clause-serves
 apply-requires-clause-serves g c =
@@ -24,7 +25,7 @@ returns-clause-ok g c = λ units.
     let runs = c.args.runs.now.entries in
     let old = c.in-Some.run'.now in
     let found = sym c.in-Some.ensures.value in
-    rw (c.get_mut.follows.holds c.apply.new.self).0 (asked_run units c.args.globals.now c.apply.new.globals runs c.args.name.now old c.apply.new.self c.get_mut.ensures.unique found c.apply.ensures.unit c.args.moment c.args.command.now c.apply.new.out.bytes c.apply.ensures.answers)
+    rw (c.get_mut.follows.holds c.apply.new.self).0 (asked_run units c.args.globals.now c.apply.new.globals runs c.args.name.now old c.apply.new.self c.get_mut.ensures.unique found c.apply.ensures.unit c.args.moment c.args.command.now c.apply.result c.apply.new.out.bytes c.apply.ensures.answers)
 
 pub returns-clause-runs : goal.returns-clause-runs
 returns-clause-runs g c =

@@ -3,11 +3,11 @@ use Rattle.std.specs.Str.{bytes_eq}
 use Rattle.indexmap.proofs.CallerLemmas.{insert_entry-new}
 use Rattle.ld_lines.specs.declared.line.Line.TheVariants as line
 use Rattle.ld_roles.specs.declared.limit.TheConstants.{SEATS}
-use Rattle.ld_checks.specs.Refusals.{RunExists, UnknownUnit}
+use Rattle.ld_admission.specs.Refusals.{RunExists, UnknownUnit}
 use Rattle.ld_sharing.specs.StoreView.{Serves, values_of}
 use Rattle.ld_state.specs.RunState.{made_at}
 use Rattle.ld_world.specs.WorldView.{ServesRuns, world_with}
-use Rattle.ld_world.proofs.Answering.{made_run, on_ok, refused_line, run_exists, unknown_unit}
+use Rattle.ld_world.proofs.Answering.{made_run, if_ok, refused_line, run_exists, unknown_unit}
 use Rattle.ld_world.proofs.Named.{all_found, all_with, is_there, none_there}
 use Rattle.ld_world.proofs.runs.make_run.Goals as goal
 
@@ -15,14 +15,16 @@ pub returns-in_default-clause-ok : goal.returns-in_default-clause-ok
 returns-in_default-clause-ok g c =
     let w = world_with (map (λ unit. unit.value) c.args.units.now) c.args.globals.now c.args.runs.now.entries in
     let step = unknown_unit w c.args.moment c.args.name c.args.unit.now (sym c.in_default.ensures) in
-    on_ok c.refuse.result c.refuse.ensures.text (refused_line w (Some (line.Create c.args.moment c.args.name c.args.unit.now)) UnknownUnit c.refuse.new.out.bytes step)
+    if_ok c.refuse_line.result c.refuse_line.ensures.refused (λ reply.
+    refused_line w (Some (line.Create c.args.moment c.args.name c.args.unit.now)) UnknownUnit reply c.refuse_line.new.out.bytes step)
 
 pub returns-then-contains_key-clause-ok : goal.returns-then-contains_key-clause-ok
 returns-then-contains_key-clause-ok g c =
     let w = world_with (map (λ unit. unit.value) c.args.units.now) c.args.globals.now c.args.runs.now.entries in
     let there = is_there c.args.name c.args.runs.now.entries ∙ sym c.contains_key.ensures ∙ c.if-contains_key.true in
     let step = run_exists w c.args.moment c.args.name c.args.unit.now c.in-Some.unit.now.value (sym c.in-Some.ensures) there in
-    on_ok c.refuse-then-contains_key.result c.refuse-then-contains_key.ensures.text (refused_line w (Some (line.Create c.args.moment c.args.name c.args.unit.now)) RunExists c.refuse-then-contains_key.new.out.bytes step)
+    if_ok c.refuse_line-then-contains_key.result c.refuse_line-then-contains_key.ensures.refused (λ reply.
+    refused_line w (Some (line.Create c.args.moment c.args.name c.args.unit.now)) RunExists reply c.refuse_line-then-contains_key.new.out.bytes step)
 
 pub new-requires-clause-serves : goal.new-requires-clause-serves
 new-requires-clause-serves g c =
@@ -39,7 +41,7 @@ returns-clause-ok g c =
     let state = c.in_ok-run.ensures.state ∙ ap (λ unit. made_at SEATS unit (values_of store) c.args.moment.0) same in
     let behind = c.in_ok-insert.ensures.entries ∙ insert_entry-new bytes_eq c.args.runs.now c.args.name c.in_ok-run.run' (none_there _ fresh) in
     let told = c.in_ok-push.ensures.ok ∙ ap (λ bytes. bytes ++ codes "ok create\n") c.clear.ensures.empty in
-    made_run units store c.args.runs.now.entries c.insert.new.self.entries c.args.moment c.args.name c.args.unit.now c.in-Some.unit.now.value c.in_ok-run.run' c.push.new.self.bytes (sym c.in-Some.ensures) fresh (c.in_ok-run.ensures.unit ∙ same) state behind told
+    made_run units store c.args.runs.now.entries c.insert.new.self.entries c.args.moment c.args.name c.args.unit.now c.in-Some.unit.now.value c.in_ok-run.run' c.done_alone.result c.push.new.self.bytes (sym c.in-Some.ensures) fresh (c.in_ok-run.ensures.unit ∙ same) state behind c.done_alone.ensures told
 
 pub returns-clause-runs : goal.returns-clause-runs
 returns-clause-runs g c =

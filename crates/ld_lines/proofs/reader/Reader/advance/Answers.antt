@@ -1,7 +1,8 @@
 use Rattle.std.proofs.Common.{◌∙◌, ◌+◌, ◌-◌, ◌<◌, ◌^◌, arith, sym, length}
 use Rattle.std.proofs.lemmas.Result.{err_from_is_err_and}
 use Rattle.ld_lines.proofs.Cuts.{CutsOff-progress}
-use Rattle.ld_lines.proofs.Handing.{Passed-more, HandsOut-whole, HandsOut-over, HandsOut-none, HandsOut-stop}
+use Rattle.ld_lines.proofs.Pieces.{ended_lines_of-none}
+use Rattle.ld_lines.proofs.Handing.{Passed-more, same_ended, still_unasked, HandsOut-whole, HandsOut-over, HandsOut-none, HandsOut-stop}
 use Rattle.ld_lines.proofs.reader.Reader.advance.Goals as goal
 
 pub returns-in_err-next_piece-clause-hands_out : goal.returns-in_err-next_piece-clause-hands_out
@@ -33,6 +34,11 @@ loop-self-preserved g c =
       omega (arith, c.loop-self.invariant.1, next.counts),
       λ ended. next.after_end (passed.takes.stays_ended ended) ∙ c.loop-self.invariant.2 ended,
       λ full. next.after_limit (omega (arith, passed.takes.counted, cut.takes.counted, next.limit)) ∙ c.loop-self.invariant.3 full,
+      λ some.
+          let was = c.loop-self.invariant.4 some in
+          let asks = next.unasked (λ clear. was.1 (ended_lines_of-none c.loop-self.self.reading.held clear)) in
+          let same = same_ended cut (rw c.line.ensures at (sym c.if-not-are_blank.ensures)) asks.1 asks.2 in
+          (asks.0 ∙ was.0, λ none. was.1 (same ∙ none)),
     )
 
 pub returns-in-Over-clause-hands_out : goal.returns-in-Over-clause-hands_out
@@ -42,3 +48,19 @@ returns-in-Over-clause-hands_out g c =
 pub returns-in-End-clause-hands_out : goal.returns-in-End-clause-hands_out
 returns-in-End-clause-hands_out g c =
     HandsOut-none c.loop-self.invariant.0 (rw c.in-End.is at c.in_ok-next_piece.ensures.cuts) c.next_piece.ensures.limit
+
+pub returns-in_err-next_piece-clause-unasked : goal.returns-in_err-next_piece-clause-unasked
+returns-in_err-next_piece-clause-unasked g c some =
+    still_unasked c.loop-self.self.reading.held (c.loop-self.invariant.4 some) (λ fed. (c.next_piece.ensures.unasked fed).0)
+
+pub returns-then-not-are_blank-clause-unasked : goal.returns-then-not-are_blank-clause-unasked
+returns-then-not-are_blank-clause-unasked g c some =
+    still_unasked c.loop-self.self.reading.held (c.loop-self.invariant.4 some) (λ fed. (c.next_piece.ensures.unasked fed).0)
+
+pub returns-in-Over-clause-unasked : goal.returns-in-Over-clause-unasked
+returns-in-Over-clause-unasked g c some =
+    still_unasked c.loop-self.self.reading.held (c.loop-self.invariant.4 some) (λ fed. (c.next_piece.ensures.unasked fed).0)
+
+pub returns-in-End-clause-unasked : goal.returns-in-End-clause-unasked
+returns-in-End-clause-unasked g c some =
+    still_unasked c.loop-self.self.reading.held (c.loop-self.invariant.4 some) (λ fed. (c.next_piece.ensures.unasked fed).0)

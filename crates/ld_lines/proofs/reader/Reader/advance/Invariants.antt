@@ -1,4 +1,5 @@
-use Rattle.std.proofs.Common.{◌≡◌, ◌≤◌, ◌+◌, ◌-◌, ◌^◌, length, true}
+use Rattle.std.proofs.Common.{◌≡◌, ◌≢◌, ◌≤◌, [], ◌+◌, ◌-◌, ◌^◌, length, true}
+use Rattle.ld_lines.specs.Lines.{ended_lines_of}
 use Rattle.ld_lines.proofs.Handing.{Passed}
 use Rattle.ld_lines.proofs.reader.Reader.advance.Given as goal
 
@@ -8,6 +9,7 @@ invariant-loop-self g l =
     × (g.S.Source.faults l.fn.source ≤ g.S.Source.faults l.source)
     × (l.fn.self.reading.ended ≡ true → l.source ≡ l.fn.source)
     × (l.fn.self.reading.taken ≡ 2 ^ 40 → l.source ≡ l.fn.source)
+    × (ended_lines_of l.fn.self.reading.held ≢ [] → (l.source ≡ l.fn.source) × (ended_lines_of l.self.reading.held ≢ []))
 
 abbrev pub decreases-loop-self : goal.decreases-loop-self
 decreases-loop-self g l = 2 ^ 40 - l.self.reading.taken + length l.self.reading.held

@@ -11,6 +11,7 @@ invariant-loop-at g l =
     × (l.self.reading.taken ≤ 2 ^ 40)
     × (g.S.Source.faults l.fn.source ≤ g.S.Source.faults l.source)
     × (l.fn.self.reading.taken ≡ 2 ^ 40 → l.source ≡ l.fn.source)
+    × ((HasNoFeed l.fn.self.reading.held → ⊥) → (l.source ≡ l.fn.source) × (l.self.reading ≡ l.fn.self.reading))
 
 abbrev pub decreases-loop-at : goal.decreases-loop-at
 decreases-loop-at g l = 2 ^ 40 - l.self.reading.taken

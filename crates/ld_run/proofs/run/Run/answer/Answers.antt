@@ -1,11 +1,17 @@
-use Rattle.std.proofs.Common.{subst, sym}
+use Rattle.std.proofs.Common.{◌≡◌, ◌∙◌, Err, ap, ap₂, subst, sym, ℤ}
 use Rattle.ld_model.specs.declared.unit.Unit.{Unit}
 use Rattle.ld_sharing.specs.StoreView.{Serves, values_of}
 use Rattle.ld_state.specs.StateView.{IsStateOf, run_of}
+use Rattle.ld_lines.specs.declared.command.RunCommand.{RunCommand}
+use Rattle.ld_admission.specs.Checks.{admitted}
+use Rattle.ld_admission.specs.Refusals.{Refusal}
+use Rattle.ld_state.specs.RunState.{RunState}
 use Rattle.ld_run.specs.Linked.{HasLinks}
+use Rattle.ld_run.specs.Reply.{reply_to_refusal}
 use Rattle.ld_run.specs.Reached.{IsReached, left_by}
 use Rattle.ld_run.specs.Running.{IsRunning}
 use Rattle.ld_run.specs.RunView.{AnswersCommand, RunView}
+use Rattle.ld_run.specs.declared.reply.Reply.TheVariants.{Done}
 use Rattle.ld_run.proofs.Answered.{answered_done, answered_refused}
 use Rattle.ld_run.proofs.run.Run.answer.Goals as goal
 
@@ -20,9 +26,9 @@ step-requires-clause-serves g c =
     (subst (λ (run : RunView). Serves c.args.globals.now run.unit) (sym c.self.view_is) c.requires.serves)
 
 -- What the step leaves is a state that runs come to.
-pub returns-in_default-clause-reached : goal.returns-in_default-clause-reached
-returns-in_default-clause-reached g c =
-    let (d, is, state_is, store_is, told) = c.in_default.ensures.done in
+pub returns-in-Ok-clause-reached : goal.returns-in-Ok-clause-reached
+returns-in-Ok-clause-reached g c =
+    let (d, is, state_is, store_is, told, totals_are) = c.in-Ok.ensures.done in
     subst (λ (unit : Unit). IsReached unit (run_of c.step.new.state)) c.deref.ensures
     (subst (IsReached c.deref.result.now) (sym state_is)
     (left_by (run_of c.self.inside.state) (values_of c.args.globals.now) c.args.moment.0 c.args.command.now d
@@ -38,7 +44,7 @@ invariant_of-self g c = (
   subst (λ (unit : Unit). IsStateOf unit c.step.new.state) c.deref.ensures c.step.ensures.own,
   subst (λ (unit : Unit). IsRunning unit (run_of c.step.new.state) c.step.new.links) c.deref.ensures c.step.ensures.running,
   c.step.ensures.no_savepoint,
-  returns-in_default-clause-reached g c,
+  returns-in-Ok-clause-reached g c,
 )
 
 pub invariant_of-self-2 : goal.invariant_of-self-2
@@ -49,35 +55,55 @@ invariant_of-self-2 g c = (
   returns-clause-reached g c,
 )
 
-pub returns-in_default-clause-answers : goal.returns-in_default-clause-answers
-returns-in_default-clause-answers g c =
+pub returns-in-Ok-clause-answers : goal.returns-in-Ok-clause-answers
+returns-in-Ok-clause-answers g c =
     let moment = c.args.moment.0 in
     let asked = c.args.command.now in
+    let reply = Done c.in-Ok.totals in
     let text = c.step.new.out.bytes in
     let new = run_of c.step.new.state in
     let store = values_of c.args.globals.now in
     let left = values_of c.step.new.globals in
-    let (d, is, state_is, store_is, told) = c.in_default.ensures.done in
-    subst (λ (run : RunView). AnswersCommand run.unit (run_of run.state) store moment asked text new left) c.self.view_is
-    (subst (λ (unit : Unit). AnswersCommand unit (run_of c.self.inside.state) store moment asked text new left) c.deref.ensures
-    (answered_done c.deref.result.now (run_of c.self.inside.state) store moment asked text new left d is state_is store_is told))
+    let (d, is, state_is, store_is, told, totals_are) = c.in-Ok.ensures.done in
+    subst (λ (run : RunView). AnswersCommand run.unit (run_of run.state) store moment asked reply text new left) c.self.view_is
+    (subst (λ (unit : Unit). AnswersCommand unit (run_of c.self.inside.state) store moment asked reply text new left) c.deref.ensures
+    (answered_done c.deref.result.now (run_of c.self.inside.state) store moment asked reply text new left d is
+    (ap Done totals_are) state_is store_is told))
 
 pub returns-clause-answers : goal.returns-clause-answers
 returns-clause-answers g c =
     let moment = c.args.moment.0 in
     let asked = c.args.command.now in
+    let reply = c.refused.result in
     let text = c.tell_refusal.new.out.bytes in
     let new = run_of c.step.new.state in
     let store = values_of c.args.globals.now in
     let left = values_of c.step.new.globals in
-    subst (λ (run : RunView). AnswersCommand run.unit (run_of run.state) store moment asked text new left) c.self.view_is
-    (subst (λ (unit : Unit). AnswersCommand unit (run_of c.self.inside.state) store moment asked text new left) c.deref.ensures
-    (answered_refused c.deref.result.now (run_of c.self.inside.state) store moment asked text new left c.in-Err.refusal
-    c.in-Err.ensures.refused c.in-Err.ensures.back c.in-Err.ensures.untouched c.tell_refusal.ensures.text))
+    subst (λ (run : RunView). AnswersCommand run.unit (run_of run.state) store moment asked reply text new left) c.self.view_is
+    (subst (λ (unit : Unit). AnswersCommand unit (run_of c.self.inside.state) store moment asked reply text new left) c.deref.ensures
+    (answered_refused c.deref.result.now (run_of c.self.inside.state) store moment asked reply text new left c.in-Err.refusal
+    c.in-Err.ensures.refused c.refused.ensures c.in-Err.ensures.back c.in-Err.ensures.untouched c.tell_refusal.ensures.text))
+
+-- What a check refuses is refused by the step.
+checks-inside : {unit view : Unit} {s t : RunState} (moment : ℤ) (asked : RunCommand) (refusal : Refusal) → view ≡ unit → t ≡ s
+    → admitted view t moment asked ≡ Err refusal → admitted unit s moment asked ≡ Err refusal
+checks-inside moment asked refusal same_unit same_state is = sym (ap₂ (λ u r. admitted u r moment asked) same_unit same_state) ∙ is
+
+pub returns-in-Ok-clause-checked : goal.returns-in-Ok-clause-checked
+returns-in-Ok-clause-checked g c refusal is other =
+    let run = sym c.self.view_is in
+    absurd (c.in-Ok.ensures.checked refusal
+    (checks-inside c.args.moment.0 c.args.command.now refusal (ap (λ (r : RunView). r.unit) run ∙ sym c.deref.ensures) (ap (λ (r : RunView). run_of r.state) run) is) other)
+
+pub returns-clause-checked : goal.returns-clause-checked
+returns-clause-checked g c refusal is other =
+    let run = sym c.self.view_is in
+    c.refused.ensures ∙ ap reply_to_refusal (c.in-Err.ensures.checked refusal
+    (checks-inside c.args.moment.0 c.args.command.now refusal (ap (λ (r : RunView). r.unit) run ∙ sym c.deref.ensures) (ap (λ (r : RunView). run_of r.state) run) is) other)
 
 -- The links are those of the run, whatever is answered.
-pub returns-in_default-clause-linked : goal.returns-in_default-clause-linked
-returns-in_default-clause-linked g c =
+pub returns-in-Ok-clause-linked : goal.returns-in-Ok-clause-linked
+returns-in-Ok-clause-linked g c =
     subst (λ (unit : Unit). HasLinks unit (run_of c.step.new.state) c.step.new.links) c.deref.ensures c.step.ensures.running.linked
 
 pub returns-clause-linked : goal.returns-clause-linked

@@ -1,6 +1,6 @@
-use Rattle.std.proofs.Common.{OnOk, Some, map, subst}
+use Rattle.std.proofs.Common.{IfOk, Some, map, subst}
 use Rattle.ld_lines.specs.declared.line.Line.TheVariants as line
-use Rattle.ld_world.specs.Answers.{AnswersLine}
+use Rattle.ld_world.specs.Answers.{RepliesTo}
 use Rattle.ld_world.specs.WorldView.{world_of, world_with}
 use Rattle.ld_world.proofs.Serving.{runs_alike, serves_alike, store_alike}
 use Rattle.ld_world.proofs.world.World.do_line.Goals as goal
@@ -21,8 +21,10 @@ returns-in-GlobalSet-clause-ok g c =
     let asked = c.in-GlobalSet in
     let new = world_with units c.set_global.new.globals s.runs.entries in
     let told = c.set_global.ensures.ok units s.runs.entries asked.moment c.self.invariant.0 in
-    let mine = subst (λ person. OnOk c.set_global.result (AnswersLine (world_with units s.globals s.runs.entries) (Some (line.GlobalSet asked.moment asked.uri person asked.value)) c.set_global.new.out.bytes new)) c.as_ref.ensures.value told in
-    rw asked.is (subst (λ w. OnOk c.set_global.result (AnswersLine (world_of w) (Some (line.GlobalSet asked.moment asked.uri asked.person asked.value)) c.set_global.new.out.bytes new)) c.self.view_is mine)
+    let mine = subst (λ person. IfOk c.set_global.result (λ reply. RepliesTo (world_with units s.globals s.runs.entries)
+    (Some (line.GlobalSet asked.moment asked.uri person asked.value)) reply c.set_global.new.out.bytes new)) c.as_ref.ensures.value told in
+    rw asked.is (subst (λ w. IfOk c.set_global.result (λ reply. RepliesTo (world_of w)
+    (Some (line.GlobalSet asked.moment asked.uri asked.person asked.value)) reply c.set_global.new.out.bytes new)) c.self.view_is mine)
 
 pub returns-in-GlobalGet-clause-ok : goal.returns-in-GlobalGet-clause-ok
 returns-in-GlobalGet-clause-ok g c =
@@ -31,5 +33,7 @@ returns-in-GlobalGet-clause-ok g c =
     let asked = c.in-GlobalGet in
     let same = world_with units s.globals s.runs.entries in
     let told = c.get_global.ensures.ok units s.runs.entries asked.moment c.self-in-GlobalGet.invariant.0 in
-    let mine = subst (λ person. OnOk c.get_global.result (AnswersLine same (Some (line.GlobalGet asked.moment asked.uri person)) c.get_global.new.out.bytes same)) c.as_ref-in-GlobalGet.ensures.value told in
-    rw asked.is (subst (λ w. OnOk c.get_global.result (AnswersLine (world_of w) (Some (line.GlobalGet asked.moment asked.uri asked.person)) c.get_global.new.out.bytes (world_of w))) c.self-in-GlobalGet.view_is mine)
+    let mine = subst (λ person. IfOk c.get_global.result (λ reply. RepliesTo same
+    (Some (line.GlobalGet asked.moment asked.uri person)) reply c.get_global.new.out.bytes same)) c.as_ref-in-GlobalGet.ensures.value told in
+    rw asked.is (subst (λ w. IfOk c.get_global.result (λ reply. RepliesTo (world_of w)
+    (Some (line.GlobalGet asked.moment asked.uri asked.person)) reply c.get_global.new.out.bytes (world_of w))) c.self-in-GlobalGet.view_is mine)
