@@ -14,7 +14,7 @@ use Rattle.ld_rules.specs.SiteTests.{site_test, site_mark}
 use Rattle.ld_firing.proofs.LawsKept.{IsFired}
 use Rattle.ld_firing.proofs.LawsOrder.{firing_opening}
 use Rattle.ld_run.specs.Changes.{directly_changed}
-use Rattle.ld_checks.specs.Commands.{Admitted}
+use Rattle.ld_admission.specs.Commands.{Admitted}
 use Rattle.ld_run.proofs.LawsKept.{Fits, change_leaves}
 use Rattle.ld_laws.proofs.LawsLatching.{IsLeft, left_untouched, mark_left}
 

@@ -28,7 +28,8 @@ use Rattle.ld_run.specs.RunStep.{DoneCommand, run_step}
 use Rattle.ld_run.proofs.LawsKept.{IsLasting, step_keeps}
 use Rattle.ld_laws.proofs.LawsUnmoved.{kept_from_begin}
 use Rattle.ld_laws.proofs.ActOpenings.{firing_opens, change_leaves_act, change_leaves_now, change_leaves_run_mark}
-use Rattle.ld_laws.proofs.LawsOpeners.{IsOpener, opened_is_yes, yes_verdict}
+use Rattle.ld_laws.specs.ActLaws.{IsOpener}
+use Rattle.ld_laws.proofs.LawsOpeners.{opened_is_yes, yes_verdict}
 
 -- ---- the moment of an opening
 

@@ -2,7 +2,6 @@
 -- and so all that the others are shown.
 use mathlib.Core.Path.{fun_ext}
 use Rattle.std.proofs.Common.{◌≡◌, refl, ap, ap₂, subst, ◌∙◌, ℕ, ◌+◌, ◌<◌, ℤ, List, [], ◌∷◌, ◌++◌, map, flat_map, filter, length, Option, Some, None, Ok, Bool, true, false, cond, codes, decimal, is_some, option_map, length-append, slice_get, sym, nat_lt, ◌&&◌}
-use Rattle.std.specs.Prelude.{⊤}
 use Rattle.std.proofs.lemmas.Bool.{ltb-false}
 use Rattle.std.proofs.lemmas.Option.{slice_get_past}
 use Rattle.std.specs.Option.{option_map_or}
@@ -34,7 +33,7 @@ use Rattle.ld_roles.specs.Membership.{is_member_among, is_member_by}
 use Rattle.ld_roles.specs.RoleBounds.{role_bounds}
 use Rattle.ld_roles.specs.Roster.{Persons, newcomer, is_member_in}
 use Rattle.ld_state.specs.GlobalValues.{GlobalValues}
-use Rattle.ld_state.specs.RunState.{RunState, seen_in, cell_of, is_cell_of, joined}
+use Rattle.ld_state.specs.RunState.{RunState, seen_in, cell_of, joined}
 use Rattle.ld_state.proofs.Memberships.{below_more}
 use Rattle.ld_rules.specs.LawWords.{HasOwner}
 use Rattle.ld_rules.proofs.Alike.{same_if}
@@ -42,8 +41,8 @@ use Rattle.ld_rules.specs.SiteTests.{opening_of}
 use Rattle.ld_tree.specs.Lines.{line_text, spaced}
 use Rattle.ld_tree.specs.Tree.{is_open, tree_lines}
 use Rattle.ld_run.specs.Changes.{directly_changed}
-use Rattle.ld_checks.specs.Checks.{admitted, in_time, not_enrolled, has_seat, is_started}
-use Rattle.ld_checks.specs.Commands.{Admitted, enrols, assigns, drops, starts, opens, completes, sets, clears, gets, shows_tree, shows_outbox, reports, ticks}
+use Rattle.ld_admission.specs.Checks.{admitted, in_time, not_enrolled, has_seat, is_started}
+use Rattle.ld_admission.specs.Commands.{Admitted, enrols, assigns, drops, starts, opens, completes, sets, clears, gets, shows_tree, shows_outbox, reports, ticks}
 use Rattle.ld_replies.specs.Replies.{answer_told, counted_lines, printed_value}
 use Rattle.ld_replies.specs.Reports.{report_of_role, report_of_part, report_of_act, report_of_play, report_lines, done_or_open, progress_word, moment_word, WordLine}
 use Rattle.ld_run.specs.RunStep.{DoneCommand, run_step}
@@ -51,7 +50,9 @@ use Rattle.ld_run.proofs.LawsKept.{begun}
 use Rattle.ld_run.proofs.Joining.{joining_leaves, joining_leaves_member, joining_leaves_seen, not_joining}
 use Rattle.ld_laws.proofs.LawsUnmoved.{stages_of, no_turns_step, unstarted_step}
 use Rattle.ld_run.proofs.SeatsOfChecks.{Each, each_then}
-use Rattle.ld_laws.proofs.SameTrees.{ShowsSame, tree_same, open_same}
+use Rattle.ld_laws.specs.JoiningLaws.{EnrolmentJoins, JoiningIsNotSeen, TellsOfPresent}
+use Rattle.ld_laws.specs.TreeLaws.{ShowsSame}
+use Rattle.ld_laws.proofs.SameTrees.{tree_same, open_same}
 
 module _ (unit : Unit) (store : GlobalValues) (s : RunState) (moment : ℤ) (name : List ℕ) where
   abbrev before : Seen
@@ -192,14 +193,8 @@ module _ (unit : Unit) (store : GlobalValues) (s : RunState) (moment : ℤ) (nam
 
   -- ---- what is told
 
-  -- The command tells of none but the run and the persons that it has.
-  abbrev pub TellsOfOthers : Admitted → Type 0
-  TellsOfOthers (gets cell) = is_cell_of (length s.persons) cell ≡ false
-  TellsOfOthers (shows_tree p) = p < length s.persons
-  TellsOfOthers _ = ⊤
-
   -- Whatever a command tells of the run or of a person that it has is told as before the newcomer joined.
-  pub joining_tells_same : (command : Admitted) → TellsOfOthers command
+  pub joining_tells_same : (command : Admitted) → TellsOfPresent s command
       → answer_told unit (joined unit store s moment name) command ≡ answer_told unit s command
   joining_tells_same (gets cell) others = ap (λ value. codes " value=" ++ printed_value value) (joining_leaves unit store s moment name cell others)
   joining_tells_same (shows_tree p) below = ap (λ lines. counted_lines (map line_text lines)) (joining_leaves_tree p below)
@@ -244,3 +239,13 @@ pub quiet_enrolment_joins : (unit : Unit) (s : RunState) (store : GlobalValues) 
 quiet_enrolment_joins unit s store moment name d is none =
     no_turns_step unit s store moment (Enrol name) d is none
     ∙ ap (directly_changed unit store (begun unit store s moment) moment) (is_enrolment unit s store moment name d is)
+
+-- ---- the laws
+
+pub joining_is_not_seen : JoiningIsNotSeen
+joining_is_not_seen unit store s moment name =
+    (joining_tells_same unit store s moment name, joining_leaves_members unit store s moment name)
+
+pub enrolment_joins_alone : EnrolmentJoins
+enrolment_joins_alone unit s store moment name d is =
+    (enrolment_joins unit s store moment name d is, quiet_enrolment_joins unit s store moment name d is)

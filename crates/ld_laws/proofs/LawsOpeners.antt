@@ -33,21 +33,16 @@ use Rattle.ld_firing.proofs.LawsKept.{IsFired, FiringsKeep, settling_keeps}
 use Rattle.ld_firing.proofs.LawsOpenings.{firing_leaves}
 use Rattle.ld_firing.proofs.LawsOrder.{firing_opening}
 use Rattle.ld_firing.proofs.SitesNumbered.{run_site_there}
-use Rattle.ld_checks.specs.Checks.{is_started}
+use Rattle.ld_admission.specs.Checks.{is_started}
 use Rattle.ld_run.specs.Reached.{IsReached, made}
 use Rattle.ld_run.proofs.LawsKept.{IsLasting}
+use Rattle.ld_laws.specs.ActLaws.{IsOpener}
 use Rattle.ld_laws.proofs.LawsOrder.{acts_open_in_order, holds_if_reached}
 use Rattle.ld_laws.proofs.LawsRest.{marks_tell_tests}
 use Rattle.ld_laws.proofs.LawsUnstarted.{untouched_until_started}
 use Rattle.ld_laws.proofs.ActOpenings.{firing_opens, change_leaves_act, change_leaves_now, change_leaves_run_mark}
 
 -- ---- what the rule that opens an act has said
-
--- The rule of this number opens the act of this number.
-pub record IsOpener (unit : Unit) (rule thing : ℕ) : Type 0 where
-  pub one : Rule
-  pub ruled : slice_get (rules_of unit) rule ≡ Some one
-  pub opens : opened_by unit one ≡ Some thing
 
 abbrev number_in_mark : CellName → ℕ
 number_in_mark (Mark rule owner) = rule.0

@@ -21,7 +21,7 @@ use Rattle.ld_firing.proofs.LawsOpenings.{told_apart, firing_leaves, settling_le
 use Rattle.ld_state.proofs.SameCells.{one_cell}
 use Rattle.ld_firing.proofs.SeatsKept.{persons_kept}
 use Rattle.ld_run.specs.Changes.{directly_changed, with_first}
-use Rattle.ld_checks.specs.Commands.{Admitted, enrols, assigns, drops, starts, opens, completes, sets, clears, gets, shows_tree, shows_outbox, reports, ticks}
+use Rattle.ld_admission.specs.Commands.{Admitted, enrols, assigns, drops, starts, opens, completes, sets, clears, gets, shows_tree, shows_outbox, reports, ticks}
 use Rattle.ld_run.specs.RunStep.{DoneCommand, run_step}
 use Rattle.ld_run.proofs.LawsKept.{Fits, touches, change_leaves, begun, IsLasting, step_keeps}
 use Rattle.ld_laws.proofs.LawsLatching.{owner_after}

@@ -21,7 +21,7 @@ use Rattle.ld_firing.proofs.Found.{found_by}
 use Rattle.ld_firing.proofs.SeatsSweep.{sweep_fires}
 use Rattle.ld_firing.proofs.Walks.{no_length}
 use Rattle.ld_run.specs.Changes.{directly_changed, has_change}
-use Rattle.ld_checks.specs.Checks.{is_started}
+use Rattle.ld_admission.specs.Checks.{is_started}
 use Rattle.ld_run.specs.Reached.{IsReached, made, left_by}
 use Rattle.ld_run.specs.RunStep.{DoneCommand, run_step}
 use Rattle.ld_run.proofs.LawsKept.{begun}

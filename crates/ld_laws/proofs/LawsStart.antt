@@ -33,13 +33,14 @@ use Rattle.ld_firing.proofs.Named.{IsThing, thing_number_is}
 use Rattle.ld_firing.proofs.RulesThere.{act_of, act_is}
 use Rattle.ld_firing.proofs.SitesNumbered.{run_site_there}
 use Rattle.ld_run.specs.Changes.{directly_changed, has_change}
-use Rattle.ld_checks.specs.Checks.{admitted, in_time, not_running, none_short, is_started}
-use Rattle.ld_checks.specs.Commands.{Admitted, starts}
+use Rattle.ld_admission.specs.Checks.{admitted, in_time, not_running, none_short, is_started}
+use Rattle.ld_admission.specs.Commands.{Admitted, starts}
 use Rattle.ld_run.specs.Reached.{IsReached, left_by}
 use Rattle.ld_run.specs.RunStep.{DoneCommand, run_step}
 use Rattle.ld_laws.proofs.LawsActs.{step_opens_now}
 use Rattle.ld_run.proofs.LawsKept.{Fits, fits}
-use Rattle.ld_laws.proofs.LawsOpeners.{IsOpener, verdict_yes, yes_is_opened}
+use Rattle.ld_laws.specs.ActLaws.{IsOpener}
+use Rattle.ld_laws.proofs.LawsOpeners.{verdict_yes, yes_is_opened}
 use Rattle.ld_laws.proofs.LawsRest.{marks_tell_tests}
 use Rattle.ld_run.proofs.Settlings.{either_settled}
 use Rattle.ld_laws.proofs.LawsUnmoved.{HasStages, stages_of}

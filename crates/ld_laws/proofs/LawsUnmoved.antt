@@ -17,9 +17,9 @@ use Rattle.ld_firing.specs.RunSettling.{Settlement}
 use Rattle.ld_firing.proofs.LawsKept.{FiringsKeep, settling_keeps}
 use Rattle.ld_firing.proofs.LawsOpenings.{told_apart, settling_leaves_start}
 use Rattle.ld_run.specs.Changes.{directly_changed, has_change}
-use Rattle.ld_checks.specs.Checks.{admitted, is_started}
-use Rattle.ld_checks.specs.Commands.{Admitted, enrols, assigns, drops, starts, opens, completes, sets, clears, gets, shows_tree, shows_outbox, reports, ticks}
-use Rattle.ld_checks.specs.Refusals.{Refusal}
+use Rattle.ld_admission.specs.Checks.{admitted, is_started}
+use Rattle.ld_admission.specs.Commands.{Admitted, enrols, assigns, drops, starts, opens, completes, sets, clears, gets, shows_tree, shows_outbox, reports, ticks}
+use Rattle.ld_admission.specs.Refusals.{Refusal}
 use Rattle.ld_run.specs.RunStep.{DoneCommand, done_by, run_step, settled}
 use Rattle.ld_run.proofs.LawsKept.{Fits, fits, touches, change_leaves, begun}
 use Rattle.ld_run.proofs.LawsNotices.{changed_outbox}

@@ -16,8 +16,8 @@ use Rattle.ld_state.specs.RunState.{RunState, made_at, joined, is_kept_for}
 use Rattle.ld_state.proofs.Elements.{different}
 use Rattle.ld_firing.proofs.LawsOpenings.{told_apart, settling_leaves_start}
 use Rattle.ld_run.specs.Changes.{directly_changed}
-use Rattle.ld_checks.specs.Checks.{is_started}
-use Rattle.ld_checks.specs.Commands.{Admitted, enrols, assigns, drops, starts, opens, completes, sets, clears, gets, shows_tree, shows_outbox, reports, ticks}
+use Rattle.ld_admission.specs.Checks.{is_started}
+use Rattle.ld_admission.specs.Commands.{Admitted, enrols, assigns, drops, starts, opens, completes, sets, clears, gets, shows_tree, shows_outbox, reports, ticks}
 use Rattle.ld_run.specs.Reached.{IsReached}
 use Rattle.ld_laws.specs.Untouched.{IsUntouched}
 use Rattle.ld_run.proofs.LawsKept.{Fits, touches, change_leaves, IsLasting}

@@ -1,10 +1,13 @@
 pub mod ActOpenings
+pub mod AlikeHistories
 pub mod AllSeats
+pub mod AnsweredLines
 pub mod EachLine
-pub mod Histories
 pub mod LawsActs
+pub mod LawsDone
 pub mod LawsJoining
 pub mod LawsLatching
+pub mod LawsNotices
 pub mod LawsOpeners
 pub mod LawsOpenings
 pub mod LawsOrder
@@ -13,8 +16,11 @@ pub mod LawsStart
 pub mod LawsTree
 pub mod LawsUnmoved
 pub mod LawsUnstarted
-mod Meetings
-mod OtherLines
-mod OwnLines
-mod SameRuns
+pub mod Meetings
+pub mod OtherLines
+pub mod OwnLines
+pub mod SameRuns
 pub mod SameTrees
+pub mod SeatedLaws
+pub mod SeatsReached
+pub mod TextsTell

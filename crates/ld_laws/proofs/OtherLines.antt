@@ -6,8 +6,8 @@ use Rattle.std.specs.Str.{bytes_eq}
 use Rattle.ld_lines.specs.declared.line.Line.{Line}
 use Rattle.ld_lines.specs.declared.line.Line.TheVariants.{Create, OfRun, GlobalSet, GlobalGet}
 use Rattle.ld_state.specs.RunState.{RunState, made_at}
-use Rattle.ld_checks.specs.Checks.{fitting_value}
-use Rattle.ld_checks.specs.Refusals.{Refusal, RunExists, UnknownRun, UnknownUnit, refuse_if}
+use Rattle.ld_admission.specs.Checks.{fitting_value}
+use Rattle.ld_admission.specs.Refusals.{Refusal, RunExists, UnknownRun, UnknownUnit, refuse_if}
 use Rattle.ld_run.specs.RunStep.{run_step}
 use Rattle.ld_run.proofs.SeatsOfChecks.{Each, each_bound, each_then}
 use Rattle.ld_world.specs.Isolation.{asks_it}

@@ -13,7 +13,7 @@ use Rattle.ld_expr.specs.Lookup.{list_from}
 use Rattle.ld_roles.specs.Roster.{Persons}
 use Rattle.ld_state.specs.GlobalValues.{GlobalValues}
 use Rattle.ld_state.specs.RunState.{RunState, made_at}
-use Rattle.ld_checks.specs.Refusals.{Refusal, RunExists, UnknownUnit, ◌unless_refused◌ as ◌>>=◌, ◌>>◌, refuse_if}
+use Rattle.ld_admission.specs.Refusals.{Refusal, RunExists, UnknownUnit, ◌unless_refused◌ as ◌>>=◌, ◌>>◌, refuse_if}
 use Rattle.ld_run.specs.RunStep.{DoneCommand, run_step}
 use Rattle.ld_run.specs.RunView.{block_of, state_after}
 use Rattle.ld_world.specs.Isolation.{but_for_store, newcomer_of}

@@ -24,9 +24,9 @@ use Rattle.ld_state.specs.RunCells.{begins_as, property_begins}
 use Rattle.ld_state.specs.RunState.{RunState, cell_of, made_at}
 use Rattle.ld_sharing.specs.Globals.{giving_back, store_person, store_says, taking_in}
 use Rattle.ld_run.specs.Changes.{directly_changed, has_change}
-use Rattle.ld_checks.specs.Checks.{admitted, is_started}
-use Rattle.ld_checks.specs.Commands.{Admitted}
-use Rattle.ld_checks.specs.Refusals.{Refusal, ◌unless_refused◌ as ◌>>=◌, ◌>>◌}
+use Rattle.ld_admission.specs.Checks.{admitted, is_started}
+use Rattle.ld_admission.specs.Commands.{Admitted}
+use Rattle.ld_admission.specs.Refusals.{Refusal, ◌unless_refused◌ as ◌>>=◌, ◌>>◌}
 use Rattle.ld_run.specs.RunStep.{DoneCommand, at_moment, done_by, open_for_it, run_step, settled}
 use Rattle.ld_run.specs.RunView.{state_after}
 use Rattle.ld_world.specs.Isolation.{HoldTheSame, but_for_store}

@@ -15,20 +15,11 @@ use Rattle.ld_model.specs.declared.method.Play.{Play}
 use Rattle.ld_model.specs.declared.method.RolePart.{RolePart}
 use Rattle.ld_model.specs.declared.unit.Unit.{Unit}
 use Rattle.ld_names.specs.Names.{names_of}
-use Rattle.ld_expr.specs.Done.{is_done}
 use Rattle.ld_expr.specs.Lookup.{is_some_and, list_from, activity_named, structure_named, environment_named}
-use Rattle.ld_expr.specs.Membership.{is_member_of}
-use Rattle.ld_expr.specs.Owners.{of_person}
 use Rattle.ld_expr.specs.Seen.{Seen}
 use Rattle.ld_tree.specs.Lines.{TreeLine}
-use Rattle.ld_tree.specs.Tree.{done, opened, status_by, unless_closed, once_done, thing_line, status_line, is_visible, if_visible, all_item_lines, object_lines, service_lines, environment_lines, all_environment_lines, activity_word, activity_lines, is_passed, in_turn, flagged, FlaggedLines, structure_lines, target_lines, part_lines, done_act_lines, is_act_opened, open_act_lines, current_act_lines, play_lines, tree_lines, tells_open, is_open, feedback_of}
-
--- What a person's tree looks at is the same in both.
-pub record ShowsSame (unit : Unit) (a b : Seen) (p : ℕ) : Type 0 where
-  pub visible : (id : List ℕ) → is_visible unit a p id ≡ is_visible unit b p id
-  pub completed : (id : List ℕ) → is_done unit a (of_person p) id ≡ is_done unit b (of_person p) id
-  pub entered : (id : List ℕ) → is_act_opened unit a id ≡ is_act_opened unit b id
-  pub member : (role : List ℕ) → is_member_of unit a role p ≡ is_member_of unit b role p
+use Rattle.ld_tree.specs.Tree.{done, opened, status_by, unless_closed, once_done, thing_line, status_line, if_visible, all_item_lines, object_lines, service_lines, environment_lines, all_environment_lines, activity_word, activity_lines, is_passed, in_turn, flagged, FlaggedLines, structure_lines, target_lines, part_lines, done_act_lines, open_act_lines, current_act_lines, play_lines, tree_lines, tells_open, is_open, feedback_of}
+use Rattle.ld_laws.specs.TreeLaws.{ShowsSame, TreeIsThePersons}
 
 module _ (unit : Unit) (a b : Seen) (p : ℕ) (same : ShowsSame unit a b p) where
   -- ---- items and environments
@@ -135,3 +126,6 @@ module _ (unit : Unit) (a b : Seen) (p : ℕ) (same : ShowsSame unit a b p) wher
   pub open_same : (thing : ℕ) → is_open unit a p thing ≡ is_open unit b p thing
   unfolding is_open
   open_same thing = λ i. is_some_and (λ id. list_any (tells_open id) (tree_same i)) (slice_get (names_of unit).things thing)
+
+pub tree_is_the_persons : TreeIsThePersons
+tree_is_the_persons unit a b p same = (tree_same unit a b p same, open_same unit a b p same)

@@ -1,5 +1,6 @@
--- What a run meets in a history, and that its replies depend on nothing else.
-use Rattle.std.specs.Prelude.{◌≡◌, ℕ, List, [], ◌∷◌, ◌++◌, map, Option, Some, None, Bool, true, false, if◌then◌else◌}
+-- What a run meets in a history, and that the replies to it depend on nothing else.
+use Rattle.std.specs.Prelude.{◌≡◌, ℕ, List, [], ◌∷◌, ◌++◌, map, Option, Some, None, Err, Bool, true, false, ◌&&◌, not, ⊤, if◌then◌else◌}
+use Rattle.std.specs.List.{flat_map}
 use Rattle.std.specs.Option.{option_map_or}
 use Rattle.std.specs.Str.{bytes_eq}
 use Rattle.ld_value.specs.Datum.{Datum}
@@ -14,15 +15,50 @@ use Rattle.ld_lines.specs.declared.line.Line.TheVariants.{Create, OfRun}
 use Rattle.ld_state.specs.GlobalValues.{GlobalValues}
 use Rattle.ld_state.specs.RunCells.{stored_value}
 use Rattle.ld_state.specs.RunState.{RunState}
-use Rattle.ld_world.specs.Answers.{replies}
+use Rattle.ld_admission.specs.Refusals.{NoMemory}
+use Rattle.ld_world.specs.Answers.{Answers, AnswersLine, line_of}
 use Rattle.ld_world.specs.Isolation.{newcomer_of}
-use Rattle.ld_world.specs.World.{WorldState, first_world, run_named, unit_named, world_step, world_after}
+use Rattle.ld_world.specs.World.{WorldState, first_world, reply_block, run_named, unit_named, world_step, world_after}
+
+-- ---- histories
+
+-- What was asked by a line, and the text that was written for it.
+pub record AnsweredLine : Type 0 where
+  pub asked : Option Line
+  pub text : List ℕ
+
+-- Each text answers its line in the world that the lines before it have left: it is the line's reply block, or
+-- it says that memory ran out, and then the world stays.
+abbrev pub AreAnswered : WorldState → List AnsweredLine → Type 0
+AreAnswered w [] = ⊤
+AreAnswered w (one ∷ more) =
+    (new : WorldState) × AnswersLine w one.asked one.text new × AreAnswered new more
+
+-- The lines were answered one after the other by this text, and the history says what was written for each.
+pub record IsHistoryOf (w : WorldState) (lines : List (List ℕ)) (text : List ℕ) (history : List AnsweredLine) : Type 0 where
+  pub asked : map (λ one. one.asked) history ≡ map line_of lines
+  pub written : flat_map (λ one. one.text) history ≡ text
+  pub answered : AreAnswered w history
+
+-- The text says that memory ran out: it is `no 99 no-memory` and a line feed.
+abbrev pub says_no_memory : List ℕ → Bool
+says_no_memory text = bytes_eq text (reply_block (Err NoMemory))
+
+-- The world that the line leaves. One for which memory ran out counts as not given.
+abbrev pub left_by : WorldState → AnsweredLine → WorldState
+left_by w one = if says_no_memory one.text then w else world_after w (world_step w one.asked)
+
+-- ---- lines of a run
 
 -- The line makes a run of this name, or asks something of it.
 abbrev pub names_it : List ℕ → Option Line → Bool
 names_it name (Some (Create _ run _)) = bytes_eq run name
 names_it name (Some (OfRun _ run _)) = bytes_eq run name
 names_it name _ = false
+
+-- The line names the run, and counts as given.
+abbrev pub is_met : List ℕ → AnsweredLine → Bool
+is_met name one = not (says_no_memory one.text) && names_it name one.asked
 
 -- ---- values of the store
 
@@ -69,34 +105,37 @@ pub record MetLine : Type 0 where
   pub line : Option Line
   pub meeting : Meeting
 
--- What the run of this name meets by the lines, from the world on.
-abbrev pub met : WorldState → List ℕ → List (Option Line) → List MetLine
+-- What the run of this name meets in the history, from the world on: of each line that names it and counts as
+-- given the line and what is met by it, in order.
+abbrev pub met : WorldState → List ℕ → List AnsweredLine → List MetLine
 met w name [] = []
-met w name (line ∷ lines) =
-    let rest = met (world_after w (world_step w line)) name lines in
-    if names_it name line then record { line = line; meeting = meeting_by w line } ∷ rest else rest
+met w name (one ∷ more) =
+    let rest = met (left_by w one) name more in
+    if is_met name one then record { line = one.asked; meeting = meeting_by w one.asked } ∷ rest else rest
 
--- ---- the replies to it
+-- The replies to these lines.
+abbrev pub replies_to : List ℕ → List AnsweredLine → List (List ℕ)
+replies_to name [] = []
+replies_to name (one ∷ more) =
+    let rest = replies_to name more in
+    if is_met name one then one.text ∷ rest else rest
 
--- Of texts, one for each line, those to the lines that name the run.
-abbrev pub told_to : List ℕ → List (Option Line) → List (List ℕ) → List (List ℕ)
-told_to name [] texts = []
-told_to name (line ∷ lines) [] = []
-told_to name (line ∷ lines) (text ∷ texts) =
-    let rest = told_to name lines texts in
-    if names_it name line then text ∷ rest else rest
-
--- The replies to the lines that name the run.
-abbrev pub own_replies : WorldState → List ℕ → List (Option Line) → List (List ℕ)
-own_replies w name lines = told_to name lines (replies w lines)
-
--- ---- the law
+-- ---- the laws
 
 -- If the run of this name meets the same in two histories, of whatever units and with whatever other lines, the
--- replies to the lines that name it are the same. Lines for which memory runs out count as not given, and stand
--- in neither.
-abbrev pub MeetingsTellReplies : Type 0
-MeetingsTellReplies =
-    (units other_units : List Unit) (name : List ℕ) (lines other_lines : List (Option Line))
-    → met (first_world units) name lines ≡ met (first_world other_units) name other_lines
-    → own_replies (first_world units) name lines ≡ own_replies (first_world other_units) name other_lines
+-- replies to the lines by which it meets it are the same. Lines for which memory ran out stand in both histories
+-- where they came, and count as not given.
+abbrev pub RunsAreIsolated : Type 0
+RunsAreIsolated =
+    (units other_units : List Unit) (name : List ℕ) (history other : List AnsweredLine)
+    → AreAnswered (first_world units) history → AreAnswered (first_world other_units) other
+    → met (first_world units) name history ≡ met (first_world other_units) name other
+    → replies_to name history ≡ replies_to name other
+
+-- A text that answers lines is that of one history of these lines, and of no other: the text itself tells what
+-- was written for each line, and for which of them memory ran out.
+abbrev pub TextTellsItsHistory : Type 0
+TextTellsItsHistory =
+    (w : WorldState) (lines : List (List ℕ)) (text : List ℕ) → Answers w lines text
+    → (history : List AnsweredLine) × IsHistoryOf w lines text history
+    × ((other : List AnsweredLine) → IsHistoryOf w lines text other → other ≡ history)

@@ -5,7 +5,7 @@ use Rattle.ld_lines.specs.declared.command.RunCommand.TheVariants.{Enrol}
 use Rattle.ld_lines.specs.declared.line.Line.{Line}
 use Rattle.ld_lines.specs.declared.line.Line.TheVariants.{Create}
 use Rattle.ld_state.specs.RunCells.{begins_as}
-use Rattle.ld_checks.specs.Checks.{admitted}
+use Rattle.ld_admission.specs.Checks.{admitted}
 use Rattle.ld_run.specs.RunStep.{run_step}
 use Rattle.ld_world.specs.World.{world_step, reply_block}
 use Rattle.ld_laws.specs.Courses.{learner, choice, course, one_part, a_moment, at, told}

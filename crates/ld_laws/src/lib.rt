@@ -2,3 +2,12 @@
 //! commands; whole histories, in which a run's replies depend on what the run met and on nothing
 //! else; and worked courses, whose replies the checker computes from the definitions.
 #![tactic(auto)]
+
+pub mod acts;
+pub mod histories;
+pub mod notices;
+pub mod refusals;
+pub mod runs;
+pub mod sweeps;
+pub mod trees;
+pub mod worlds;
