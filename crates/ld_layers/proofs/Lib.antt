@@ -1,0 +1,5 @@
+pub mod LayerLaws
+pub mod LoopLaws
+pub mod Ranges
+pub mod TableLaws
+pub mod Calm

@@ -1,0 +1,4 @@
+pub mod Layers
+pub mod Loops
+pub mod Tables
+pub mod Ranked
