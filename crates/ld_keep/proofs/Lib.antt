@@ -1,0 +1,12 @@
+pub mod Told
+pub mod Moments
+pub mod Records
+pub mod Files
+pub mod Images
+pub mod Closing
+pub mod Keeping
+pub mod Advancing
+pub mod Overwriting
+pub mod PastCalls
+pub mod NotedSteps
+pub mod Spelled
