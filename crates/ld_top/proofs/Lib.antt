@@ -1,5 +1,6 @@
 pub mod Adding
 pub mod Behind
+pub mod Completing
 pub mod CutReplies
 pub mod FolderFiles
 pub mod HeldLines

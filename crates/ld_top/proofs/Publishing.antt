@@ -13,7 +13,7 @@ use Rattle.ld_top.specs.Folder.{docs_in, document_faults, folder_faults, held_by
 use Rattle.ld_top.specs.InFolder.{IsReading}
 use Rattle.ld_top.specs.Reading.{AddsUnit, IsRefusedFor}
 use Rattle.ld_top.specs.Replay.{AreReadings, Publishes}
-use Rattle.ld_top.specs.Words.{words_of}
+use Rattle.ld_words.specs.Words.{words_of}
 
 -- ---- every folder has a reading
 

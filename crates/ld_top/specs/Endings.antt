@@ -15,7 +15,7 @@ number_of WriteFault = 6
 number_of NoMemory = 7
 number_of InputTooLong = 8
 
--- The word that is written on standard error; none where the input was read to its end.
+-- The word that is written on standard error; none where the form was done.
 abbrev pub ending_word : Ending → List ℕ
 ending_word Done = []
 ending_word BadWords = codes "bad-words"
@@ -63,3 +63,25 @@ IsReplayEnding ReadFault = Unit {0}
 IsReplayEnding WriteFault = Unit {0}
 IsReplayEnding NoMemory = Unit {0}
 IsReplayEnding InputTooLong = Unit {0}
+
+-- How a call that publishes folders and answers lines can end.
+abbrev pub IsCallEnding : Ending → Type 0
+IsCallEnding Done = Unit {0}
+IsCallEnding BadWords = ⊥
+IsCallEnding ShelfFault = Unit {0}
+IsCallEnding UnitRefused = Unit {0}
+IsCallEnding ReadFault = Unit {0}
+IsCallEnding WriteFault = Unit {0}
+IsCallEnding NoMemory = Unit {0}
+IsCallEnding InputTooLong = Unit {0}
+
+-- How a report on a folder can end.
+abbrev pub IsReportEnding : Ending → Type 0
+IsReportEnding Done = Unit {0}
+IsReportEnding BadWords = ⊥
+IsReportEnding ShelfFault = Unit {0}
+IsReportEnding UnitRefused = Unit {0}
+IsReportEnding ReadFault = ⊥
+IsReportEnding WriteFault = Unit {0}
+IsReportEnding NoMemory = Unit {0}
+IsReportEnding InputTooLong = ⊥

@@ -1,8 +1,10 @@
 pub mod Answering
+pub mod Completeness
 pub mod Endings
 pub mod Folder
 pub mod InFolder
 pub mod Reading
 pub mod Replay
+pub mod Reports
 pub mod Sending
-pub mod Words
+pub mod Tasks

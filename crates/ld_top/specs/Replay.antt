@@ -1,5 +1,5 @@
--- What a call of the program is to have done when it ends.
-use Rattle.std.specs.Prelude.{ℕ, List, [], ◌∷◌, ◌≡◌, ◌⊎◌, Option, Some, None, Result, Ok, Err, ⊤}
+-- What a call of `replay FOLDER..` is to have done when it ends.
+use Rattle.std.specs.Prelude.{ℕ, List, [], ◌∷◌, ◌≡◌, ◌⊎◌, Option, Result, Ok, Err, ⊤}
 use Rattle.ld_base.specs.Outside.{Files, then_piece, AddsPrefix}
 use Rattle.ld_json.specs.Fault.{Told}
 use Rattle.ld_model.specs.declared.unit.Unit.{Unit}
@@ -33,42 +33,34 @@ abbrev pub FromRefusal : Option Files → List (List ℕ) → (List ℕ → Type
 FromRefusal files folders Done =
     (refused : RefusedFolder) × WhereTold files (λ told. Publishes told folders (Err refused)) × Done (refused_line refused)
 
--- Nothing but the form of the words is asked where there are no folders in them.
-abbrev pub InFolders : Option (List (List ℕ)) → (List (List ℕ) → Type 0) → Type 0
-InFolders None Holds = ⊥
-InFolders (Some folders) Holds = Holds folders
+-- ---- the ends of the call
 
--- ---- the ends of a call
-
--- `replay FOLDER..` was done: the source told its end below 2^40 bytes, and what was written answers all
--- its lines.
-abbrev pub ReplayedAll : Option (List (List ℕ)) → Option Files → Option (List ℕ) → Option (List ℕ) → Option (List ℕ) → Option (List ℕ) → Type 0
+-- It was done: the source told its end below 2^40 bytes, and what was written answers all its lines.
+abbrev pub ReplayedAll : List (List ℕ) → Option Files → Option (List ℕ) → Option (List ℕ) → Option (List ℕ) → Option (List ℕ) → Type 0
 ReplayedAll folders files before left old new =
-    InFolders folders (λ names. FromUnits files names (λ units. AnsweredAll (first_world units) before left old new))
+    FromUnits files folders (λ units. AnsweredAll (first_world units) before left old new)
 
--- `replay FOLDER..` stopped after this many bytes of the source; what was written answers the lines that
--- were ended in them.
-abbrev pub ReplayedTaken : (ℕ → Type 0) → Option (List (List ℕ)) → Option Files → Option (List ℕ) → Option (List ℕ) → Option (List ℕ) → Option (List ℕ) → Type 0
+-- It stopped after this many bytes of the source; what was written answers the lines that were ended in them.
+abbrev pub ReplayedTaken : (ℕ → Type 0) → List (List ℕ) → Option Files → Option (List ℕ) → Option (List ℕ) → Option (List ℕ) → Option (List ℕ) → Type 0
 ReplayedTaken Many folders files before left old new =
-    InFolders folders (λ names. FromUnits files names (λ units. AnsweredTaken Many (first_world units) before left old new))
+    FromUnits files folders (λ units. AnsweredTaken Many (first_world units) before left old new)
 
 -- A folder is refused, and the one line that tells it was written.
-abbrev pub Refused : Option (List (List ℕ)) → Option Files → Option (List ℕ) → Option (List ℕ) → Type 0
-Refused folders files old new =
-    InFolders folders (λ names. FromRefusal files names (λ line. new ≡ then_piece old line))
+abbrev pub Refused : List (List ℕ) → Option Files → Option (List ℕ) → Option (List ℕ) → Type 0
+Refused folders files old new = FromRefusal files folders (λ line. new ≡ then_piece old line)
 
--- `replay FOLDER..` stopped in the reply to a line: those before it were answered, and a beginning of its own
--- reply was written.
-abbrev pub ReplayedCut : Option (List (List ℕ)) → Option Files → Option (List ℕ) → Option (List ℕ) → Option (List ℕ) → Option (List ℕ) → Type 0
+-- It stopped in the reply to a line: those before it were answered, and a beginning of its own reply was
+-- written.
+abbrev pub ReplayedCut : List (List ℕ) → Option Files → Option (List ℕ) → Option (List ℕ) → Option (List ℕ) → Option (List ℕ) → Type 0
 ReplayedCut folders files before left old new =
-    InFolders folders (λ names. FromUnits files names (λ units. AnsweredCut (first_world units) before left old new))
+    FromUnits files folders (λ units. AnsweredCut (first_world units) before left old new)
 
 -- A folder is refused, a beginning of the one line that tells it was written, and nothing was taken from the
 -- source.
-abbrev pub RefusedCut : Option (List (List ℕ)) → Option Files → Option (List ℕ) → Option (List ℕ) → Option (List ℕ) → Option (List ℕ) → Type 0
+abbrev pub RefusedCut : List (List ℕ) → Option Files → Option (List ℕ) → Option (List ℕ) → Option (List ℕ) → Option (List ℕ) → Type 0
 RefusedCut folders files before left old new =
-    InFolders folders (λ names. FromRefusal files names (λ line. AddsPrefix old line new × (left ≡ before)))
+    FromRefusal files folders (λ line. AddsPrefix old line new × (left ≡ before))
 
 -- What was written grew by a beginning of what was to be written: the line of a refusal, or the replies.
-abbrev pub CutShort : Option (List (List ℕ)) → Option Files → Option (List ℕ) → Option (List ℕ) → Option (List ℕ) → Option (List ℕ) → Type 0
+abbrev pub CutShort : List (List ℕ) → Option Files → Option (List ℕ) → Option (List ℕ) → Option (List ℕ) → Option (List ℕ) → Type 0
 CutShort folders files before left old new = RefusedCut folders files before left old new ⊎ ReplayedCut folders files before left old new

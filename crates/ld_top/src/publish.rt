@@ -6,7 +6,7 @@ ghost use Rattle.ld_world.specs.WorldView.{world_of};
 ghost use Rattle.ld_top.specs.InFolder.{WhereTold};
 ghost use Rattle.ld_top.specs.Reading.{AddsUnit, StopsAtFolder, StopsBeside};
 ghost use Rattle.ld_top.specs.Replay.{Publishes};
-ghost use Rattle.ld_top.specs.Words.{words_of};
+ghost use Rattle.ld_words.specs.Words.{words_of};
 
 use crate::reader::folder::read_folder;
 use crate::reader::stop::FolderStop;

@@ -36,6 +36,9 @@ fn a_shelf_that_fails_ends_the_call(rt: HostRuntime) -> Result<(), Fail> {
             assert_eq!(rt; ended, (3, 0), "at call {number}");
         }
     }
+    // Six documents are asked for, so there is no seventh call.
+    let ended = read_with(rt.alloc(), "roles.json", Some(roles), 7)?;
+    assert_eq!(rt; ended, (0, 0));
     Ok(())
 }
 

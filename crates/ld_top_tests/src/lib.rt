@@ -10,6 +10,8 @@ mod folders;
 #[cfg(test)]
 mod refs;
 #[cfg(test)]
+mod reports;
+#[cfg(test)]
 mod several;
 #[cfg(test)]
 mod streams;

@@ -1,7 +1,7 @@
 //! A checked unit, and graphs that no documents have.
 use crate::calls::{checked, first_files};
+use ld_cycles::{GREATEST, expanded_sizes, first_on_cycle};
 use ld_names::Named;
-use ld_ways::{GREATEST, expanded_sizes, first_on_cycle};
 use std::alloc::Global;
 use std::test::Fail;
 

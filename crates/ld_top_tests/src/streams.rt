@@ -46,24 +46,30 @@ fn lines_are_answered_however_they_are_cut(rt: HostRuntime) -> Result<(), Fail> 
 
 #[test]
 fn a_source_that_fails_ends_the_call(rt: HostRuntime) -> Result<(), Fail> {
-    // The take that fails, and how much of the replies stands: the lines that were ended before it.
+    // The take that fails, the status, and how much of the replies stands: the lines that were ended
+    // before it. The run has nine takes.
     let table = [
-        (1, 0),
-        (2, 10),
-        (3, 53),
-        (4, 53),
-        (5, 97),
-        (6, 140),
-        (7, 186),
-        (8, 374),
-        (9, 389),
+        (1, 5, 0),
+        (2, 5, 10),
+        (3, 5, 53),
+        (4, 5, 53),
+        (5, 5, 97),
+        (6, 5, 140),
+        (7, 5, 186),
+        (8, 5, 374),
+        (9, 5, 389),
+        (10, 0, 389),
     ];
-    for (number, length) in table {
+    for (number, ending, length) in table {
         let mut case = first(FIRST_RUN.as_bytes());
         case.piece = 44;
         case.source_fails = number;
         let (status, written) = ran(rt.alloc(), &case)?;
-        assert_eq!(rt; (status, written.len()), (5, length), "at take {number}");
+        assert_eq!(rt;
+            (status, written.len()),
+            (ending, length),
+            "at take {number}"
+        );
         assert!(rt;
             FIRST_REPLIES.as_bytes().starts_with(&written),
             "at take {number}"
@@ -74,22 +80,28 @@ fn a_source_that_fails_ends_the_call(rt: HostRuntime) -> Result<(), Fail> {
 
 #[test]
 fn a_sink_that_fails_ends_the_call(rt: HostRuntime) -> Result<(), Fail> {
-    // The put that fails, and how much of the replies stands: those to the lines before it. The
-    // lines come in pieces of 44 bytes, so that each reply is written before more is taken.
-    for (number, length) in [
-        (1, 0),
-        (2, 10),
-        (3, 53),
-        (4, 97),
-        (5, 140),
-        (6, 186),
-        (7, 374),
+    // The put that fails, the status, and how much of the replies stands: those to the lines before
+    // it. The lines come in pieces of 44 bytes, so that each reply is written before more is taken.
+    // The run has seven puts.
+    for (number, ending, length) in [
+        (1, 6, 0),
+        (2, 6, 10),
+        (3, 6, 53),
+        (4, 6, 97),
+        (5, 6, 140),
+        (6, 6, 186),
+        (7, 6, 374),
+        (8, 0, 389),
     ] {
         let mut case = first(FIRST_RUN.as_bytes());
         case.piece = 44;
         case.sink_fails = number;
         let (status, written) = ran(rt.alloc(), &case)?;
-        assert_eq!(rt; (status, written.len()), (6, length), "at put {number}");
+        assert_eq!(rt;
+            (status, written.len()),
+            (ending, length),
+            "at put {number}"
+        );
         assert!(rt;
             FIRST_REPLIES.as_bytes().starts_with(&written),
             "at put {number}"

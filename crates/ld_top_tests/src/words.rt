@@ -12,7 +12,7 @@ fn status<'a>(alloc: Global, words: &'a [&'static str]) -> Result<u8, NoMemory> 
 
 #[test]
 fn words_of_no_form_are_refused(rt: HostRuntime) -> Result<(), Fail> {
-    let table: [(&[&str], u8); 9] = [
+    let table: [(&[&str], u8); 15] = [
         (&[], 2),
         (&["replay"], 2),
         (&["play", "u1"], 2),
@@ -20,6 +20,12 @@ fn words_of_no_form_are_refused(rt: HostRuntime) -> Result<(), Fail> {
         (&["replay", ""], 2),
         (&["replay", "-u1"], 2),
         (&["replay", "u1", "-"], 2),
+        (&["check"], 2),
+        (&["check", "u1", "u2"], 2),
+        (&["check", "-u1"], 2),
+        (&["check", "--help"], 2),
+        (&["keep", "u1"], 2),
+        (&["check", "u1"], 0),
         (&["replay", "u1", "u2"], 0),
         (&["replay", "replay"], 4),
     ];

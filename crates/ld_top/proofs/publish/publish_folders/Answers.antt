@@ -2,7 +2,7 @@ use Rattle.std.proofs.Common.{arith, ◌≡◌, ◌+◌, [], Some, Ok, Err, get_
 use Rattle.ld_base.specs.Outside.{Files}
 use Rattle.ld_json.specs.Fault.{told_by}
 use Rattle.ld_world.specs.World.{WorldState, first_world}
-use Rattle.ld_top.specs.Words.{words_of}
+use Rattle.ld_words.specs.Words.{words_of}
 use Rattle.ld_top.proofs.Publishing.{PublishesFrom, publishes, publishes_all, added_at, refused_at}
 use Rattle.ld_top.proofs.publish.publish_folders.Goals as goal
 

@@ -5,7 +5,7 @@ use Rattle.ld_world.specs.World.{first_world}
 use Rattle.ld_world.specs.WorldView.{world_of}
 use Rattle.ld_top.specs.InFolder.{WhereTold}
 use Rattle.ld_top.specs.Replay.{Publishes}
-use Rattle.ld_top.specs.Words.{words_of}
+use Rattle.ld_words.specs.Words.{words_of}
 use Rattle.ld_top.proofs.Publishing.{PublishesFrom}
 use Rattle.ld_top.proofs.publish.publish_folders.Given as goal
 

@@ -1,0 +1,59 @@
+-- What the words ask of a call, and what the call is to have done of it when it ends.
+use Rattle.std.specs.Prelude.{ℕ, List, ◌≡◌, Option, Some, None, ⊤}
+use Rattle.ld_base.specs.Maybe.{◌>>=◌}
+use Rattle.ld_base.specs.Outside.{Files}
+use Rattle.ld_words.specs.Forms.{Form, replay_form, check_form, rank_form, keep_form, form_in}
+use Rattle.ld_top.specs.declared.report.Report.{Report}
+use Rattle.ld_top.specs.declared.report.Report.TheVariants.{Check, Rank}
+use Rattle.ld_top.specs.Replay.{CutShort, Refused, ReplayedAll, ReplayedTaken}
+use Rattle.ld_top.specs.Reports.{ReportCut, Reported, ReportRefused}
+
+-- What a call does.
+pub data Task : Type 0 where
+  -- The units of the folders are published, and lines are answered.
+  replays : List (List ℕ) → Task
+  -- A report on the unit of the folder is printed.
+  reports : Report → List ℕ → Task
+
+-- What is asked by words of the form; none where the call knows no such form.
+abbrev pub task_of : Form → Option Task
+task_of (replay_form folders) = Some (replays folders)
+task_of (check_form folder) = Some (reports Check folder)
+task_of (rank_form folder) = Some (reports Rank folder)
+task_of (keep_form _) = None
+
+-- What is asked by the words.
+abbrev pub task_in : List (List ℕ) → Option Task
+task_in words = form_in words >>= task_of
+
+-- This holds of what is asked, and something is asked.
+abbrev pub OfTask : Option Task → (Task → Type 0) → Type 0
+OfTask None Holds = ⊥
+OfTask (Some task) Holds = Holds task
+
+-- A report is asked for.
+abbrev pub IsReport : Task → Type 0
+IsReport (replays _) = ⊥
+IsReport (reports _ _) = ⊤
+
+-- ---- the ends of a call
+
+-- The task was done.
+abbrev pub TaskDone : Option Files → Option (List ℕ) → Option (List ℕ) → Option (List ℕ) → Option (List ℕ) → Task → Type 0
+TaskDone files before left old new (replays folders) = ReplayedAll folders files before left old new
+TaskDone files before left old new (reports report folder) = Reported report folder files old new
+
+-- A folder is refused, and the one line that tells it was written.
+abbrev pub TaskRefused : Option Files → Option (List ℕ) → Option (List ℕ) → Task → Type 0
+TaskRefused files old new (replays folders) = Refused folders files old new
+TaskRefused files old new (reports report folder) = ReportRefused folder files old new
+
+-- It stopped after this many bytes of the source. A report takes none.
+abbrev pub TaskStopped : (ℕ → Type 0) → Option Files → Option (List ℕ) → Option (List ℕ) → Option (List ℕ) → Option (List ℕ) → Task → Type 0
+TaskStopped Many files before left old new (replays folders) = ReplayedTaken Many folders files before left old new
+TaskStopped Many files before left old new (reports report folder) = ⊥
+
+-- What was written grew by a beginning of what was to be written.
+abbrev pub TaskCut : Option Files → Option (List ℕ) → Option (List ℕ) → Option (List ℕ) → Option (List ℕ) → Task → Type 0
+TaskCut files before left old new (replays folders) = CutShort folders files before left old new
+TaskCut files before left old new (reports report folder) = ReportCut report folder files old new
