@@ -1,0 +1,1 @@
+"""Exports course folders as content packages of IMS Learning Design."""

@@ -1,0 +1,1 @@
+"""Imports content packages of IMS Learning Design as course folders."""

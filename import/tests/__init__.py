@@ -1,0 +1,1 @@
+"""Tests of the importer and the exporter; `import/test` runs them."""
