@@ -4,7 +4,7 @@
 #![tactic(auto)]
 
 pub mod bytes;
-mod calls;
+pub mod calls;
 pub mod file;
 pub mod fired;
 pub mod folder_shelf;
@@ -27,6 +27,7 @@ pub mod text;
 pub mod write;
 
 pub use bytes::{Bytes, CallList};
+pub use calls::Calls;
 pub use file::{File, FileList};
 pub use fired::Fired;
 pub use folder_shelf::FolderShelf;

@@ -16,7 +16,7 @@ use Rattle.ld_refs.specs.Extents.{Sizes, size_of_kind, size_named, sizes_named, 
 use Rattle.ld_refs.specs.SizeView.{capped}
 use Rattle.std.proofs.lemmas.List.Sums.{sum_by-cons}
 use Rattle.ld_types.proofs.Stops.{parts_from}
-use Rattle.ld_ways.proofs.Rounds.{own_capped, sums_alike}
+use Rattle.ld_cycles.proofs.Rounds.{own_capped, sums_alike}
 
 -- The two stand still at one place.
 abbrev pub Alike : ℕ → ℕ → Type 0

@@ -22,7 +22,7 @@ use Rattle.ld_walk.specs.Parts.{What, Declares, Part}
 use Rattle.ld_types.specs.Faults.{fault_if}
 use Rattle.ld_refs.specs.Reaching.{environment_graph, structure_graph}
 use Rattle.ld_refs.specs.Targets.{kind_by}
-use Rattle.ld_ways.specs.Graphs.{expanded_sizes, number_or_zero_at}
+use Rattle.ld_cycles.specs.Graphs.{expanded_sizes, number_or_zero_at}
 
 -- The sizes of environments, of activities and of structures, each by its number.
 pub record Sizes : Type 0 where

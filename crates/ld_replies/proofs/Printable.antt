@@ -15,9 +15,9 @@ use Rattle.ld_state.specs.RunState.{RunState, cell_of}
 use Rattle.ld_state.proofs.Elements.{contains_from_in}
 use Rattle.ld_firing.specs.RunSystem.{IsSoundRun}
 use Rattle.ld_firing.proofs.CellsThere.{now_there}
-use Rattle.ld_checks.specs.Checks.{admitted, fitting_value, in_time, last_moment, none_short, the_activity, the_person, the_property, the_role}
+use Rattle.ld_admission.specs.Checks.{admitted, fitting_value, in_time, last_moment, none_short, the_activity, the_person, the_property, the_role}
 use Rattle.ld_replies.specs.Printing.{IsPrintable}
-use Rattle.ld_checks.specs.Refusals.{Refusal, MomentBack, NotStarted, StartedAlready, UnknownPerson, PersonExists, RunFull, UnknownRole, HoldsAlready, NotHeld, RoleFull, RoleExclusive, UnknownActivity, NotByChoice, UnknownProperty, BadValue, NotAllowed, ◌unless_refused◌ as ◌>>=◌, ◌>>◌, refuse_if}
+use Rattle.ld_admission.specs.Refusals.{Refusal, MomentBack, NotStarted, StartedAlready, UnknownPerson, PersonExists, RunFull, UnknownRole, HoldsAlready, NotHeld, RoleFull, RoleExclusive, UnknownActivity, NotByChoice, UnknownProperty, BadValue, NotAllowed, ◌unless_refused◌ as ◌>>=◌, ◌>>◌, refuse_if}
 use Rattle.ld_replies.proofs.SeenInRuns.{suits_printable}
 use Rattle.ld_replies.proofs.ShortNames.{role_identifiers_short}
 

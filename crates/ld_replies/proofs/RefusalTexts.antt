@@ -5,7 +5,7 @@ use Rattle.std.proofs.lemmas.List.Concat.{flat_map-append}
 use Rattle.ld_lines.specs.Refusals.{word_of_refusal}
 use Rattle.ld_tree.specs.Lines.{spaced}
 use Rattle.ld_replies.specs.Printed.{words_behind}
-use Rattle.ld_checks.specs.Refusals.{Refusal, details_of, refusal_number, NoMemory}
+use Rattle.ld_admission.specs.Refusals.{Refusal, details_of, refusal_number, NoMemory}
 use Rattle.ld_replies.specs.Replies.{refusal_text}
 use Rattle.std.specs.Fmt.{digits}
 

@@ -9,9 +9,9 @@ use Rattle.ld_model.specs.declared.unit.Unit.{Unit}
 use Rattle.ld_names.specs.Things.{things_of}
 use Rattle.ld_expr.specs.Seen.{moment_of_value}
 use Rattle.ld_state.specs.RunState.{NoticeState, RunState}
-use Rattle.ld_checks.specs.Refusals.{Refusal, MomentBack, RoleShort}
-use Rattle.ld_checks.specs.Commands.{Admitted, gets, shows_tree, shows_outbox}
-use Rattle.ld_checks.specs.AdmittedView.{HasPropertyCell}
+use Rattle.ld_admission.specs.Refusals.{Refusal, MomentBack, RoleShort}
+use Rattle.ld_admission.specs.Commands.{Admitted, gets, shows_tree, shows_outbox}
+use Rattle.ld_admission.specs.AdmittedView.{HasPropertyCell}
 
 -- The moment that the refusal tells lies in the years 1 to 9999, and the identifier has at most 64 bytes.
 abbrev pub IsPrintable : Refusal → Type 0

@@ -9,8 +9,8 @@ use Rattle.ld_tree.specs.Lines.{spaced, line_text, lines_text}
 use Rattle.ld_tree.specs.Tree.{tree_lines}
 use Rattle.ld_value.specs.Datum.{Datum}
 use Rattle.ld_value.specs.Values.{text_of}
-use Rattle.ld_checks.specs.Commands.{Admitted, enrols, assigns, drops, starts, opens, completes, sets, clears, gets, shows_tree, shows_outbox, reports, ticks}
-use Rattle.ld_checks.specs.Refusals.{Refusal, refusal_words}
+use Rattle.ld_admission.specs.Commands.{Admitted, enrols, assigns, drops, starts, opens, completes, sets, clears, gets, shows_tree, shows_outbox, reports, ticks}
+use Rattle.ld_admission.specs.Refusals.{Refusal, refusal_words}
 use Rattle.ld_replies.specs.Reports.{outbox_lines, report_lines}
 
 -- The verb of the command, as in its line.

@@ -5,12 +5,12 @@ ghost use Rattle.ld_base.specs.Roomy.{KeepsRoom};
 ghost use Rattle.ld_lines.specs.Refusals.{HasRefusal, word_of_refusal};
 ghost use Rattle.ld_replies.specs.Printed.{words_behind};
 ghost use Rattle.ld_replies.specs.Printing.{IsPrintable};
-ghost use Rattle.ld_checks.specs.RefusalView.{refusal_of};
-ghost use Rattle.ld_checks.specs.Refusals.{details_of};
+ghost use Rattle.ld_admission.specs.RefusalView.{refusal_of};
+ghost use Rattle.ld_admission.specs.Refusals.{details_of};
 
 use itoa::Buffer;
+use ld_admission::Refusal;
 use ld_base::{NoMemory, Text};
-use ld_checks::Refusal;
 use ld_lines::refusal_word;
 use ld_value::print_moment;
 

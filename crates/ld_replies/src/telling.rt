@@ -2,13 +2,13 @@
 ghost use Rattle.std.specs.Prelude.{◌≡◌, ◌≤◌, ◌++◌, ◌∷◌, [], length, IsOk, OnOk};
 ghost use Rattle.ld_base.specs.Roomy.{KeepsRoom, room_of};
 ghost use Rattle.ld_replies.specs.Printing.{IsPrintable};
-ghost use Rattle.ld_checks.specs.RefusalView.{refusal_of};
-ghost use Rattle.ld_checks.specs.Refusals as why;
+ghost use Rattle.ld_admission.specs.RefusalView.{refusal_of};
+ghost use Rattle.ld_admission.specs.Refusals as why;
 ghost use Rattle.ld_replies.specs.Replies.{refusal_text};
 
 use crate::replies::push_refusal;
+use ld_admission::Refusal;
 use ld_base::{NoMemory, Text};
-use ld_checks::Refusal;
 use ld_lines::refusal_word;
 
 /// Empties the text and says that the line was refused. It takes no memory.

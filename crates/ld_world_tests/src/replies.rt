@@ -7,9 +7,9 @@ ghost use Rattle.ld_state.specs.StateView.{IsStateOf, run_of};
 
 use crate::begun::{Subject, begin, test};
 use crate::units::check;
+use ld_admission::{Admitted, Refusal, admit};
 use ld_base::{NoMemory, Steps, Text};
 use ld_cascade::Settled;
-use ld_checks::{Admitted, Refusal, admit};
 use ld_globals::Globals;
 use ld_lines::RunCommand;
 use ld_replies::{push_done, push_refusal, push_value, refuse, say_no_memory, tell_refusal};

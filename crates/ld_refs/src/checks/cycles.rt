@@ -8,11 +8,11 @@ ghost use Rattle.ld_refs.specs.Reaching.{cycle_faults, environment_graph, graph_
 
 use crate::checks::targets::kind_of;
 use ld_base::{Id, NoMemory};
+use ld_cycles::first_on_cycle;
 use ld_json::{Code, FileNo, ReadFault};
 use ld_model::Unit;
 use ld_names::Names;
 use ld_walk::{Kind, Place, Spot};
-use ld_ways::first_on_cycle;
 use std::alloc::Global;
 
 /// What is a node of a graph.

@@ -9,10 +9,10 @@ ghost use Rattle.ld_refs.specs.SizeView.{capped, sizes_by};
 use crate::checks::cycles::Graphs;
 use crate::checks::targets::kind_of;
 use ld_base::{Id, NoMemory};
+use ld_cycles::{GREATEST, expanded_sizes};
 use ld_model::{Activity, Environment, LearningObject, OnCompletion, Structure, Unit};
 use ld_names::Names;
 use ld_walk::{Kind, Place};
-use ld_ways::{GREATEST, expanded_sizes};
 use std::alloc::Global;
 
 /// What things expand to, each by its number, or `GREATEST` where that is less.

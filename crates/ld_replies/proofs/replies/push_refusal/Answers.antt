@@ -1,5 +1,5 @@
 use Rattle.std.proofs.Common.{ap, sym, ◌∙◌, ◌++◌, List, ℕ, append_assoc}
-use Rattle.ld_checks.specs.RefusalView.{refusal_of}
+use Rattle.ld_admission.specs.RefusalView.{refusal_of}
 use Rattle.ld_replies.proofs.RefusalTexts.{refusal_text_is}
 use Rattle.ld_replies.proofs.replies.push_refusal.Goals as goal
 

@@ -2,7 +2,7 @@ use Rattle.std.proofs.Common.{◌≡◌, ◌∙◌, map, min, refl}
 use Rattle.ld_refs.specs.Extents.{activity_sizes, environment_sizes, structure_sizes, own_environment_size, own_structure_size, first_sizes, leaf_sizes}
 use Rattle.ld_refs.specs.Reaching.{environment_graph, structure_graph}
 use Rattle.ld_refs.proofs.SizeSums.{activities_alike, structures_alike}
-use Rattle.ld_ways.proofs.Rounds.{expanded_alike}
+use Rattle.ld_cycles.proofs.Rounds.{expanded_alike}
 use Rattle.ld_refs.proofs.checks.sizes.Sizes.of.Goals as goal
 
 pub returns : goal.returns
