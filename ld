@@ -1,30 +1,87 @@
 #!/bin/bash
-# Runs the program `ld` with the caller's words and streams, in the caller's folder. Where the program
-# is missing or older than its sources it is proved and built first. `./ld --build` only does that.
+# Runs the program `ld` with the caller's words and streams, in the caller's folder.
+#
+#     ./ld replay FOLDER.. < LINES     the proved program, if it is built and no source is newer
+#     ./ld --build                     proves and builds the program
+#
+# Without a proved program, the toolchain's checked build of the same sources answers. Nothing of it is proved, each
+# call compiles anew, and it sees the whole input before it answers. Standard error says so in one line.
 root=$(cd "$(dirname "${BASH_SOURCE[0]}")" && pwd) || exit 1
 crate=$root/crates/ld_program
 program=$crate/out/ld_program
 
-# Whether there is no program, or a source that is newer. The crates of tests are no part of it.
-is_stale() {
-  [ ! -x "$program" ] || [ -n "$(cd "$root" && find crates crates.txt \
+say() {
+  echo "ld: $1" >&2
+}
+
+# Whether a proved program is there that no source is newer than. The crates of tests are no part of it.
+is_proved() {
+  [ -x "$program" ] && [ -z "$(cd "$root" && find crates crates.txt \
     \( -name '*.rt' -o -name '*.antt' -o -name crates.txt \) -not -path '*/out/*' -not -path '*_tests/*' \
     -newer "$program" -print -quit)" ]
 }
 
-build() {
+needs_toolchain() {
   if ! command -v rt >/dev/null; then
-    echo "ld: the Rattle toolchain is not here: its command 'rt' is not on the PATH" >&2
-    return 1
+    say "the Rattle toolchain is not here: its command 'rt' is not on the PATH"
+    exit 1
   fi
-  echo "ld: proving and building the program; the first time takes some three quarters of an hour on four processors" >&2
+}
+
+build() {
+  needs_toolchain
+  say "proving and building the program; the first time takes from half an hour to two hours (README.md)"
   python3 -B "$root/build.py"
 }
 
-if is_stale; then
-  build || exit 1
-fi
+# Answers with the toolchain's checked build, which runs in a folder of its own: so the documents of each folder
+# among the words are copied there, and the folder is named after its place among the words.
+answer_unproved() {
+  local room words=() data=() word document
+  if [ "$1" = keep ]; then
+    say "'keep' writes a journal, so it needs the proved program: './ld --build' makes it"
+    return 1
+  fi
+  needs_toolchain
+  say "not proved: the toolchain's checked build answers, in one to two minutes; './ld --build' proves and builds the program"
+  room=$(mktemp -d) || return 1
+  # shellcheck disable=SC2064
+  trap "rm -rf '$room'" EXIT
+  cat >"$room/input" || return 1
+  if [ "$(wc -c <"$room/input")" -gt "$((64 << 20))" ]; then
+    say 'the checked build takes at most 64 MiB of input'
+    return 1
+  fi
+  for word in "$@"; do
+    if [ -d "$word" ]; then
+      for document in "$word"/*.json; do
+        [ -f "$document" ] && data+=(--data "folder${#words[@]}/${document##*/}=$(realpath "$document")")
+      done
+      word=folder${#words[@]}
+    fi
+    words+=("$word")
+  done
+  (cd "$crate" && rt try --seconds 300 "${data[@]}" -- "${words[@]}") <"$room/input" 2>"$room/said"
+  end_as_said "$room/said"
+}
+
+# Ends as the program did, and says what it said. A build or a run that came to no end is shown with status 1.
+end_as_said() {
+  local status
+  status=$(sed -n '$s/^run=ended status=\([0-9]*\) .*/\1/p' "$1")
+  if [ -z "$status" ]; then
+    cat "$1" >&2
+    say 'the checked build gave no answer (it writes at most 1 MiB, in at most five minutes)'
+    return 1
+  fi
+  grep '^ld: ' "$1" >&2
+  return "$status"
+}
+
 if [ "$1" = --build ]; then
-  exit 0
+  is_proved || build
+elif is_proved; then
+  exec "$program" "$@"
+else
+  answer_unproved "$@"
 fi
-exec "$program" "$@"

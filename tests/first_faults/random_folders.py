@@ -18,6 +18,9 @@ from mutations import cut, mutate
 from reference import steps
 
 COUNT = 3_000
+# What finds the first fault of at least so many of these folders; limits and sizes have tables of their own.
+LEAST = {"none": 500, "files": 30, "shapes": 200, "identifiers": 90, "uris": 5, "references": 25, "cycles": 10,
+         "levels": 20, "profile": 15, "types": 50}
 
 
 def folder_of(number):
@@ -30,16 +33,20 @@ def folder_of(number):
 
 
 def compare(program, count=COUNT, first=0):
-    """How many folders the program and the reference agree on, and what is wrong with the others."""
-    wrong = []
+    """How many folders the program and the reference agree on, and what is wrong with the others or not covered."""
+    wrong, told = [], collections.Counter()
     for number in range(first, first + count):
         files = folder_of(number)
         found = steps(files)
         fault = " ".join(found[0][1]) if found else None
+        told[found[0][0] if found else "none"] += 1
         said = judge(program, fault, files)
         if said is not None:
             wrong.append(f"random folder {number}: {said}")
-    return count - len(wrong), wrong
+    agreed = count - len(wrong)
+    if (count, first) == (COUNT, 0):
+        wrong += [f"random folders: {step} {told[step]} times" for step, least in LEAST.items() if told[step] < least]
+    return agreed, wrong
 
 
 def count_steps(count):
@@ -66,7 +73,7 @@ def main():
     for each in wrong:
         print(f"failed: {each}")
     print(f"{passed} passed, {len(wrong)} failed")
-    return 1 if wrong else 0
+    return 1 if wrong or not passed else 0
 
 
 if __name__ == "__main__":

@@ -3,6 +3,32 @@ import collections
 
 STATES = ["open", "done", "closed", "waiting"]
 
+# What the histories of a whole run have to cover: of each group the least number of each kind, about a third of what
+# the seeds give.
+LEAST = [
+    ("units of level", 50, ["A", "B", "C"]),
+    ("done", 150, ["assign", "clear", "complete", "create", "drop", "enrol", "get", "global-get", "global-set", "open",
+                   "outbox", "report", "set", "start", "tick", "tree"]),
+    ("refused", 30, ["1 bad-line", "2 unknown-unit", "3 run-exists", "4 unknown-run", "5 moment-back", "6 not-started",
+                     "7 started-already", "8 unknown-person", "9 person-exists", "11 unknown-role", "12 holds-already",
+                     "13 not-held", "14 role-full", "15 role-exclusive", "16 role-short", "17 unknown-activity",
+                     "18 not-by-choice", "19 unknown-property", "20 unknown-global", "21 bad-value", "22 not-allowed",
+                     "30 turn-budget", "31 not-open"]),
+    ("refused", 1, ["10 run-full", "folder absent", "folder repeated-unit"]),
+    ("sums", 500, ["fired", "rejected", "sent", "turns"]),
+    ("most at once", 40, ["fired", "rejected", "sent", "turns"]),
+    ("values", 300, ["none", "shown"]),
+    ("lines of outbox", 300, ["notice"]),
+    ("lines of report", 25, ["started", "role", "play open", "play done", "act open", "act done", "act waiting",
+                             "part open", "part done", "part waiting", "unit open", "unit done", "notices"]),
+    ("lines of tree", 10, ["unit open", "unit done", "play open", "play done", "act open", "act done", "part open",
+                           "part done", "activity open", "activity done", "activity closed", "support open",
+                           "support done", "support closed", "structure open", "structure done", "structure closed",
+                           "environment", "object", "service", "item"]),
+    ("firings of", 250, ["activity", "structure", "opening", "part", "act", "play", "unit", "condition yes", "condition no"]),
+    ("lines without a reply", 50, ["passed over"]),
+]
+
 
 class Counts:
     """Counts of what is in the replies of all histories so far, group by group."""
@@ -42,6 +68,13 @@ class Counts:
             self.groups["values"]["none" if words[-1].endswith("none") else "shown"] += 1
         for line in lines:
             self.groups[f"lines of {words[1]}"].update([kind_of(line)])
+
+    def lacking(self):
+        """What is covered less often than LEAST asks, a line for each kind."""
+        for group, least, kinds in LEAST:
+            for kind in kinds:
+                if self.groups[group][kind] < least:
+                    yield f"{group}: {kind} {self.groups[group][kind]} times, at least {least} are wanted"
 
     def told(self):
         """One line for each group."""

@@ -143,7 +143,7 @@ def main():
                 failed += 1
                 print(f"failed: {name[:100]}: {wrong}")
     print(f"{run} cases of lines, {failed} failed")
-    return 1 if failed else 0
+    return 1 if failed or not run else 0
 
 
 if __name__ == "__main__":

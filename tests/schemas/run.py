@@ -158,7 +158,7 @@ def main():
             print(f"{count:6} faults not seen: {reason}")
         print("jsonschema is", "not here" if check.other is None else "here")
     print(f"{check.passed} passed, {check.failed} failed")
-    return 1 if check.failed else 0
+    return 1 if check.failed or not check.passed else 0
 
 
 if __name__ == "__main__":
