@@ -11,7 +11,7 @@ use Rattle.ld_top.specs.Endings.{IsOneOf, IsRefusalEnding, IsReplayEnding, numbe
 use Rattle.ld_top.specs.InFolder.{IsReading, WhereTold}
 use Rattle.ld_top.specs.Replay.{AreReadings, Publishes}
 use Rattle.ld_top.specs.declared.ending.Ending.{Ending}
-use Rattle.ld_top.specs.declared.ending.Ending.TheVariants.{Done, BadWords, ShelfFault, UnitRefused, ReadFault, WriteFault, NoMemory, InputTooLong}
+use Rattle.ld_top.specs.declared.ending.Ending.TheVariants.{Done, BadWords, ShelfFault, UnitRefused, ReadFault, WriteFault, NoMemory, InputTooLong, DiskFault, JournalDiffers, JournalFull}
 
 -- ---- folders are read to one thing
 
@@ -43,7 +43,7 @@ folders_publish_one_thing files folders one other (these, here, gives) (those, t
     sym gives ∙ ap published (same_readings files folders these those here there) ∙ gives_also
 
 -- Folders do not both publish units and get refused.
-not_both : (files : Files) (folders : List (List ℕ)) (units : List Unit) (refused : RefusedFolder) → Publishes files folders (Ok units) → Publishes files folders (Err refused) → ⊥
+pub not_both : (files : Files) (folders : List (List ℕ)) (units : List Unit) (refused : RefusedFolder) → Publishes files folders (Ok units) → Publishes files folders (Err refused) → ⊥
 not_both files folders units refused well badly =
     let same : Ok units ≡ Err refused = folders_publish_one_thing files folders (Ok units) (Err refused) well badly in absurd (cc)
 
@@ -82,6 +82,9 @@ refusal_ends ReadFault before now can cause well = absurd can
 refusal_ends WriteFault before now can cause well = absurd (well (cause refl))
 refusal_ends NoMemory before now can cause well = refl
 refusal_ends InputTooLong before now can cause well = absurd can
+refusal_ends DiskFault before now can cause well = absurd can
+refusal_ends JournalDiffers before now can cause well = absurd can
+refusal_ends JournalFull before now can cause well = absurd can
 
 -- ---- all units are published
 
@@ -122,6 +125,9 @@ module _ (w : WorldState) (before now old new : Option (List ℕ)) (reads reads_
   replay_fewer InputTooLong ended well written bytes is few =
       let long = ended.long refl in
       absurd (omega (arith, few, long.2, taken_within long.0 now bytes (sym long.1 ∙ is)))
+  replay_fewer DiskFault ended well written bytes is few = absurd ended.can
+  replay_fewer JournalDiffers ended well written bytes is few = absurd ended.can
+  replay_fewer JournalFull ended well written bytes is few = absurd ended.can
 
   replay_others : (ending : Ending) → Ended ending → DidNotFail reads reads_now → DidNotFail writes writes_now
       → (bytes : List ℕ) → before ≡ Some bytes → 2 ^ 40 ≤ length bytes → IsOneOf (8 ∷ 7 ∷ []) (number_of ending)
@@ -135,6 +141,9 @@ module _ (w : WorldState) (before now old new : Option (List ℕ)) (reads reads_
   replay_others WriteFault ended well written bytes is many = absurd (written (ended.write_cause refl))
   replay_others NoMemory ended well written bytes is many = refl
   replay_others InputTooLong ended well written bytes is many = refl
+  replay_others DiskFault ended well written bytes is many = absurd ended.can
+  replay_others JournalDiffers ended well written bytes is many = absurd ended.can
+  replay_others JournalFull ended well written bytes is many = absurd ended.can
 
   pub replay_ends_well : (folders : List (List ℕ)) (files : Option Files) (ending : Ending) → Ended ending → DidNotFail reads reads_now → DidNotFail writes writes_now
       → EndsWell folders files before (number_of ending)
@@ -159,3 +168,6 @@ module _ (w : WorldState) (before now old new : Option (List ℕ)) (reads reads_
   replay_at_limit NoMemory ended written taken rest here there many =
       none_taken before (number_of NoMemory) taken rest here (sym (ended.none refl) ∙ there) many
   replay_at_limit InputTooLong ended written taken rest here there many = refl
+  replay_at_limit DiskFault ended written taken rest here there many = absurd ended.can
+  replay_at_limit JournalDiffers ended written taken rest here there many = absurd ended.can
+  replay_at_limit JournalFull ended written taken rest here there many = absurd ended.can

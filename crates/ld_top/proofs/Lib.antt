@@ -4,6 +4,7 @@ pub mod Completing
 pub mod CutReplies
 pub mod FolderFiles
 pub mod HeldLines
+pub mod JournalEnds
 pub mod Publishing
 pub mod Refusing
 pub mod Replaying

@@ -9,7 +9,7 @@ use Rattle.ld_lines.specs.declared.stop.LineStop.TheVariants.{ReadFault, InputTo
 use Rattle.ld_world.specs.Answers.{AnswersLine, Leads, Answers, line_of}
 use Rattle.ld_world.specs.World.{WorldState}
 use Rattle.ld_top.specs.declared.ending.Ending.{Ending}
-use Rattle.ld_top.specs.declared.ending.Ending.TheVariants.{Done, BadWords, ShelfFault, UnitRefused, ReadFault as Unread, WriteFault, NoMemory, InputTooLong as Endless}
+use Rattle.ld_top.specs.declared.ending.Ending.TheVariants.{Done, BadWords, ShelfFault, UnitRefused, ReadFault as Unread, WriteFault, NoMemory, InputTooLong as Endless, DiskFault, JournalDiffers, JournalFull}
 
 -- What is told of the turn, and what is written, fit what came from the source. `true` says that a
 -- line was answered, `false` that there is none any more.
@@ -61,3 +61,6 @@ IsEndOfLines Unread = Unit {0}
 IsEndOfLines WriteFault = Unit {0}
 IsEndOfLines NoMemory = ⊥
 IsEndOfLines Endless = Unit {0}
+IsEndOfLines DiskFault = ⊥
+IsEndOfLines JournalDiffers = ⊥
+IsEndOfLines JournalFull = ⊥

@@ -2,10 +2,13 @@
 -- memory may run out.
 use Rattle.std.specs.Prelude.{ℕ, List, [], ◌∷◌, ◌++◌, ◌≡◌, ◌<◌, ◌≤◌, ◌^◌, length, Option, Some, Result, Ok, Err}
 use Rattle.ld_base.specs.Outside.{Files, Rose}
+use Rattle.ld_json.specs.Fault.{Told}
 use Rattle.ld_model.specs.declared.unit.Unit.{Unit}
 use Rattle.ld_world.specs.Published.{RefusedFolder}
 use Rattle.ld_top.specs.Endings.{IsOneOf}
+use Rattle.ld_top.specs.InFolder.{IsReading}
 use Rattle.ld_top.specs.Replay.{Publishes}
+use Rattle.ld_top.specs.Tasks.{Task, replays, reports}
 
 -- The count of faults did not rise, and does not stand at its last value.
 abbrev pub DidNotFail : ℕ → ℕ → Type 0
@@ -36,6 +39,30 @@ EndsRefused folders files status =
 abbrev pub EndsAtLimit : Option (List ℕ) → Option (List ℕ) → ℕ → Type 0
 EndsAtLimit before now status =
     (taken rest : List ℕ) → before ≡ Some (taken ++ rest) → now ≡ Some rest → length taken ≡ 2 ^ 40 → status ≡ 8
+
+-- ---- check FOLDER, rank FOLDER
+
+-- Where the folder has a unit, the status is 0; or it is 7, and memory ran out.
+abbrev pub ReportEndsWell : List ℕ → Option Files → ℕ → Type 0
+ReportEndsWell folder files status =
+    (told : Files) (unit : Unit) → files ≡ Some told → IsReading told folder (Ok unit) → IsOneOf (0 ∷ 7 ∷ []) status
+
+-- Where the folder has a fault, the status is 4; or it is 7, and memory ran out.
+abbrev pub ReportEndsRefused : List ℕ → Option Files → ℕ → Type 0
+ReportEndsRefused folder files status =
+    (told : Files) (fault : Told) → files ≡ Some told → IsReading told folder (Err fault) → IsOneOf (4 ∷ 7 ∷ []) status
+
+-- ---- whatever is asked
+
+-- Nothing stands in the way of the task.
+abbrev pub TaskEndsWell : Option Files → Option (List ℕ) → ℕ → Task → Type 0
+TaskEndsWell files left status (replays folders) = EndsWell folders files left status
+TaskEndsWell files left status (reports report folder) = ReportEndsWell folder files status
+
+-- A folder is refused.
+abbrev pub TaskEndsRefused : Option Files → ℕ → Task → Type 0
+TaskEndsRefused files status (replays folders) = EndsRefused folders files status
+TaskEndsRefused files status (reports report folder) = ReportEndsRefused folder files status
 
 -- ---- the files alone tell what is published
 

@@ -3,6 +3,8 @@ pub mod Completeness
 pub mod Endings
 pub mod Folder
 pub mod InFolder
+pub mod Journaled
+pub mod JournalEndings
 pub mod Reading
 pub mod Replay
 pub mod Reports

@@ -26,10 +26,21 @@ task_of (keep_form _) = None
 abbrev pub task_in : List (List ℕ) → Option Task
 task_in words = form_in words >>= task_of
 
--- This holds of what is asked, and something is asked.
-abbrev pub OfTask : Option Task → (Task → Type 0) → Type 0
-OfTask None Holds = ⊥
-OfTask (Some task) Holds = Holds task
+-- The folders whose lines are to be kept, where the form asks for that.
+abbrev pub folders_of_keep : Form → Option (List (List ℕ))
+folders_of_keep (replay_form _) = None
+folders_of_keep (check_form _) = None
+folders_of_keep (rank_form _) = None
+folders_of_keep (keep_form folders) = Some folders
+
+-- The same of the words.
+abbrev pub keep_in : List (List ℕ) → Option (List (List ℕ))
+keep_in words = form_in words >>= folders_of_keep
+
+-- Something is asked, and this holds of it.
+abbrev pub OfAsked : {A : Type 0} → Option A → (A → Type 0) → Type 0
+OfAsked None Holds = ⊥
+OfAsked (Some asked) Holds = Holds asked
 
 -- A report is asked for.
 abbrev pub IsReport : Task → Type 0

@@ -22,6 +22,12 @@ pub enum Ending {
     NoMemory,
     /// 2^40 bytes were taken and the source had not told its end.
     InputTooLong,
+    /// The disk failed.
+    DiskFault,
+    /// A line of the journal is refused.
+    JournalDiffers,
+    /// A line that is done does not fit into the journal.
+    JournalFull,
 }
 
 impl Ending {
@@ -38,6 +44,9 @@ impl Ending {
             Ending::WriteFault => 6,
             Ending::NoMemory => 7,
             Ending::InputTooLong => 8,
+            Ending::DiskFault => 9,
+            Ending::JournalDiffers => 10,
+            Ending::JournalFull => 11,
         }
     }
 }

@@ -2,6 +2,7 @@
 ghost use Rattle.std.specs.Prelude.{◌≡◌, ◌≤◌, IfOk};
 ghost use Rattle.ld_base.specs.Outside.{Rose};
 ghost use Rattle.ld_rank.specs.Printed.{IsReportText};
+ghost use Rattle.ld_top.specs.Completeness.{DidNotFail, ReportEndsRefused, ReportEndsWell};
 ghost use Rattle.ld_top.specs.Endings.{IsReportEnding, NothingWritten, number_of};
 ghost use Rattle.ld_top.specs.Reports.{Prints, Reported, ReportCut, ReportRefused, check_line};
 
@@ -75,6 +76,12 @@ pub(crate) fn report_on<H: Shelf, K: Sink>(
         (K.written output.old) (K.written output.new) }
     ensures cut { result ≡ Ending.WriteFault → ReportCut report folder.now (H.files shelf.old)
         (K.written output.old) (K.written output.new) }
+    ensures complete { DidNotFail (H.faults shelf.old) (H.faults shelf.new)
+        → DidNotFail (K.faults output.old) (K.faults output.new)
+        → ReportEndsWell folder.now (H.files shelf.old) (number_of result) }
+    ensures refuses { DidNotFail (H.faults shelf.old) (H.faults shelf.new)
+        → DidNotFail (K.faults output.old) (K.faults output.new)
+        → ReportEndsRefused folder.now (H.files shelf.old) (number_of result) }
     ensures not_written { NothingWritten (number_of result) → output.new ≡ output.old }
     ensures shelf_fault { result ≡ Ending.ShelfFault
         → Rose (H.faults shelf.old) (H.faults shelf.new) }

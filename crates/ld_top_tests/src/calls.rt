@@ -74,7 +74,7 @@ pub fn bytes(alloc: Global, from: &[u8]) -> Result<Bytes, NoMemory> {
 }
 
 /// The list of this one call; of none where the number is 0.
-fn call(alloc: Global, number: u64) -> Result<CallList, NoMemory> {
+pub fn call(alloc: Global, number: u64) -> Result<CallList, NoMemory> {
     let mut calls = Items::new(alloc);
     if number != 0 {
         calls.push(number)?;
@@ -118,7 +118,8 @@ pub fn both_files(alloc: Global) -> Result<FileList, NoMemory> {
     Ok(files)
 }
 
-fn strings(alloc: Global, words: &[&str]) -> Result<Vec<String>, NoMemory> {
+/// The words as strings.
+pub fn strings(alloc: Global, words: &[&str]) -> Result<Vec<String>, NoMemory> {
     let mut all = Vec::new(alloc);
     for word in words {
         all.push(String::from_str(alloc, *word)?)?;
@@ -145,7 +146,7 @@ fn status_of<L: Ledger>(
 }
 
 /// The source of the call.
-fn source(alloc: Global, case: &Case<'_>) -> Result<MemorySource, NoMemory> {
+pub fn source(alloc: Global, case: &Case<'_>) -> Result<MemorySource, NoMemory> {
     let lines = bytes(alloc, case.lines)?;
     let failing = call(alloc, case.source_fails)?;
     Ok(MemorySource::new(lines, case.piece.max(1), failing))

@@ -1,5 +1,5 @@
 //! Tests of what no clause of `ld_refs` and `ld_top` says: that each call succeeds where there is
-//! memory, and that a failed call of shelf, source or sink ends the call of the program. Everything
+//! memory, and that a failed call of shelf, source, sink or disk ends the call of the program. Everything
 //! runs over memory.
 #![tactic(auto)]
 
@@ -7,6 +7,8 @@
 mod calls;
 #[cfg(test)]
 mod folders;
+#[cfg(test)]
+mod keep;
 #[cfg(test)]
 mod refs;
 #[cfg(test)]
