@@ -107,6 +107,11 @@ fn a_sink_that_fails_ends_the_call(rt: HostRuntime) -> Result<(), Fail> {
             "at put {number}"
         );
     }
+    Ok(())
+}
+
+#[test]
+fn a_sink_that_is_full_ends_the_call(rt: HostRuntime) -> Result<(), Fail> {
     // The pieces of the lines, the room of the sink, and how much stands: the replies that fit. The
     // replies to lines that are all there are written together.
     for (piece, room, length) in [
