@@ -1,8 +1,6 @@
 #!/bin/bash
-# Runs the program `ld` with the caller's words and streams, in the caller's folder.
-#
-#     ./ld replay FOLDER.. < LINES     the proved program, if it is built and no source is newer
-#     ./ld --build                     proves and builds the program
+# Runs the program `ld` with the caller's words and streams, in the caller's folder: the proved program, if it is built
+# and no source is newer. `./ld --help` lists the words; `./ld --build` proves and builds the program.
 #
 # Without a proved program, the toolchain's checked build of the same sources answers. Nothing of it is proved, each
 # call compiles anew, and it sees the whole input before it answers. Standard error says so in one line.
@@ -12,6 +10,17 @@ program=$crate/out/ld_program
 
 say() {
   echo "ld: $1" >&2
+}
+
+# The words that a call can have. (docs/COMMANDS.md)
+help() {
+  cat <<'END'
+./ld replay FOLDER.. < LINES    answers lines of commands over the courses of 1 to 64 folders
+./ld keep FOLDER.. < LINES      the same, and keeps what is done in the file ld.journal of this folder
+./ld check FOLDER               says whether a course is right, or its first fault
+./ld rank FOLDER                says whether its rules can set each other off for too long
+./ld --build                    proves and builds the program, for half an hour to two hours
+END
 }
 
 # Whether a proved program is there that no source is newer than. The crates of tests are no part of it.
@@ -37,13 +46,22 @@ build() {
 # Answers with the toolchain's checked build, which runs in a folder of its own: so the documents of each folder
 # among the words are copied there, and the folder is named after its place among the words.
 answer_unproved() {
-  local room words=() data=() word document
-  if [ "$1" = keep ]; then
-    say "'keep' writes a journal, so it needs the proved program: './ld --build' makes it"
-    return 1
-  fi
+  local room words=() data=() word document when='in one to two minutes'
+  case $1 in
+    replay) when='one to two minutes after its input is closed' ;;
+    check | rank) ;;
+    keep)
+      say "'keep' writes a journal, so it needs the proved program: './ld --build' makes it"
+      return 1
+      ;;
+    *)
+      say bad-words
+      help >&2
+      return 2
+      ;;
+  esac
   needs_toolchain
-  say "not proved: the toolchain's checked build answers, in one to two minutes; './ld --build' proves and builds the program"
+  say "not proved: the toolchain's checked build answers $when; './ld --build' proves and builds the program"
   room=$(mktemp -d) || return 1
   # shellcheck disable=SC2064
   trap "rm -rf '$room'" EXIT
@@ -80,6 +98,8 @@ end_as_said() {
 
 if [ "$1" = --build ]; then
   is_proved || build
+elif [ "$1" = --help ]; then
+  help
 elif is_proved; then
   exec "$program" "$@"
 else

@@ -82,6 +82,11 @@ def cases(door):
     yield "the program's status and word", status == 4 and is_told(said) and said[1:] == ["ld: unit-refused"]
     status, _, said = door.call(["replay", "my course"], "error: this is refused\nrun=none proved=no\n")
     yield "no answer", status == 1 and "error: this is refused" in said and "no answer" in said[-1]
+    status, written, said = door.call(["play", "my course"])
+    yield "words without a form", (status, written, said[0], door.words()) == (2, "", "ld: bad-words", None)
+    status, written, said = door.call(["--help"])
+    yield "help", (status, said, door.words()) == (0, [], None) and all(
+        f"./ld {word} " in written for word in ["replay", "keep", "check", "rank", "--build"])
     status, written, said = door.call(["keep", "my course"])
     yield "a journal", (status, written, door.words()) == (1, "", None) and "--build" in said[0]
     if not shutil.which("rt", path="/usr/bin:/bin"):
