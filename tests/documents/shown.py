@@ -1,4 +1,5 @@
 """Checks the files, commands and programs that the documents show."""
+import contextlib
 import pathlib
 import re
 import shlex
@@ -32,12 +33,12 @@ def files():
     yield "files in the documents", None if count else "none is shown"
 
 
-def run_replay(program, command):
-    """What is wrong with a command that runs a history, or None."""
+def run_history(program, command, place):
+    """What is wrong with a command that runs a history in a place, or None."""
     words, _, lines = command.removeprefix("./ld ").partition(" < ")
     replies = pathlib.Path(ROOT / lines).with_suffix(".replies")
     with open(ROOT / lines, "rb") as given:
-        done = subprocess.run([program, *shlex.split(words)], cwd=ROOT, stdin=given, capture_output=True, timeout=LONGEST,
+        done = subprocess.run([program, *shlex.split(words)], cwd=place, stdin=given, capture_output=True, timeout=LONGEST,
                               check=False)
     if replies.is_file() and done.stdout != replies.read_bytes():
         return f"other replies than {replies.name}"
@@ -58,23 +59,39 @@ def is_there(command):
     return place is None or (ROOT / place).resolve() == ROOT.parent or (ROOT / place).exists()
 
 
+@contextlib.contextmanager
+def place_of_journal():
+    """A folder for the journal of a document's commands, with the examples in it."""
+    with tempfile.TemporaryDirectory() as place:
+        (pathlib.Path(place) / "examples").symlink_to(ROOT / "examples")
+        yield place
+
+
 def shown_commands(program):
     """Each command that a document shows."""
     count = 0
     for document in documents():
-        for command in commands(document.read_text()):
-            name = f"{document.name} shows the command {command}"
-            if command.startswith("./ld ") and " < " in command:
-                count += 1
-                yield name, run_replay(program, command)
-            elif command.startswith(("./ld check ", "./ld rank ")):
-                count += 1
-                yield name, run_report(program, command)
-            elif not any(command.startswith(each) for each in ELSEWHERE):
-                yield name, "this test does not know it"
-            else:
-                yield name, None if is_there(command) else "what it names is not there"
+        with place_of_journal() as place:
+            for name, wrong, is_run in commands_in(program, document, place):
+                count += is_run
+                yield name, wrong
     yield "commands in the documents", None if count else "none is run"
+
+
+def commands_in(program, document, place):
+    """Each command that a document shows, what is wrong, and whether it was run. Those that keep lines have one journal."""
+    for command in commands(document.read_text()):
+        name = f"{document.name} shows the command {command}"
+        if command.startswith("./ld keep ") and " < " in command:
+            yield name, run_history(program, command, place), True
+        elif command.startswith("./ld ") and " < " in command:
+            yield name, run_history(program, command, ROOT), True
+        elif command.startswith(("./ld check ", "./ld rank ")):
+            yield name, run_report(program, command), True
+        elif not any(command.startswith(each) for each in ELSEWHERE):
+            yield name, "this test does not know it", False
+        else:
+            yield name, None if is_there(command) else "what it names is not there", False
 
 
 def platform(program):
@@ -98,7 +115,20 @@ def platform(program):
                 file.write(b'["2024-01-01T08')
 
 
+def looking(program):
+    """The program of docs/EMBEDDING.md that prints the lines of a journal, over the one of the first example."""
+    shown = {block.name: block.text for block in blocks((ROOT / "docs/EMBEDDING.md").read_text())}
+    with place_of_journal() as place:
+        wrong = run_history(program, "./ld keep examples/first < examples/first.lines", place)
+        script = pathlib.Path(place) / "kept.py"
+        script.write_text(shown["kept.py"])
+        done = subprocess.run([sys.executable, script, "ld.journal"], cwd=place, capture_output=True, timeout=LONGEST, check=False)
+        same = (done.returncode, done.stdout.decode(), done.stderr) == (0, shown["kept lines"], b"")
+        yield "the program of EMBEDDING.md that reads a journal", wrong or (None if same else f"it gives {done}")
+
+
 def cases(program):
     yield from files()
     yield from shown_commands(program)
+    yield from looking(program)
     yield from platform(program)

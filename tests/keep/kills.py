@@ -19,7 +19,7 @@ from journal import gate_and_lines, kept
 # How many lines a call gets, and how many kills one journal sees.
 PIECE, SERIES = 30, 20
 # Of ten kills, how many come while the journal is opened, and how many after some time from then on.
-EARLY, TIMED = 2, 4
+EARLY, TIMED = 3, 4
 
 
 def lines_of(count: int, chance: random.Random) -> list[bytes]:
@@ -154,6 +154,7 @@ def series_in(
     ends = [place for place, block in enumerate(blocks, 1) if block.startswith(b"ok ")]
     series = Series(program, room, chance, lines, blocks, ends)
     with empty_room() as other:
+        keep(program, other)
         series.opening = seconds_of(program, other, [])
         series.seconds = seconds_of(program, other, lines[:PIECE])
     return series
@@ -179,6 +180,6 @@ def cases(program: str, kills: int, seed: int) -> Iterator[tuple[str, str | None
                 continue
         seen += series.seen
     print(", ".join(f"{count} {what}" for what, count in seen.items()))
-    met = min(seen["between replies"], seen["before the first reply"] * 4)
+    met = min(seen["between replies"], seen["before the first reply"] * 10)
     few = None if met * 5 >= kills else f"too few: {dict(seen)}"
     yield "kills before the first reply and between replies", few
