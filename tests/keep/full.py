@@ -21,10 +21,11 @@ def wrong_after(
     lines: list[bytes],
     blocks: list[bytes],
     written: bytes,
+    known: int = 0,
 ) -> str | None:
     """What is wrong where the disk failed at a line, which is kept or not; then the rest is sent again, with room for it.
 
-    All lines are done but those whose block begins with `no`.
+    All lines are done but those whose block begins with `no`. So many lines of the journal were known before.
     """
     answered, rest = blocks_of(written)
     if rest or answered != blocks[: len(answered)]:
@@ -34,7 +35,8 @@ def wrong_after(
         for line, block in zip(lines, blocks[: len(answered)])
         if block.startswith(b"ok ")
     ]
-    left = kept((room / JOURNAL).read_bytes())
+    file = (room / JOURNAL).read_bytes() if (room / JOURNAL).exists() else b""
+    left = kept(file)[known:]
     more = left[len(before) :]
     if left[: len(before)] != before or more not in ([], lines[len(answered) :][:1]):
         return f"{len(answered)} lines are answered, and it keeps {left!r:.400}"

@@ -78,7 +78,7 @@ class Series:
             os.write(process.stdin.fileno(), text_of(given))
             written = b""
             if kind < EARLY:
-                time.sleep(self.chance.uniform(0, 1.5 * self.opening))
+                time.sleep(self.chance.uniform(0, self.opening))
             elif kind < EARLY + TIMED:
                 time.sleep(self.chance.uniform(0, 1.1 * self.seconds))
             else:
@@ -161,7 +161,7 @@ def series_in(
 
 
 def cases(program: str, kills: int, seed: int) -> Iterator[tuple[str, str | None]]:
-    """The name of each kill, and what is wrong, or None; last, whether enough of them met the middle of a call."""
+    """The name of each kill, and what is wrong, or None; last, whether they came at moments of all kinds."""
     seen: collections.Counter[str] = collections.Counter()
     for first in range(0, kills, SERIES):
         count = min(SERIES, kills - first)
@@ -180,6 +180,6 @@ def cases(program: str, kills: int, seed: int) -> Iterator[tuple[str, str | None
                 continue
         seen += series.seen
     print(", ".join(f"{count} {what}" for what, count in seen.items()))
-    met = min(seen["between replies"], seen["before the first reply"] * 10)
-    few = None if met * 5 >= kills else f"too few: {dict(seen)}"
-    yield "kills before the first reply and between replies", few
+    least = {"between replies": kills // 5, "before the first reply": kills // 50}
+    few = [f"only {seen[what]} {what}" for what in least if seen[what] < least[what]]
+    yield "moments of kills", ", ".join(few) or None

@@ -3,11 +3,12 @@
 
     measure.py PROGRAM [--lines LINES] [--kept KEPT] [--times TIMES] [--folder FOLDER]
 
-A journal of LINES lines (200,000) is opened, in turn with `replay` of the same lines; in the median it has to take less
-than 1.5 times as long, else this ends with status 1. Then KEPT lines (2,000) are answered by `keep` and by `replay`, in
-turn with what they cost without a program: the same two writes and two syncs a line, made here. Each is done TIMES
-times (7), in a folder below FOLDER, which decides about the disk (else the folder for temporary files). Printed are
-seconds from start to end, as rows of a table: the median, and the least in round brackets.
+A journal of LINES lines (200,000) is opened, in turn with `replay` of the same lines: once all are `tick` of one run,
+which are the cheapest ones, and once they make many runs. In the median each has to take less than 1.5 times as long,
+else this ends with status 1. Then KEPT lines (2,000) are answered by `keep` and by `replay`, in turn with what they
+cost without a program: the same two writes and two syncs a line, made here. Each is done TIMES times (7), in a folder
+below FOLDER, which decides about the disk (else the folder for temporary files). Printed are the rows of the tables
+of docs/PERFORMANCE.md: seconds from start to end, in the median and in round brackets the least, and lines a second.
 """
 import argparse
 import os
@@ -28,6 +29,8 @@ SETUP = [
     b'["2024-01-01T08:00:00Z","assign","r","ann","learner"]',
     b'["2024-01-01T08:00:00Z","start","r"]',
 ]
+COMPLETE = b'["2024-01-01T08:00:00Z","complete","r","ann","read"]'
+TREE = b'["2024-01-01T08:00:00Z","tree","r","ann"]'
 TICK = b'["2024-01-01T09:00:00Z","tick","r"]'
 
 
@@ -59,9 +62,25 @@ def ends_well(program: str, word: str, room: pathlib.Path, given: bytes) -> None
         raise SystemExit(f"{word} ends with status {end.status}")
 
 
-def opening(program: str, room: pathlib.Path, lines: int, times: int) -> float:
+def ticks(count: int) -> list[bytes]:
+    """Lines that only let time pass, in one run."""
+    return SETUP + [TICK] * (count - len(SETUP))
+
+
+def runs(count: int) -> list[bytes]:
+    """Lines of many runs, which have six each."""
+    rows = [*SETUP, COMPLETE, TREE]
+    return [
+        row.replace(b'"r"', b'"r%d"' % number)
+        for number in range(count // len(rows))
+        for row in rows
+    ]
+
+
+def opening(
+    program: str, room: pathlib.Path, name: str, rows: list[bytes], times: int
+) -> float:
     """How many times as long as a replay the opening of a journal takes."""
-    rows = SETUP + [TICK] * (lines - len(SETUP))
     (room / JOURNAL).write_bytes(journal_of(rows))
     given = text_of(rows)
     opened, replayed = in_turn(
@@ -71,12 +90,15 @@ def opening(program: str, room: pathlib.Path, lines: int, times: int) -> float:
         ],
         times,
     )
-    if keep(program, room, TICK + b"\n").written[:8] != b"ok tick ":
-        raise SystemExit("the journal is not opened")
+    again = keep(program, room, rows[0] + b"\n").written
+    if again != b"no 3 run-exists\n":
+        raise SystemExit(f"the journal is not opened: {again!r}")
     times_as_long = ratio(opened, replayed)
-    print(f"| a journal of {lines:,} lines opened | {told(opened)} |")
-    print(f"| `replay` of the same lines | {told(replayed)} |")
-    print(f"| times | {times_as_long:.2f} ({min(opened) / min(replayed):.2f}) |")
+    least = min(opened) / min(replayed)
+    print(
+        f"| {len(rows):,} lines, {name} | {told(opened)} | {told(replayed)} | {times_as_long:.2f} ({least:.2f}) |",
+        flush=True,
+    )
     return times_as_long
 
 
@@ -97,7 +119,7 @@ def written_bare(path: pathlib.Path, rows: list[bytes]) -> None:
 
 def keeping(program: str, room: pathlib.Path, lines: int, times: int) -> None:
     """Lines a second."""
-    rows = SETUP + [TICK] * (lines - len(SETUP))
+    rows = ticks(lines)
     given, journal, bare = text_of(rows), room / JOURNAL, room / "bare"
 
     def kept_anew() -> None:
@@ -119,8 +141,11 @@ def keeping(program: str, room: pathlib.Path, lines: int, times: int) -> None:
         ("`replay`", by_replay),
     ]:
         rate = lines / statistics.median(seconds)
-        print(f"| {lines:,} lines, {name} | {told(seconds)} | {rate:,.0f} a second |")
-    print(f"| `keep`, times the bare syncs | {ratio(by_keep, by_hand):.2f} |")
+        print(f"| {name} | {told(seconds)} | {rate:,.0f} |")
+    least = min(by_keep) / min(by_hand)
+    print(
+        f"`keep` takes {ratio(by_keep, by_hand):.2f} ({least:.2f}) times the bare cost"
+    )
 
 
 def main() -> int:
@@ -134,10 +159,16 @@ def main() -> int:
     program = os.path.abspath(words.program)
     with tempfile.TemporaryDirectory(prefix="ld-keep-", dir=words.folder) as name:
         room = pathlib.Path(name)
-        times_as_long = opening(program, room, words.lines, words.times)
+        print("| journal | opened | `replay` | times |\n|---|---|---|---|")
+        loads = {"`tick` of one run": ticks, "of many runs": runs}
+        most = max(
+            opening(program, room, name, load(words.lines), words.times)
+            for name, load in loads.items()
+        )
+        print(f"\n| {words.kept:,} lines | seconds | lines a second |\n|---|---|---|")
         keeping(program, room, words.kept, words.times)
-    if times_as_long >= MOST:
-        print(f"failed: the opening takes {times_as_long:.2f} times as long")
+    if most >= MOST:
+        print(f"failed: to open a journal takes {most:.2f} times as long as `replay`")
         return 1
     return 0
 

@@ -4,7 +4,7 @@
     run.py PROGRAM [--kills KILLS] [--seed SEED] [--every-byte] [--only WORD] [--jobs JOBS]
 
 With --every-byte each byte of a journal becomes each other byte, and a disk is full at each size; else some of them.
-With a WORD only the tables whose names have it are run: worked, changed, full or kills. All files are below the
+With a WORD only the tables whose names have it are run: worked, changed, full, disk calls or kills. All files are below the
 folder for temporary files (TMPDIR), which should be on a disk. tests/keep/measure.py has what is measured.
 """
 import argparse
@@ -13,6 +13,7 @@ import sys
 import time
 
 import changed
+import disk_calls
 import full
 import kills
 import worked
@@ -32,6 +33,7 @@ def main() -> int:
         "worked": worked.cases(program),
         "changed": changed.cases(program, words.every_byte, words.jobs),
         "full": full.cases(program, 1 if words.every_byte else 7),
+        "disk calls": disk_calls.cases(program),
         "kills": kills.cases(program, words.kills, words.seed),
     }
     passed = failed = 0

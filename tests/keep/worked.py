@@ -259,6 +259,39 @@ def other_file(name: str) -> Check:
     return check
 
 
+def filled_to(place: int) -> list[bytes]:
+    """Lines that are done, of which the last gate stands at this place."""
+    lines: list[bytes] = []
+    while place > 0:
+        size = place if place <= LONGEST else min(LONGEST, place - 1000)
+        line = b'["2024-01-01T08:00:00Z","create","f%d","u1"]' % len(lines)
+        lines.append(line.ljust(size - 5))
+        place -= size
+    return lines
+
+
+def near(edge: int) -> Check:
+    """Journals with a gate at each place near this one, where a part of a file may end that is read at once."""
+
+    def check(program: str, room: pathlib.Path) -> str | None:
+        for place in range(edge - 50, edge + 7):
+            before = filled_to(place)
+            file = journal_of(before + SETUP)
+            put(room, file)
+            after = with_line(file, SECOND)
+            given = text_of([before[-1], CREATE, SECOND])
+            written = THERE * 2 + MADE
+            wrong = gives(program, room, None, given, 0, written, after)
+            if wrong is not None:
+                return f"a gate at {place}: {wrong}"
+        return None
+
+    return check
+
+
+EDGES = [4096, 8192, 16_384, 32_768, 65_536, 131_072]
+
+
 def is_a_folder(program: str, room: pathlib.Path) -> str | None:
     """A journal that is a folder."""
     (room / JOURNAL).mkdir()
@@ -409,6 +442,7 @@ def cases(program: str) -> Iterator[tuple[str, str | None]]:
         f"a journal that differs: {name}": refused_journal(name) for name in REFUSED
     }
     table |= {f"a file to be opened: {name}": other_file(name) for name in OTHER_FILES}
+    table |= {f"gates near byte {edge}": near(edge) for edge in EDGES}
     for name, row in WITHOUT.items():
         table[f"without a journal: {name}"] = made_without_a_journal(*row)
     for name, check in table.items():
