@@ -67,11 +67,15 @@ def blocks_of(written: bytes) -> tuple[list[bytes], bytes]:
 def limited(most: int | None) -> Callable[[], None] | None:
     """What is to be done in the new process, so that a file takes no more bytes than this."""
 
+    if most is None:
+        return None
+    limits = (most, most)
+
     def limit() -> None:
         signal.signal(signal.SIGXFSZ, signal.SIG_IGN)
-        resource.setrlimit(resource.RLIMIT_FSIZE, (most, most))
+        resource.setrlimit(resource.RLIMIT_FSIZE, limits)
 
-    return None if most is None else limit
+    return limit
 
 
 def call(

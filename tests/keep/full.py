@@ -4,7 +4,7 @@ import pathlib
 import subprocess
 from collections.abc import Iterator
 
-from calls import COURSE, JOURNAL, ROOT, blocks_of, call, empty_room, keep, text_of
+from calls import JOURNAL, ROOT, blocks_of, empty_room, keep, text_of
 from journal import journal_of, kept
 
 LINES = (ROOT / "examples/first.lines").read_bytes().splitlines()

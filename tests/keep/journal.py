@@ -11,7 +11,8 @@ def entry(line: bytes) -> bytes:
 
 def gate_and_lines(file: bytes) -> tuple[int, list[bytes]]:
     """The place of the last gate, and the lines that the file keeps (of fewer than 2^40 bytes)."""
-    gate, lines = 0, []
+    gate = 0
+    lines: list[bytes] = []
     while True:
         size = int.from_bytes(file[gate + 1 : gate + 5], "big")
         following = gate + 5 + size

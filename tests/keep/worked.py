@@ -20,7 +20,6 @@ from journal import journal_of, kept, opened, with_line
 
 Check = Callable[[str, pathlib.Path], str | None]
 
-WORK = b"turns=0 fired=0 rejected=0 sent=0"
 LINES = (ROOT / "examples/first.lines").read_bytes().splitlines()
 REPLIES = (ROOT / "examples/first.replies").read_bytes()
 CREATE, SETUP, COMPLETE = LINES[0], LINES[:4], LINES[4]
@@ -385,8 +384,7 @@ def full_output_of_a_difference(program: str, room: pathlib.Path) -> str | None:
 def two_units(program: str, room: pathlib.Path) -> str | None:
     """Two folders, and then one of them alone: the line of the other's run differs."""
     other = str(ROOT / "examples" / "seminar")
-    identifier = b"seminar"
-    line = b'["2024-01-01T08:00:00Z","create","s","%s"]' % identifier
+    line = b'["2024-01-01T08:00:00Z","create","s","seminar"]'
     words = ["keep", COURSE, other]
     wrong = ends(call(program, words, room, text_of([CREATE, line])), 0, MADE * 2)
     end = keep(program, room, text_of(LINES))
@@ -416,10 +414,8 @@ SINGLE: list[Check] = [
     full_output_of_a_difference,
     two_units,
 ]
-ABSENT, REPEATED = (
-    b"refused 1 roles.json . absent\n",
-    b"refused 2 unit.json /identifier repeated-unit\n",
-)
+ABSENT = b"refused 1 roles.json . absent\n"
+REPEATED = b"refused 2 unit.json /identifier repeated-unit\n"
 # Calls that make no journal: their words, their status and what they write.
 WITHOUT = {
     "no folder": (["keep"], 2, b""),
