@@ -5,6 +5,7 @@ use Rattle.ld_keeping.specs.declared.ending.KeepEnding.TheVariants.{Done as AllD
 use Rattle.ld_top.specs.declared.ending.Ending.{Ending}
 use Rattle.ld_top.specs.declared.ending.Ending.TheVariants.{Done, BadWords, ShelfFault, UnitRefused, ReadFault, WriteFault, NoMemory, InputTooLong, DiskFault, JournalDiffers, JournalFull}
 
+-- The ending of a call whose lines were answered over a journal.
 abbrev pub ending_of : KeepEnding → Ending
 ending_of AllDone = Done
 ending_of Unread = ReadFault

@@ -12,13 +12,14 @@ use Rattle.ld_top.specs.Replay.{FromUnits, Publishes, RefusedCut}
 
 -- ---- the journal
 
--- What became of the journal from one moment of its disk to another, where nothing was pending at first: these lines
--- were kept; or these, and perhaps one more; or none was, and none is lost.
+-- What may be said of a journal from one moment of its disk to another: these lines were kept; or these, and perhaps one
+-- more; or none was, and none is lost.
 pub record Journaled : Type 1 where
   pub Kept : List (List ℕ) → Type 0
   pub KeptBut : List (List ℕ) → List ℕ → Type 0
   pub KeptNone : Type 0
 
+-- The same of a disk, where nothing was pending on it at first.
 abbrev pub journaled : {D : Type 0} → DiskModel D → D → D → Journaled
 journaled disk old new = record {
   Kept = λ done. IsSettled disk old → HasKept disk old new done;
@@ -59,18 +60,21 @@ JournaledFull j file w before left old new = FromJournal file w (λ after. Keeps
     j.Kept done × IfSome file (λ bytes. 2 ^ 40 < last_gate bytes + size_of_records (done ++ last ∷ []) + 1)) after before old left new)
 
 -- A line of the journal is refused; the text that tells the first such line was written, and nothing was taken.
-abbrev pub Differs : Journaled → Option (List ℕ) → WorldState → (before left old new : Option (List ℕ)) → Type 0
-Differs j file w before left old new =
+abbrev pub JournaledDiffers : Journaled → Option (List ℕ) → WorldState → (before left old new : Option (List ℕ)) → Type 0
+JournaledDiffers j file w before left old new =
     FromDiffering file w (λ differing. (new ≡ then_piece old (differing_text differing)) × (left ≡ before) × j.KeptNone)
 
--- ---- the ends of the call: the folders' units are published, and from their world on this was done
+-- ---- the ends of the call
 
+-- The folders' units are published, and from their world on this was done.
 abbrev pub FromFirst : Option Files → List (List ℕ) → (WorldState → Type 0) → Type 0
 FromFirst files folders Done = FromUnits files folders (λ units. Done (first_world units))
 
+-- It was done: all lines of the source were answered.
 abbrev pub KeptAll : Journaled → Option Files → (file before left old new : Option (List ℕ)) → List (List ℕ) → Type 0
 KeptAll j files file before left old new folders = FromFirst files folders (λ w. JournaledAll j file w before left old new)
 
+-- It stopped after this many bytes of the source.
 abbrev pub KeptTaken : (ℕ → Type 0) → Journaled → Option Files → (file before left old new : Option (List ℕ)) → List (List ℕ) → Type 0
 KeptTaken Many j files file before left old new folders = FromFirst files folders (λ w. JournaledTaken Many j file w before left old new)
 
@@ -79,14 +83,17 @@ abbrev pub KeptCut : Journaled → Option Files → (file before left old new : 
 KeptCut j files file before left old new folders =
     (RefusedCut folders files before left old new × j.KeptNone) ⊎ FromFirst files folders (λ w. JournaledCut j file w before left old new)
 
+-- The disk failed.
 abbrev pub KeptLost : Journaled → Option Files → (file before left old new : Option (List ℕ)) → List (List ℕ) → Type 0
 KeptLost j files file before left old new folders = FromFirst files folders (λ w. JournaledLost j file w before left old new)
 
+-- A line that is done does not fit into the journal.
 abbrev pub KeptFull : Journaled → Option Files → (file before left old new : Option (List ℕ)) → List (List ℕ) → Type 0
 KeptFull j files file before left old new folders = FromFirst files folders (λ w. JournaledFull j file w before left old new)
 
+-- A line of the journal is refused.
 abbrev pub KeptDiffers : Journaled → Option Files → (file before left old new : Option (List ℕ)) → List (List ℕ) → Type 0
-KeptDiffers j files file before left old new folders = FromFirst files folders (λ w. Differs j file w before left old new)
+KeptDiffers j files file before left old new folders = FromFirst files folders (λ w. JournaledDiffers j file w before left old new)
 
 -- ---- where nothing fails
 

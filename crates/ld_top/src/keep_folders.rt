@@ -4,7 +4,7 @@ ghost use Rattle.ld_base.specs.Outside.{Rose};
 ghost use Rattle.ld_top.specs.Completeness.{DidNotFail, EndsRefused};
 ghost use Rattle.ld_top.specs.Endings.{IsJournalEnding, IsKeepEnding, IsOneOf, NothingKept, NothingTaken, NothingWritten, number_of};
 ghost use Rattle.ld_top.specs.JournalEndings.{ending_of as ending_for};
-ghost use Rattle.ld_top.specs.Journaled.{Differs, HasGoodJournal, IsGivenToKeep, JournaledAll, JournaledCut, JournaledFull, JournaledLost, JournaledTaken, KeptAll, KeptCut, KeptDiffers, KeptFull, KeptLost, KeptTaken, journaled};
+ghost use Rattle.ld_top.specs.Journaled.{HasGoodJournal, IsGivenToKeep, JournaledAll, JournaledCut, JournaledDiffers, JournaledFull, JournaledLost, JournaledTaken, KeptAll, KeptCut, KeptDiffers, KeptFull, KeptLost, KeptTaken, journaled};
 ghost use Rattle.ld_top.specs.Replay.{Refused};
 ghost use Rattle.ld_words.specs.Words.{words_of};
 ghost use Rattle.ld_world.specs.World.{first_world};
@@ -68,7 +68,7 @@ fn keep_units<S: Source, K: Sink, D: Disk, L: Ledger>(
     ensures full { result ≡ Ending.JournalFull → JournaledFull (journaled D.model disk.old disk.new)
         (D.model.bytes disk.old) (first_world world.units)
         (S.left input.old) (S.left input.new) (K.written output.old) (K.written output.new) }
-    ensures differs { result ≡ Ending.JournalDiffers → Differs (journaled D.model disk.old disk.new)
+    ensures differs { result ≡ Ending.JournalDiffers → JournaledDiffers (journaled D.model disk.old disk.new)
         (D.model.bytes disk.old) (first_world world.units)
         (S.left input.old) (S.left input.new) (K.written output.old) (K.written output.new) }
     ensures not_written { NothingWritten (number_of result) → output.new ≡ output.old }
