@@ -5,8 +5,10 @@ use Rattle.std.proofs.lemmas.List.{take-take, drop-take, drop-drop}
 use Rattle.std.specs.Int.{w32, from_be_bytes}
 use Rattle.ld_keep.specs.Kept.{reach, length_field, is_record, lines_past, gate_past, last_gate, kept_lines, lines_from, record_in, record_here}
 use Rattle.ld_keep.specs.Opening.{OpeningState, IsAtGate}
+use Rattle.ld_keep.specs.Window.{WindowState, IsOfFile}
 use Rattle.ld_keep.proofs.Records.{Fits, fits, lines_past-drop, gate_past-drop, record_lines, record_gate, lines_past-none, gate_past-none, gate_past_nil, lines_past_nil}
 use Rattle.ld_keep.proofs.Images.{short, none_left}
+use Rattle.ld_keep.proofs.Windows.{of_any_file}
 
 -- five bytes tell the record
 pub told_by_five : (bytes : List ℕ) (count : ℕ) → 5 ≤ length bytes → record_in (take 5 bytes) count ≡ record_in bytes count
@@ -68,31 +70,36 @@ line_of_file file place n within =
     ap (take n) (drop-drop 5 place (reach file) ∙ ap (λ (k : ℕ). drop (place + 5) (take k file)) whole ∙ drop-take (place + 5) m file)
     ∙ take-take n m (drop (place + 5) file) (omega arith)
 
-module _ (o : OpeningState) (file : List ℕ) (at : IsAtGate o file) where
-  pub ends : None ≡ record_here (drop o.place (reach file)) → (lines_from o.place file ≡ []) × IsAtGate (record o { ended = true }) file
+-- while other bytes of the file come to be held
+module _ (o : OpeningState) (file : List ℕ) (at : IsAtGate o file) (window : WindowState) (of_file : IsOfFile window file) where
+  pub stays : IsAtGate (record o { window = window }) file
+  stays = record { limit = at.limit; gate = at.gate; ended = at.ended; window = of_file }
+
+  pub ends : None ≡ record_here (drop o.place (reach file)) → (lines_from o.place file ≡ []) × IsAtGate (record o { ended = true; window = window }) file
   ends is =
       let none = stops_here (drop o.place (reach file)) is in
-      (none.0, record { limit = at.limit; gate = at.gate; ended = λ _. none.0 })
+      (none.0, record { limit = at.limit; gate = at.gate; ended = λ _. none.0; window = of_file })
 
   pub goes_past : (n : ℕ) (line : List ℕ) (new : OpeningState) → Some n ≡ record_here (drop o.place (reach file)) → o.place + 5 + n < o.limit
-      → take n line ≡ take n (drop (o.place + 5) file) → new ≡ record o { place = o.place + (n + 5) }
-      → (lines_from o.place file ≡ take n line ∷ lines_from new.place file) × IsAtGate new file
+      → line ≡ take n (drop (o.place + 5) file) → new ≡ record o { place = o.place + (n + 5); window = window }
+      → (lines_from o.place file ≡ line ∷ lines_from new.place file) × IsAtGate new file
   goes_past n line new is within read new_is =
       let p = passes (drop o.place (reach file)) n is in
       let far : o.place + (n + 5) ≡ new.place = ap (λ s. s.place) (sym new_is) in
       let behind : drop (5 + n) (drop o.place (reach file)) ≡ drop new.place (reach file) =
       drop-drop (5 + n) o.place (reach file) ∙ ap (λ (k : ℕ). drop k (reach file)) (omega (arith, far)) in
       let inside : o.place + 5 + n ≤ 2 ^ 40 = omega (arith, within, at.limit, length-take (2 ^ 40) file) in
-      let text : take n (drop 5 (drop o.place (reach file))) ≡ take n line = line_of_file file o.place n inside ∙ sym read in
-      let lines : lines_from o.place file ≡ take n line ∷ lines_from new.place file =
+      let text : take n (drop 5 (drop o.place (reach file))) ≡ line = line_of_file file o.place n inside ∙ sym read in
+      let lines : lines_from o.place file ≡ line ∷ lines_from new.place file =
       p.lines ∙ ap (λ (l : List ℕ). l ∷ lines_past 0 (drop (5 + n) (drop o.place (reach file)))) text
-      ∙ ap (λ (l : List ℕ). take n line ∷ lines_past 0 l) behind in
+      ∙ ap (λ (l : List ℕ). line ∷ lines_past 0 l) behind in
       let gate_behind : gate_past 0 (drop (5 + n) (drop o.place (reach file))) ≡ gate_past 0 (drop new.place (reach file)) = ap (λ (l : List ℕ). gate_past 0 l) behind in (
         lines,
         record {
           limit = ap (λ s. s.limit) new_is ∙ at.limit;
           gate = omega (arith, at.gate, p.gate, gate_behind, far);
           ended = λ ended. absurd (cc (at.ended (subst IsTrue (ap (λ s. s.ended) new_is) ended), lines));
+          window = subst (λ w. IsOfFile w file) (sym (ap (λ s. s.window) new_is)) of_file;
         },
       )
 
@@ -114,13 +121,14 @@ head_of_file file place limit is within five =
 pub ended_at : (o : OpeningState) (file : List ℕ) → IsAtGate o file → IsTrue o.ended → last_gate file ≡ o.place
 ended_at o file at ended = omega (arith, at.gate, none_left (drop o.place (reach file)) (at.ended ended))
 
--- at first the opening is at the first gate
-pub starts_at : (size : ℕ) (file : List ℕ) → size ≡ length file → IsAtGate (record { place = 0; limit = min size (2 ^ 40); ended = false }) file
+-- at first the opening is at the first gate, and holds nothing
+pub starts_at : (size : ℕ) (window : WindowState) (file : List ℕ) → size ≡ length file → window.held ≡ [] → IsAtGate (record { place = 0; limit = min size (2 ^ 40); ended = false; window = window }) file
 unfolding last_gate
-starts_at size file is = record {
+starts_at size window file is none = record {
   limit = omega (arith, is, length-take (2 ^ 40) file);
   gate = omega arith;
   ended = λ ended. absurd (cc ended);
+  window = of_any_file window file none;
 }
 
 -- from there on stand all lines that the file keeps

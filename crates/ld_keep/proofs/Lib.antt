@@ -5,6 +5,7 @@ pub mod Files
 pub mod Images
 pub mod Closing
 pub mod Keeping
+pub mod Windows
 pub mod Advancing
 pub mod Overwriting
 pub mod PastCalls

@@ -2,24 +2,22 @@
 use Rattle.std.specs.Prelude.{ℕ, ◌+◌, ◌≤◌, ◌<◌, List, [], ◌∷◌, length, drop, Bool, true, false, IsTrue, Option, Some, None, IfSome, slice_get, ◌==◌, nat_le, if◌then◌else◌, ◌≡◌}
 use Rattle.ld_keep.specs.Disk.{overwritten}
 use Rattle.ld_keep.specs.Kept.{reach, length_field, is_record, gate_past, last_gate, lines_from}
+use Rattle.ld_keep.specs.Window.{WindowState, IsOfFile}
 
--- The place of the gate that is looked at next, how many bytes of the file may hold records, and whether the last line
--- was handed out.
+-- The place of the gate that is looked at next, how many bytes of the file may hold records, whether the last line was
+-- handed out, and the bytes that are held.
 pub record OpeningState : Type 0 where
   pub place : ℕ
   pub limit : ℕ
   pub ended : Bool
+  pub window : WindowState
 
--- The same, and the room that a line is read to.
-pub record WalkState : Type 0 where
-  pub state : OpeningState
-  pub line : List ℕ
-
--- The opening is at a gate of the file.
+-- The opening is at a gate of the file, and holds bytes of it.
 pub record IsAtGate (o : OpeningState) (file : List ℕ) : Type 0 where
   pub limit : o.limit ≡ length (reach file)
   pub gate : last_gate file ≡ o.place + gate_past 0 (drop o.place (reach file))
   pub ended : IsTrue o.ended → lines_from o.place file ≡ []
+  pub window : IsOfFile o.window file
 
 -- The gate that is looked at next stands after the record of this line, within the limit.
 pub record AdvancesBy (line : List ℕ) (old new : OpeningState) : Type 0 where
@@ -35,11 +33,12 @@ pub data Answer : Type 0 where
   NoLine : Answer
   Failed : Answer
 
--- What the call says of the lines, where the bytes of the file are told, and what it leaves of the opening.
+-- What the call says of the lines, where the bytes of the file are told, and what it leaves of the opening. Whatever it
+-- answers, other bytes may be held then.
 abbrev pub HandsOut : OpeningState → Option (List ℕ) → Answer → OpeningState → Type 0
 HandsOut old bytes (Line line) new = AdvancesBy line old new × IfSome bytes (λ file. (lines_from old.place file ≡ line ∷ lines_from new.place file) × IsAtGate new file)
-HandsOut old bytes NoLine new = (new ≡ record old { ended = true }) × IfSome bytes (λ file. (lines_from old.place file ≡ []) × IsAtGate new file)
-HandsOut old bytes Failed new = new ≡ old
+HandsOut old bytes NoLine new = (new ≡ record old { ended = true; window = new.window }) × IfSome bytes (λ file. (lines_from old.place file ≡ []) × IsAtGate new file)
+HandsOut old bytes Failed new = (new ≡ record old { window = new.window }) × IfSome bytes (λ file. IsAtGate new file)
 
 -- The place is that of the last gate, which is this one.
 pub record HasLastGate (place gate : ℕ) (file : List ℕ) : Type 0 where

@@ -3,8 +3,10 @@ ghost use Rattle.std.specs.Prelude.{◌≡◌, ◌≤◌, ◌<◌, ◌+◌, ◌^
 ghost use Rattle.ld_base.specs.Outside.{Rose};
 ghost use Rattle.ld_keep.specs.Disk.{IsQuiet};
 ghost use Rattle.ld_keep.specs.Kept.{reach, record_in, record_here};
+ghost use Rattle.ld_keep.specs.Window.{IsOfFile, Holds};
 
 use crate::disk::{Disk, DiskFailed};
+use crate::window::Window;
 
 /// The most bytes of a line.
 const LINE_LIMIT: u32 = 65_536;
@@ -15,16 +17,21 @@ const LINE_LIMIT: u32 = 65_536;
 /// # Errors
 /// `DiskFailed` only where the disk's count of faults rose.
 pub(crate) fn record_at<D: Disk>(
+    window: &mut Window,
     disk: &mut D,
     place: u64,
     limit: u64,
 ) -> Result<Option<u32>, DiskFailed>
     requires within { place ≤ limit }
     requires limit { IfSome (D.model.bytes disk.old) (λ bytes. limit ≡ length (reach bytes)) }
+    requires near { Holds window.old place 0 }
+    requires of_file { IfSome (D.model.bytes disk.old) (IsOfFile window.old) }
     ensures found { IfOk result (λ found. IfSome (D.model.bytes disk.old)
         (λ bytes. found ≡ record_here (drop place (reach bytes)))) }
     ensures some { IfOk result (λ found. IfSome found (λ n. (1 ≤ n) × (n ≤ 65536))) }
     ensures fits { IfOk result (λ found. IfSome found (λ n. place + 5 + n < limit)) }
+    ensures near { Holds window.new place 0 }
+    ensures of_file { IfSome (D.model.bytes disk.old) (IsOfFile window.new) }
     ensures quiet { IsQuiet D.model disk.old disk.new }
     ensures tells { D.model.tells_images disk.new ≡ D.model.tells_images disk.old }
     ensures cause { OnErr result (Rose (D.faults disk.old) (D.faults disk.new)) }
@@ -33,9 +40,8 @@ pub(crate) fn record_at<D: Disk>(
     if limit - place < 5 {
         return Ok(None);
     }
-    let mut head = [0u8; 5];
-    disk.read(place, &mut head)?;
-    Ok(record_length(&head, limit - place))
+    window.hold(disk, place, 5, limit)?;
+    Ok(record_length(window.part(place, 5), limit - place))
 }
 
 /// The length of the line of the record whose first five bytes these are, if they begin one. The

@@ -13,6 +13,7 @@ pub mod opening;
 mod put;
 mod step;
 mod walk;
+mod window;
 
 pub use disk::{Disk, DiskFailed};
 pub use file_disk::FileDisk;

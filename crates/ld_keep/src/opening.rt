@@ -10,7 +10,8 @@ use crate::disk::{Disk, DiskFailed};
 use crate::gates::gate_at;
 use crate::journal::{ENTRY_ROOM, Journal};
 use crate::put::put;
-use crate::walk::{Walk, line_room};
+use crate::walk::Walk;
+use crate::window::Window;
 use std::alloc::Global;
 use std::marker::Model;
 use thiserror::Error;
@@ -34,7 +35,7 @@ pub struct Opening {
 impl Model for Opening {
     ghost Value = { OpeningState };
 
-    ghost view = { λ o. o.walk.state };
+    ghost view = { λ o. o.walk };
 
     ghost invariant = { λ o. 65541 ≤ vec_capacity o.entry };
 }
@@ -70,7 +71,7 @@ impl Opening {
             → Rose (D.faults disk.old) (D.faults disk.new) }
         ensures counts { D.faults disk.old ≤ D.faults disk.new }
     {
-        let Ok(line) = line_room(alloc) else {
+        let Ok(window) = Window::new(alloc) else {
             return Err(OpenFault::NoMemory);
         };
         let Ok(entry) = Vec::with_capacity(alloc, ENTRY_ROOM) else {
@@ -79,7 +80,7 @@ impl Opening {
         let Ok(size) = synced_size(disk) else {
             return Err(OpenFault::DiskFault);
         };
-        let walk = Walk::new(line, size);
+        let walk = Walk::new(window, size);
         Ok(Opening { walk, entry })
     }
 
