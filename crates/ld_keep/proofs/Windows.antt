@@ -7,9 +7,11 @@ use Rattle.ld_keep.specs.Window.{WindowState, IsOfFile, Holds, held_at}
 pub of_any_file : (w : WindowState) (file : List ℕ) → w.held ≡ [] → IsOfFile w file
 of_any_file w file none = none ∙ ap (λ (l : List ℕ). take (length l) (drop w.start file)) (sym none)
 
+-- as many bytes as are asked for
 pub length-held_at : (w : WindowState) (place n : ℕ) → Holds w place n → length (held_at w place n) ≡ n
 length-held_at w place n (after, within) = length-take-le n (drop (place - w.start) w.held) (omega (arith, after, within, length-drop (place - w.start) w.held))
 
+-- and they are those of the file
 pub held_of_file : (w : WindowState) (file : List ℕ) (place n : ℕ) → IsOfFile w file → Holds w place n → held_at w place n ≡ take n (drop place file)
 held_of_file w file place n of_file (after, within) =
     let k = place - w.start in

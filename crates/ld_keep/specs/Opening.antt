@@ -38,7 +38,7 @@ pub data Answer : Type 0 where
 abbrev pub HandsOut : OpeningState → Option (List ℕ) → Answer → OpeningState → Type 0
 HandsOut old bytes (Line line) new = AdvancesBy line old new × IfSome bytes (λ file. (lines_from old.place file ≡ line ∷ lines_from new.place file) × IsAtGate new file)
 HandsOut old bytes NoLine new = (new ≡ record old { ended = true; window = new.window }) × IfSome bytes (λ file. (lines_from old.place file ≡ []) × IsAtGate new file)
-HandsOut old bytes Failed new = (new ≡ record old { window = new.window }) × IfSome bytes (λ file. IsAtGate new file)
+HandsOut old bytes Failed new = (new ≡ record old { window = new.window }) × IfSome bytes (IsAtGate new)
 
 -- The place is that of the last gate, which is this one.
 pub record HasLastGate (place gate : ℕ) (file : List ℕ) : Type 0 where

@@ -25,7 +25,8 @@ pub enum OpenFault {
     NoMemory,
 }
 
-/// A journal whose lines are read. Contracts see the place of the gate that is looked at next.
+/// A journal whose lines are read. Contracts see the place of the gate that is looked at next, and
+/// the bytes of the file that are held.
 #[derive(Drop)]
 pub struct Opening {
     walk: Walk,

@@ -16,7 +16,7 @@ const OLD: [&str; 1] = ["0"];
 const CALLS: u64 = 16;
 
 /// The same of the torn file, of which more is read and written first.
-const TORN_CALLS: u64 = 22;
+const TORN_CALLS: u64 = 20;
 
 /// One more than the most bytes that are written between two syncs.
 const BYTES: usize = 17;
