@@ -53,7 +53,7 @@ pub seven_well : (folders : List (List ℕ)) (files : Option Files) (left : Opti
 seven_well folders files left = record { fewer = λ bytes given few. refl; others = λ bytes given many. refl }
 
 pub seven_refused : (folders : List (List ℕ)) (files : Option Files) → EndsRefused folders files 7
-seven_refused folders files = λ told refused here badly. refl
+seven_refused folders files = record { ends = λ told refused here badly. refl }
 
 -- From an input of which nothing was taken no 2^40 bytes were.
 pub none_taken : (left : Option (List ℕ)) (status : ℕ) → EndsAtLimit left left status
@@ -90,8 +90,9 @@ refusal_ends JournalFull before now can cause well = absurd can
 
 pub published_not_refused : (folders : List (List ℕ)) (files : Option Files) (units : List Unit) (status : ℕ)
     → WhereTold files (λ told. Publishes told folders (Ok units)) → EndsRefused folders files status
-published_not_refused folders files units status told others_told refused here badly =
-    absurd (not_both others_told folders units refused (told others_told here) badly)
+published_not_refused folders files units status told = record {
+  ends = λ others_told refused here badly. absurd (not_both others_told folders units refused (told others_told here) badly);
+}
 
 taken_within : (taken : List ℕ) (left : Option (List ℕ)) (bytes : List ℕ) → piece_then taken left ≡ Some bytes → length taken ≤ length bytes
 taken_within taken None bytes is = absurd (cc)

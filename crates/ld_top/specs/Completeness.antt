@@ -31,9 +31,8 @@ pub record EndsWell (folders : List (List ℕ)) (files : Option Files) (left : O
   pub others : (bytes : List ℕ) → IsGiven folders files left bytes → 2 ^ 40 ≤ length bytes → IsOneOf (8 ∷ 7 ∷ []) status
 
 -- Where a folder is refused, the status is 4; or it is 7, and memory ran out.
-abbrev pub EndsRefused : List (List ℕ) → Option Files → ℕ → Type 0
-EndsRefused folders files status =
-    (told : Files) (refused : RefusedFolder) → files ≡ Some told → Publishes told folders (Err refused) → IsOneOf (4 ∷ 7 ∷ []) status
+pub record EndsRefused (folders : List (List ℕ)) (files : Option Files) (status : ℕ) : Type 0 where
+  pub ends : (told : Files) (refused : RefusedFolder) → files ≡ Some told → Publishes told folders (Err refused) → IsOneOf (4 ∷ 7 ∷ []) status
 
 -- Where 2^40 bytes were taken, the status is 8.
 abbrev pub EndsAtLimit : Option (List ℕ) → Option (List ℕ) → ℕ → Type 0

@@ -1,4 +1,4 @@
-use Rattle.std.proofs.Common.{Err, ap, refl, inl}
+use Rattle.std.proofs.Common.{Err, ap, refl, inl, inr}
 use Rattle.ld_json.specs.Fault.{told_by}
 use Rattle.ld_keeping.proofs.Journals.{loses_none_yet}
 use Rattle.ld_words.specs.Words.{words_of}
@@ -56,8 +56,9 @@ returns-in-Err-Refused-clause-complete g c =
     λ given shelf source sink disk. absurd (not_both given.told names given.units (record { folder = c.in-Err-Refused.number; fault = told_by c.in-Err-Refused.fault }) given.published (told given.told given.are_told))
 
 pub returns-in-Err-Refused-clause-refuses : goal.returns-in-Err-Refused-clause-refuses
-returns-in-Err-Refused-clause-refuses g c = λ shelf sink told refused here badly.
-    refusal_ends c.refuse.result _ _ c.refuse.ensures.endings c.refuse.ensures.cause sink
+returns-in-Err-Refused-clause-refuses g c = λ shelf sink. record {
+  ends = λ told refused here badly. refusal_ends c.refuse.result _ _ c.refuse.ensures.endings c.refuse.ensures.cause sink;
+}
 
 pub returns-in-Err-Refused-clause-not_kept : goal.returns-in-Err-Refused-clause-not_kept
 returns-in-Err-Refused-clause-not_kept g c = λ _. loses_none_yet g.D.Disk.model g.met.D.Disk.lawful c.args.disk.now
@@ -71,3 +72,9 @@ returns-clause-complete g c = λ given shelf source sink disk.
 pub returns-clause-refuses : goal.returns-clause-refuses
 returns-clause-refuses g c = λ shelf sink.
     published_not_refused (words_of c.args.folders.now) _ _ (number_of c.keep_units.result) c.in-Ok.ensures.published
+
+pub returns-clause-cut : goal.returns-clause-cut
+returns-clause-cut g c = λ is. inr (c.in-Ok.world.units, c.in-Ok.ensures.published, c.keep_units.ensures.cut is)
+
+pub returns-clause-lost : goal.returns-clause-lost
+returns-clause-lost g c = λ is. (c.in-Ok.world.units, c.in-Ok.ensures.published, c.keep_units.ensures.lost is)

@@ -53,8 +53,9 @@ returns-in-Err-Refused-clause-complete g c =
     λ shelf source sink. refused_not_well names _ _ (record { folder = c.in-Err-Refused.number; fault = told_by c.in-Err-Refused.fault }) _ told
 
 pub returns-in-Err-Refused-clause-refuses : goal.returns-in-Err-Refused-clause-refuses
-returns-in-Err-Refused-clause-refuses g c = λ shelf sink told refused here badly.
-    refusal_ends c.refuse.result _ _ c.refuse.ensures.endings c.refuse.ensures.cause sink
+returns-in-Err-Refused-clause-refuses g c = λ shelf sink. record {
+  ends = λ told refused here badly. refusal_ends c.refuse.result _ _ c.refuse.ensures.endings c.refuse.ensures.cause sink;
+}
 
 pub returns-in-Err-Refused-clause-at_limit : goal.returns-in-Err-Refused-clause-at_limit
 returns-in-Err-Refused-clause-at_limit g c = λ sink. none_taken _ _
