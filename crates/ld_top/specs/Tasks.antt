@@ -1,5 +1,5 @@
 -- What the words ask of a call, and what the call is to have done of it when it ends.
-use Rattle.std.specs.Prelude.{ℕ, List, ◌≡◌, Option, Some, None, ⊤}
+use Rattle.std.specs.Prelude.{ℕ, List, Option, Some, None, ⊤}
 use Rattle.ld_base.specs.Maybe.{◌>>=◌}
 use Rattle.ld_base.specs.Outside.{Files}
 use Rattle.ld_words.specs.Forms.{Form, replay_form, check_form, rank_form, keep_form, form_in}

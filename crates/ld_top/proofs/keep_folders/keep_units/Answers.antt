@@ -1,5 +1,5 @@
-use Rattle.std.proofs.Common.{◌≡◌, ap, sym, subst, inl, inr, ⊎_elim, ◌∙◌}
-use Rattle.ld_keeping.specs.declared.ending.KeepEnding.TheVariants.{Done as AllDone, ReadFault as Unread, WriteFault as Unwritten, NoMemory as Roomless, InputTooLong as TooLong, DiskFault as Unkept, JournalDiffers as Differs, JournalFull as Full}
+use Rattle.std.proofs.Common.{ap, sym, subst, inl, inr, ⊎_elim}
+use Rattle.ld_keeping.specs.declared.ending.KeepEnding.TheVariants.{Done as AllDone, ReadFault as Unread, WriteFault as Unwritten, InputTooLong as TooLong, DiskFault as Unkept, JournalDiffers as Differs, JournalFull as Full}
 use Rattle.ld_top.specs.Endings.{IsJournalEnding}
 use Rattle.ld_top.proofs.JournalEnds.{before_lines, came_from, ends_complete, ends_over_journal, without_memory}
 use Rattle.ld_top.proofs.keep_folders.keep_units.Goals as goal
