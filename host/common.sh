@@ -1,0 +1,48 @@
+# What host/start and host/test share. It is read by them, and does nothing alone.
+top=$(cd "$(dirname "${BASH_SOURCE[0]}")/.." && pwd) || exit 1
+python=/usr/bin/python3
+run_packages=(python3-fastapi python3-uvicorn python3-jinja2 python3-multipart python3-jwcrypto)
+test_packages=(python3-pytest python3-httpx python3-selenium chromium chromium-driver)
+
+say() {
+  echo "host: $1" >&2
+}
+
+# need PACKAGE..: installs the packages that are not there, where this user may.
+need() {
+  local missing=() package
+  for package in "$@"; do
+    [ "$(dpkg-query -W -f '${db:Status-Status}' "$package" 2>/dev/null)" = installed ] || missing+=("$package")
+  done
+  [ "${#missing[@]}" -eq 0 ] && return
+  if ! command -v apt-get >/dev/null; then
+    say "this is no Debian; what stands for these packages of Debian 12 has to be there: ${missing[*]}"
+    exit 1
+  fi
+  if [ "$(id -u)" -ne 0 ]; then
+    say "packages are missing, and only root may install them: sudo apt-get install ${missing[*]}"
+    exit 1
+  fi
+  say "installing ${missing[*]}"
+  apt-get update -qq && DEBIAN_FRONTEND=noninteractive apt-get install -y -qq --no-install-recommends "${missing[@]}" >&2 || {
+    say 'the packages could not be installed'
+    exit 1
+  }
+}
+
+# Prints the engine: that of the variable LD, else the proved program, if it is built and no source is newer (as ./ld asks).
+find_engine() {
+  local program=$top/crates/ld_program/out/ld_program
+  if [ -n "$LD" ]; then
+    realpath -e "$LD" && return
+    say "LD names no program: $LD"
+  elif [ ! -x "$program" ]; then
+    say "the engine is not built; './ld --build' in $top proves and builds it (it takes an hour or so), or LD names another one"
+  elif [ -n "$(cd "$top" && find crates crates.txt \( -name '*.rt' -o -name '*.antt' -o -name crates.txt \) \
+    -not -path '*/out/*' -not -path '*_tests/*' -newer "$program" -print -quit)" ]; then
+    say "sources are newer than the engine; './ld --build' in $top builds it anew, or LD names another one"
+  else
+    echo "$program" && return
+  fi
+  return 1
+}

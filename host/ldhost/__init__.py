@@ -1,0 +1,1 @@
+"""Web pages and an HTTP interface over the run engine `ld`."""

@@ -1,0 +1,1 @@
+"""The pages, the interface for programs, and launches from learning platforms."""

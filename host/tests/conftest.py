@@ -1,0 +1,173 @@
+"""A host in a process of its own, and how tests speak with it."""
+
+import asyncio
+import json
+import os
+import re
+import shutil
+import signal
+import socket
+import subprocess
+import sys
+import time
+from pathlib import Path
+
+import httpx
+import pytest
+
+HERE = Path(__file__).parent
+TOP = HERE.parent
+sys.path.insert(0, str(TOP))
+
+from ldhost.engine import ask_what_it_has  # noqa: E402
+from ldhost.journal import kept_lines  # noqa: E402
+
+LD = Path(os.environ["LD"])
+ENGINE = asyncio.run(ask_what_it_has(LD))
+LATER_VERBS = "next page page-set"
+needs_next = pytest.mark.skipif(not ENGINE.has_next, reason="the engine has no 'next'")
+needs_pages = pytest.mark.skipif(not ENGINE.has_pages, reason="the engine has no forms (pages.json)")
+
+
+class Host:
+    """A host on a free port of this machine."""
+
+    def __init__(self, data, *more, engine=LD, library=None, **environment):
+        self.data, self.more, self.engine, self.library = data, more, engine, library
+        self.environment = os.environ | {"LD_REAL": str(LD)} | environment
+        with socket.socket() as one:
+            one.bind(("127.0.0.1", 0))
+            self.port = one.getsockname()[1]
+        self.url = f"http://127.0.0.1:{self.port}"
+
+    def launch(self, **streams):
+        words = ["--engine", self.engine, "--data", self.data, "--port", self.port, "--tick", 1, *self.more]
+        if self.library:
+            words += ["--library", self.library]
+        return subprocess.Popen(
+            [sys.executable, "-m", "ldhost", *map(str, words)], cwd=TOP, env=self.environment, **streams
+        )
+
+    def start(self):
+        self.process = self.launch(stderr=subprocess.DEVNULL)
+        for _ in range(400):
+            try:
+                httpx.get(self.url + "/sign-in")
+                break
+            except httpx.HTTPError:
+                time.sleep(0.05)
+        self.token = (self.data / "admin.token").read_text().strip()
+        return self
+
+    def stop(self, sign=signal.SIGTERM):
+        if self.process.poll() is None:
+            self.process.send_signal(sign)
+            self.process.wait(30)
+
+    def api(self, token=None):
+        return httpx.Client(
+            base_url=self.url + "/api/v1",
+            timeout=30,
+            headers={"authorization": f"Bearer {token or self.token}"},
+        )
+
+    def browser(self, token=None):
+        """A client with a session, as a browser has it."""
+        client = httpx.Client(base_url=self.url, follow_redirects=True, timeout=30)
+        client.post("/sign-in", data={"token": token or self.token})
+        client.word = re.search(r'name="word" value="(\w+)"', client.get("/").text).group(1)
+        return client
+
+    def give_token(self, person, rights=""):
+        page = self.browser()
+        answer = page.post("/admin/tokens", data={"word": page.word, "key": "k", "person": person, "rights": rights})
+        return re.search(r'class="token">([^<]+)', answer.text).group(1)
+
+    def publish(self, folder):
+        page = self.browser()
+        answer = page.post("/author/choose", data={"word": page.word, "folder": folder, "act": "publish"})
+        return re.search(r"published as <b>([^<]+)", answer.text).group(1)
+
+    def run_of(self, folder, name, *members):
+        """A started run of the course, with members `(person, role)`."""
+        api = self.api()
+        say(api, name, "create", self.publish(folder))
+        for person, role in members:
+            say(api, name, "enrol", person)
+            say(api, name, "assign", person, role)
+        say(api, name, "start")
+        return api
+
+    def kept(self):
+        """All lines of all journals."""
+        return [line for path in sorted(self.data.glob("shards/*/ld.journal")) for line in kept_lines(path)]
+
+    def verbs_kept(self):
+        return [json.loads(line)[1] for line in self.kept()]
+
+    def keepers(self):
+        """The numbers of the keepers' processes that this host started."""
+        return [number for number, parent, words in processes() if parent == self.process.pid and b"keep" in words]
+
+
+def processes():
+    """Number, parent and words of each process of this machine."""
+    for folder in Path("/proc").iterdir():
+        try:
+            words = (folder / "cmdline").read_bytes().split(b"\0")
+            parent = int((folder / "stat").read_text().rpartition(")")[2].split()[1])
+            yield int(folder.name), parent, words
+        except (OSError, ValueError, IndexError):
+            continue
+
+
+def say(api, run, verb, *words, key=None, status=200):
+    answer = api.post(
+        f"/runs/{run}/commands",
+        json={"verb": verb, "words": list(words)},
+        headers={"idempotency-key": key} if key else {},
+    )
+    assert answer.status_code == status, answer.text
+    return answer.json()
+
+
+@pytest.fixture(scope="session")
+def library(tmp_path_factory):
+    """The example courses of the repository, and those of these tests."""
+    folder = tmp_path_factory.mktemp("library")
+    for source in [*(TOP.parent / "examples").iterdir(), *(HERE / "courses").iterdir()]:
+        if (source / "unit.json").exists():
+            shutil.copytree(source, folder / source.name)
+    return folder
+
+
+@pytest.fixture
+def new_host(tmp_path, library):
+    """Makes hosts on one folder, and ends them all at the end of the test."""
+    hosts = []
+
+    def make(*more, **how):
+        hosts.append(Host(tmp_path / "data", *more, library=library, **how).start())
+        return hosts[-1]
+
+    yield make
+    for host in hosts:
+        host.stop()
+
+
+@pytest.fixture
+def host(new_host):
+    return new_host()
+
+
+@pytest.fixture
+def host_without(new_host):
+    """A host over the engine without the later verbs."""
+    return new_host(engine=HERE / "engines" / "without.py", WITHOUT=LATER_VERBS)
+
+
+@pytest.fixture
+def fractions(host):
+    """A started run `monday` of the course `fractions`, with two pupils and a teacher."""
+    host.run_of("fractions", "monday", ("ida", "pupil"), ("jon", "pupil"), ("ms-lee", "teacher"))
+    return host

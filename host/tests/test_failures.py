@@ -1,0 +1,102 @@
+"""Processes that end at any moment: nothing acknowledged is lost, and nothing is done twice."""
+
+import json
+import os
+import signal
+import threading
+import time
+
+import httpx
+import pytest
+from conftest import HERE, say
+
+CLIENTS, COMMANDS, KILLS, SECONDS = 3, 60, 12, 60
+
+
+class Clients:
+    """Clients that send commands with keys, each again until it is answered."""
+
+    def __init__(self, host):
+        self.host, self.done, self.ends = host, [], time.time() + SECONDS
+        self.threads = [threading.Thread(target=self.send, args=(number,)) for number in range(CLIENTS)]
+        for thread in self.threads:
+            thread.start()
+
+    def send(self, number):
+        for value in (f"{number}-{i}" for i in range(COMMANDS)):
+            while time.time() < self.ends and not self.sent(value):
+                pass
+
+    def sent(self, value):
+        body = {"verb": "set", "words": ["ida", "word", value]}
+        try:
+            answer = self.host.api().post("/runs/monday/commands", headers={"idempotency-key": value}, json=body)
+        except httpx.HTTPError:
+            time.sleep(0.05)
+            return False
+        assert answer.status_code in (200, 500, 503), answer.text
+        if answer.status_code == 200:
+            self.done.append(value)
+        return answer.status_code == 200
+
+    def are_busy(self):
+        return any(thread.is_alive() for thread in self.threads)
+
+    def wait(self):
+        for thread in self.threads:
+            thread.join(SECONDS)
+
+
+@pytest.mark.parametrize("whom", ["keeper", "host"])
+def test_killed_again_and_again(fractions, whom):
+    """While commands come, the keeper or the host is killed: each acknowledged command is in the journal, once."""
+    clients, kills = Clients(fractions), 0
+    while clients.are_busy() and kills < KILLS:
+        time.sleep(0.15)
+        if whom == "host":
+            fractions.stop(signal.SIGKILL)
+            fractions.start()
+        else:
+            for number in fractions.keepers():
+                os.kill(number, signal.SIGKILL)
+        kills += 1
+    clients.wait()
+    values = [json.loads(line)[5] for line in fractions.kept() if '"word"' in line]
+    assert kills >= 3 and len(clients.done) == CLIENTS * COMMANDS
+    assert sorted(values) == sorted(clients.done), "each acknowledged command once, and no other"
+    assert fractions.api().get("/runs/monday/persons/ida/properties/word").json() == {"value": values[-1]}
+
+
+@pytest.mark.parametrize("line", [1, 4, 6])
+@pytest.mark.parametrize("when", ["before", "after", "half", "memory"])
+@pytest.mark.parametrize("form", ["keep", "replay"])
+def test_engine_fails_at(new_host, tmp_path, form, when, line):
+    """An engine process ends at each place around a line: the client hears nothing of it, and the line is kept once. Where
+    the keeper has no memory, the client is told to send the line again."""
+    (tmp_path / "data").mkdir()
+    flag = tmp_path / "failed"
+    host = new_host(engine=HERE / "engines" / "dying.py", DIE=f"{form} 0 {when} {flag}")
+    unit = host.publish("first")
+    host.stop()
+    host = new_host(engine=HERE / "engines" / "dying.py", DIE=f"{form} {line} {when} {flag}")
+    flag.unlink(missing_ok=True)  # what was asked of the engine at the start does not count
+    api = host.api()
+
+    def do(verb, *words, key=None, status=200):
+        key = key or verb
+        answer = api.post("/runs/r/commands", json={"verb": verb, "words": words}, headers={"idempotency-key": key})
+        if (form, when) == ("keep", "memory") and answer.status_code == 503:
+            return say(api, "r", verb, *words, key=key, status=status)
+        assert answer.status_code == status, answer.text
+        return answer.json()
+
+    do("create", unit)
+    do("enrol", "ann")
+    do("assign", "ann", "learner")
+    do("start")
+    assert api.get("/runs/r/persons/ann/tree").json()["state"] == "open"
+    assert do("complete", "ann", "read")["reply"] == "ok complete turns=1 fired=2 rejected=0 sent=0"
+    do("complete", "ann", "read", key="again", status=409)
+    part = api.get("/runs/r/persons/ann/tree").json()["children"][0]["children"][0]["children"][0]
+    assert part["state"] == "done" and flag.exists()
+    assert host.verbs_kept() == ["create", "enrol", "assign", "start", "complete"]

@@ -1,0 +1,151 @@
+"""Makes the host wrong in one place at a time, in a copy; the tests that are named have to fail.
+
+    python3 tests/wrong_hosts.py [WORD]    with a word only the changes whose file or text has it
+"""
+
+import os
+import shutil
+import subprocess
+import sys
+import tempfile
+from pathlib import Path
+
+TOP = Path(__file__).parent.parent
+SECONDS = 120
+NOT_INSTALLED = shutil.ignore_patterns("__pycache__", "data", "docs", ".mypy_cache")
+
+# (file, text, what it becomes, the tests that see it)
+CHANGES = [
+    # The same command again is done again.
+    ("shard.py", "self.done[mark_of(line)] = ([verb, *words], reply)", "pass", "test_commands.py -k same_key"),
+    # A line that was kept before its keeper died is given once more.
+    (
+        "shard.py",
+        "if len(lines) == self.kept + 1 and lines[-1] == line:",
+        "if False:",
+        "test_failures.py -k keep-after-4",
+    ),
+    (
+        "shard.py",
+        "                    return None\n",
+        "                    continue\n",
+        "test_failures.py -k keep-after-4",
+    ),
+    # A new reader gets the line twice.
+    (
+        "shard.py",
+        "kept_lines(self.journal)[: self.kept]",
+        "kept_lines(self.journal)",
+        "test_failures.py -k replay-before-4",
+    ),
+    # A keeper without memory and a reader with the line go apart.
+    ("shard.py", "if kept and kept.head == NO_MEMORY:", "if False:", "test_failures.py -k keep-memory-4"),
+    # Replies are not compared.
+    ("shard.py", "if kept and shown.text != kept.text:", "if False:", "test_commands.py -k compared"),
+    # What a look settled is not kept.
+    ("shard.py", "if reply.ok and reply.work[0]:", "if False:", "test_commands.py -k share_values"),
+    # Time: an alarm rings at the present moment; a late one only after the command; a tick is kept always, or never comes.
+    (
+        "timing.py",
+        'shard.line(run.alarm, "tick", run.name)',
+        'shard.line(moment, "tick", run.name)',
+        "test_time.py -k alarm",
+    ),
+    (
+        "timing.py",
+        "        await self.due(shard, run, moment)\n",
+        "        pass\n",
+        "test_time.py -k before_the_command",
+    ),
+    (
+        "timing.py",
+        'shard.look_at("tick", run.name, moment=moment)',
+        'shard.put(shard.line(moment, "tick", run.name))',
+        "test_time.py -k ticks",
+    ),
+    ("timing.py", "if not (run.started and run.course.looks_at_time)", "if True", "test_time.py -k ticks"),
+    # Files and links.
+    ("files.py", "not target.is_relative_to(base) or ", "", "test_pages.py -k leads_out"),
+    ("files.py", " or str(target.relative_to(base)) in HIDDEN", "", "test_pages.py -k leads_out"),
+    (
+        "files.py",
+        "return href if scheme and scheme.group(0).lower() in SAFE_SCHEMES else None",
+        "return href",
+        "test_pages.py -k titles",
+    ),
+    ("uploads.py", 'part in ("", ".", "..") or ', "", "test_bounds.py -k stays"),
+    ("uploads.py", "                if left < 0:", "                if False:", "test_bounds.py -k bounded"),
+    # Pages.
+    ("web/site.py", "autoescape=True", "autoescape=False", "test_pages.py -k titles"),
+    ("web/site.py", "if not isinstance(word, str) or not", "if False and not", "test_pages.py -k another_site"),
+    ("web/courses.py", "            answer.headers.update(SANDBOX)\n", "            pass\n", "test_pages.py -k titles"),
+    (
+        "web/previews.py",
+        "preview is None or preview.author != who.person",
+        "preview is None",
+        "test_pages.py -k preview_through",
+    ),
+    ("web/shell.py", "        if self.left < 0:", "        if False:", "test_bounds.py -k requests"),
+    # Signing in.
+    ("launches.py", 'if not access.take("state " + state):', "if False:", "test_lti.py -k once"),
+    (
+        "launches.py",
+        'if not access.take("nonce " + platform.client + " " + str(claims["nonce"])):',
+        "if False:",
+        "test_lti.py -k denied",
+    ),
+    ("launches.py", '"exp": None, ', "", "test_lti.py -k denied"),
+    ("web/lti.py", "if request.cookies.get(STATE) != state:", "if False:", "test_lti.py -k browser"),
+    (
+        "web/lti.py",
+        "if found is None or name not in platform.runs:",
+        "if found is None:",
+        "test_lti.py -k another_platform",
+    ),
+    (
+        "web/sign_in.py",
+        "            site.attempts.failed(address)\n",
+        "            pass\n",
+        "test_bounds.py -k sign_in",
+    ),
+    ("rights.py", '"set": {ADMINISTRATOR}', '"set": {ADMINISTRATOR, MEMBER}', "test_pages.py -k other_fields"),
+]
+
+
+def main(words):
+    lost = 0
+    for file, text, other, tests in CHANGES:
+        if any(word not in file + text for word in words):
+            continue
+        is_seen = sees(file, text, other, tests)
+        lost += not is_seen
+        print("seen " if is_seen else "NOT SEEN ", f"{file}: {text.strip()} -> {other.strip()}", flush=True)
+    return 1 if lost else 0
+
+
+def sees(file, text, other, tests):
+    """Whether the tests fail over the changed host. A test that is left out sees nothing, so it does not count as failed."""
+    with tempfile.TemporaryDirectory() as folder:
+        copy = Path(folder) / "host"
+        shutil.copytree(TOP, copy, ignore=NOT_INSTALLED)
+        (Path(folder) / "examples").symlink_to(TOP.parent / "examples")
+        path = copy / "ldhost" / file
+        old = path.read_text()
+        assert old.count(text) == 1, (file, text)
+        path.write_text(old.replace(text, other))
+        first, *more = tests.split(" ")
+        done = subprocess.run(
+            [sys.executable, "-m", "pytest", "-q", "-x", f"tests/{first}", *more],
+            cwd=copy,
+            env=os.environ | {"PYTHONDONTWRITEBYTECODE": "1"},
+            stdout=subprocess.PIPE,
+            timeout=SECONDS,
+        )
+    if done.returncode == 0 and b" passed" not in done.stdout:
+        print("left out, since the engine lacks what it is about:", end=" ")
+        return True
+    return done.returncode == 1
+
+
+if __name__ == "__main__":
+    sys.exit(main(sys.argv[1:]))
