@@ -4,6 +4,8 @@ import json
 from pathlib import Path
 from typing import Any, Iterator
 
+from . import moments
+
 DOCUMENTS = ["roles.json", "properties.json", "environments.json", "activities.json", "unit.json", "conditions.json"]
 PAGES = "pages.json"
 FORMAT = 1
@@ -41,8 +43,13 @@ class Course:
         return "user-choice" in self.activities[activity].get("complete", {})
 
     def limit(self, activity: str) -> str | None:
+        """How long the activity lasts from when a person opens it, where it has a time limit."""
         limit: str | None = self.activities[activity].get("complete", {}).get("time-limit")
         return limit
+
+    def end(self, activity: str, opened: str) -> str:
+        """When an activity with a time limit ends that was opened then."""
+        return moments.after(opened, moments.seconds_of(self.limit(activity) or ""))
 
     def field(self, name: str) -> Thing:
         """The form's field for a property: title, type and bounds."""

@@ -57,6 +57,8 @@ async def ask_what_it_has(program: Path) -> Engine:
             raise Unfit(f"the engine ended with status {status} when it was tried")
         lines = "".join(json.dumps([MOMENT, *words]) + "\n" for words in SETTING_UP + LATER_VERBS)
         status, out = await answer(program, "replay", [folder], lines)
+    if status != 0:
+        raise Unfit(f"the engine ended with status {status} when it was tried")
     replies = out.split("\n")[len(SETTING_UP) :]
     return Engine(program, replies[0] != BAD_LINE, replies[1] != BAD_LINE)
 

@@ -50,9 +50,9 @@ class Host:
 
     def start(self):
         self.process = self.launch(stderr=subprocess.DEVNULL)
-        for _ in range(400):
+        while self.process.poll() is None:
             try:
-                httpx.get(self.url + "/sign-in")
+                httpx.get(self.url + "/sign-in", timeout=30)
                 break
             except httpx.HTTPError:
                 time.sleep(0.05)

@@ -73,14 +73,9 @@ def test_killed_again_and_again(fractions, whom):
 def test_engine_fails_at(new_host, tmp_path, form, when, line):
     """An engine process ends at each place around a line: the client hears nothing of it, and the line is kept once. Where
     the keeper has no memory, the client is told to send the line again."""
-    (tmp_path / "data").mkdir()
-    flag = tmp_path / "failed"
-    host = new_host(engine=HERE / "engines" / "dying.py", DIE=f"{form} 0 {when} {flag}")
-    unit = host.publish("first")
-    host.stop()
-    host = new_host(engine=HERE / "engines" / "dying.py", DIE=f"{form} {line} {when} {flag}")
-    flag.unlink(missing_ok=True)  # what was asked of the engine at the start does not count
-    api = host.api()
+    host = new_host(engine=HERE / "engines" / "dying.py", DIE=f"{form} {line} {when} {tmp_path}")
+    api, unit = host.api(), host.publish("first")
+    (tmp_path / "armed").touch()
 
     def do(verb, *words, key=None, status=200):
         key = key or verb
@@ -98,5 +93,5 @@ def test_engine_fails_at(new_host, tmp_path, form, when, line):
     assert do("complete", "ann", "read")["reply"] == "ok complete turns=1 fired=2 rejected=0 sent=0"
     do("complete", "ann", "read", key="again", status=409)
     part = api.get("/runs/r/persons/ann/tree").json()["children"][0]["children"][0]["children"][0]
-    assert part["state"] == "done" and flag.exists()
+    assert part["state"] == "done" and (tmp_path / "failed").exists()
     assert host.verbs_kept() == ["create", "enrol", "assign", "start", "complete"]

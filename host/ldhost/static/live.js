@@ -1,5 +1,12 @@
 // Keeps a course page as it is now: the server tells a version, and the page is fetched where it differs.
 "use strict";
+
+// Moments as they are where the reader is.
+const localise = () => {
+  for (const e of document.querySelectorAll("time[datetime]")) e.textContent = new Date(e.dateTime).toLocaleString(document.documentElement.lang);
+};
+localise();
+
 const live = document.querySelector("#live[data-events]");
 if (live) {
   const news = document.querySelector("#news");
@@ -15,6 +22,7 @@ if (live) {
     const at = document.activeElement, before = states();
     const range = at && "selectionStart" in at ? [at.selectionStart, at.selectionEnd] : null;
     live.innerHTML = text;
+    localise();
     for (const f of fields()) if (begun.has(f.id)) f.value = begun.get(f.id);
     const again = at && at.id && document.getElementById(at.id);
     if (again && again !== at) {

@@ -7,6 +7,7 @@ from fastapi import FastAPI, HTTPException, Request
 from fastapi.exception_handlers import http_exception_handler
 from fastapi.responses import Response
 from fastapi.staticfiles import StaticFiles
+from starlette.exceptions import HTTPException as AnyHTTPException
 
 from ..access import Access
 from ..house import House
@@ -41,8 +42,8 @@ def make_app(
         await site.previews.end_all()
         await house.close()
 
-    @app.exception_handler(HTTPException)
-    async def refused(request: Request, error: HTTPException) -> Response:
+    @app.exception_handler(AnyHTTPException)
+    async def refused(request: Request, error: AnyHTTPException) -> Response:
         return await in_words(site, request, error)
 
     @app.exception_handler(Closed)
@@ -57,7 +58,7 @@ def make_app(
     return Shell(app, is_secure, sorted(origins))
 
 
-async def in_words(site: Site, request: Request, error: HTTPException) -> Response:
+async def in_words(site: Site, request: Request, error: AnyHTTPException) -> Response:
     """A page for a person, and JSON for a program."""
     is_page = not request.url.path.startswith("/api/") and error.status_code != 303
     if not is_page:

@@ -10,7 +10,7 @@ from fastapi import Depends, HTTPException, Request
 from fastapi.responses import HTMLResponse, RedirectResponse, Response
 from starlette.datastructures import FormData
 
-from .. import rights
+from .. import moments, rights
 from ..access import Access, Who, digest, form_word
 from ..attempts import Attempts
 from ..house import House
@@ -43,6 +43,7 @@ class Site:
             trim_blocks=True,
             lstrip_blocks=True,
         )
+        self.templates.filters["moment"] = moments.in_words
 
     # -- who asks
 

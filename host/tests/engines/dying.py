@@ -1,7 +1,8 @@
 #!/usr/bin/python3
-"""An engine that fails once. DIE is `FORM LINE WHEN FLAG`: at that line of that form it ends `before` the engine gets the
+"""An engine that fails once. DIE is `FORM LINE WHEN FOLDER`: at that line of that form it ends `before` the engine gets the
 line, `after` the engine answered (nothing of the block is written) or when `half` of the block is written; or it says
-that it has no `memory`, and goes on. The flag is a file that tells that it has failed. A line `[]` counts as none."""
+that it has no `memory`, and goes on. It does so once a file `armed` is in the folder, and then writes a file `failed`
+there. A line `[]` counts as none."""
 
 import os
 import subprocess
@@ -9,8 +10,9 @@ import sys
 import time
 
 REAL = os.environ["LD_REAL"]
-FORM, LINE, WHEN, FLAG = os.environ["DIE"].split(" ")
-if sys.argv[1] != FORM or os.path.exists(FLAG):
+FORM, LINE, WHEN, FOLDER = os.environ["DIE"].split(" ")
+ARMED, FAILED = f"{FOLDER}/armed", f"{FOLDER}/failed"
+if sys.argv[1] != FORM or os.path.exists(FAILED) or not os.path.exists(ARMED):
     os.execv(REAL, [REAL, *sys.argv[1:]])
 
 
@@ -36,10 +38,10 @@ def main():
     number = 0
     for line in iter(sys.stdin.buffer.readline, b""):
         number += line != b"[]\n"
-        if number != int(LINE) or line == b"[]\n" or os.path.exists(FLAG):
+        if number != int(LINE) or line == b"[]\n" or os.path.exists(FAILED):
             say(ask(engine, line))
             continue
-        open(FLAG, "w").close()
+        open(FAILED, "w").close()
         if WHEN == "memory":
             say(b"no 99 no-memory\n")
             continue
