@@ -2,6 +2,7 @@
 
 import io
 import re
+import shutil
 import zipfile
 from pathlib import Path
 
@@ -10,7 +11,6 @@ from .course import DOCUMENTS
 MOST_BYTES, MOST_FILES = 64 << 20, 2000
 ENTRY = b"PK\x01\x02"
 LINK = 0xA
-PIECE = 1 << 16
 BAD_NAME = re.compile(r"[\\:\x00-\x1f]")
 
 
@@ -19,20 +19,16 @@ class Refused(Exception):
 
 
 def unpack(raw: bytes, target: Path) -> None:
-    """Writes the archive's files below the folder. One folder around all of them is left out."""
+    """Writes the archive's files below the folder. One folder around all of them is left out. No file becomes longer than
+    its entry says."""
     entries, archive = entries_of(raw)
     tops = {entry.filename.split("/")[0] for entry in entries}
     outer = 1 if len(tops) == 1 and not tops & set(DOCUMENTS) else 0
-    left = MOST_BYTES
     for entry in entries:
         path = target.joinpath(*parts_of(entry)[outer:])
         path.parent.mkdir(parents=True, exist_ok=True)
         with archive.open(entry) as source, open(path, "wb") as out:
-            while piece := source.read(PIECE):
-                left -= len(piece)
-                if left < 0:
-                    raise Refused("the archive holds too much")
-                out.write(piece)
+            shutil.copyfileobj(source, out)
 
 
 def entries_of(raw: bytes) -> tuple[list[zipfile.ZipInfo], zipfile.ZipFile]:

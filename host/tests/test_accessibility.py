@@ -117,7 +117,7 @@ def test_the_checklist_sees(people):
     """The checklist finds what is wrong on a page that is wrong."""
     boss = people[1]
     boss.b.get(
-        "data:text/html,<!doctype html><h3>x</h3><input><button></button><p style='color:%23999'>grey</p><div style='width:3000px'>"
+        "data:text/html,<!doctype html><h3>x</h3><input><button></button><p style='color:%23999'>grey</p><div style='width:3000px'>x</div>"
     )
     found = " ".join(wrong(boss))
     for text in (
