@@ -24,7 +24,7 @@ class Course:
         self.title: str = unit.get("title") or self.id
         self.level: str = unit["level"]
         self.format: int = unit["format"]
-        self.objectives: list[Thing] = unit.get("learning-objectives", [])
+        self.unit = unit
         self.activities = by_name(docs["activities.json"].get("activities", []))
         self.properties = by_name(docs["properties.json"].get("properties", []))
         self.pages = by_name(read(folder / PAGES).get("pages", []) if with_pages else [])

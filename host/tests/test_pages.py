@@ -66,7 +66,9 @@ def test_titles_links_and_files(host):
     text = page.get("/runs/g").text
     assert "&lt;b&gt;Essay&lt;/b&gt; &amp; more" in text and "<b>Essay</b>" not in text
     assert "javascript:" not in text and 'href="/files/g/task.html#part"' in text
-    assert "access.db" not in text
+    assert "access.db" not in text and text.count("(no file)") == 2
+    assert "Aims" in text and "What you need before" in text and 'href="https://school.example/reading"' in text
+    assert "Feedback:</small>" in text and "Well done" in text and "Essays" in text
     assert page.get("/files/g/task.html").headers["content-security-policy"].startswith("sandbox")
     tutor = host.browser(host.give_token("tom")).get("/runs/g").text
     assert "&lt;i&gt;handed in&lt;/i&gt;" in tutor

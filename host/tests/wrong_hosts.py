@@ -83,7 +83,7 @@ CHANGES = [
     # Pages.
     ("web/site.py", "autoescape=True", "autoescape=False", "test_pages.py -k titles"),
     ("web/site.py", "if not isinstance(word, str) or not", "if False and not", "test_pages.py -k another_site"),
-    ("web/courses.py", "            answer.headers.update(SANDBOX)\n", "            pass\n", "test_pages.py -k titles"),
+    ("web/courses.py", "        answer.headers.update(SANDBOX)\n", "        pass\n", "test_pages.py -k titles"),
     (
         "web/previews.py",
         "preview is None or preview.author != who.person",

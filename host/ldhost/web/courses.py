@@ -60,18 +60,22 @@ def routes(site: Site) -> APIRouter:
 
     @router.get("/files/{name}/{path:path}")
     async def course_file(name: str, path: str, who: Who = Depends(site.signed_in)) -> Response:
-        """A file of the course gets an origin of its own, so that no script of an author acts as the reader. Browsers
-        do not show PDF there; it can't act, and so it is sent as it is."""
         _, run = site.find_for(who, name, "files of the course")
-        target = file_of(run.course.folder, path)
-        if target is None:
-            raise HTTPException(404, "The course has no such file.")
-        answer = FileResponse(target)
-        if answer.media_type not in PASSIVE:
-            answer.headers.update(SANDBOX)
-        return answer
+        return sent(run, path)
 
     return router
+
+
+def sent(run: Run, path: str) -> Response:
+    """A file of the course. It gets an origin of its own, so that no script of an author acts as the reader. Browsers do
+    not show PDF in such an origin; it has no script that acts, and is sent as it is."""
+    target = file_of(run.course.folder, path)
+    if target is None:
+        raise HTTPException(404, "The course has no such file.")
+    answer = FileResponse(target)
+    if answer.media_type not in PASSIVE:
+        answer.headers.update(SANDBOX)
+    return answer
 
 
 def acting(run: Run) -> dict[str, Any]:

@@ -1,14 +1,13 @@
 """Previews: an author presses the buttons of all persons, and moves the time."""
 
 from fastapi import APIRouter, Depends, HTTPException
-from fastapi.responses import FileResponse, Response
+from fastapi.responses import Response
 from starlette.datastructures import FormData
 
 from ..access import Who
-from ..files import file_of
 from ..preview import Preview
 from ..view import view_of
-from .courses import SANDBOX, commands_of
+from .courses import commands_of, sent
 from .said import said
 from .site import Site, text_of
 
@@ -91,9 +90,6 @@ def routes(site: Site) -> APIRouter:
 
     @router.get("/preview/{name}/files/{path:path}")
     async def course_file(name: str, path: str, who: Who = previewer) -> Response:
-        target = file_of(find(who, name).run.course.folder, path)
-        if target is None:
-            raise HTTPException(404, "The course has no such file.")
-        return FileResponse(target, headers=SANDBOX)
+        return sent(find(who, name).run, path)
 
     return router
