@@ -19,7 +19,7 @@ from .engine import UNIT_REFUSED, Engine, Unfit, answer
 from .faults import Fault, explain
 from .replies import BAD_LINE, Reply
 from .run import Run
-from .shard import Closed, Shard, write_whole
+from .shard import Shard, write_whole
 from .timing import timing_of
 from .uploads import Refused
 
@@ -70,8 +70,8 @@ class House:
             for shard in list(self.shards.values()):
                 try:
                     await shard.pass_time()
-                except Closed as closed:
-                    log.error("shard %s is closed: %s", shard.folder.name, closed)
+                except Exception as error:  # one run that fails does not stop the time of the others
+                    log.error("shard %s: %s: %s", shard.folder.name, type(error).__name__, error)
             await asyncio.sleep(TURN)
 
     # -- who waits for news of a run

@@ -2,6 +2,7 @@
 
 import asyncio
 import json
+import re
 from typing import Any
 
 from jwcrypto import jws, jwt
@@ -11,8 +12,9 @@ from .platforms import Platform, find
 from .run import Run
 
 CLAIM = "https://purl.imsglobal.org/spec/lti/claim/"
-INSTRUCTORS = ("membership#Instructor", "membership#TeachingAssistant", "membership#ContentDeveloper")
-LATEST_SECONDS = 600
+INSTRUCTOR = re.compile(
+    r"(http://purl\.imsglobal\.org/vocab/lis/v2/membership#)?Instructor|.*/membership/Instructor#.*"
+)
 
 
 async def trusted(access: Access, platforms: list[Platform], token: str, state: str) -> tuple[Platform, dict[str, Any]]:
@@ -89,6 +91,6 @@ def person_of(claims: dict[str, Any]) -> str:
 def role_for(claims: dict[str, Any], run: Run) -> str | None:
     """The first role of the course that suits the person: of staff for an instructor, else of learners."""
     named = claims.get(CLAIM + "roles")
-    is_staff = any(str(one).endswith(INSTRUCTORS) for one in (named if isinstance(named, list) else []))
+    is_staff = any(INSTRUCTOR.fullmatch(str(one)) for one in (named if isinstance(named, list) else []))
     kind = "staff" if is_staff else "learner"
     return next((name for name, role in run.course.roles.items() if role["kind"] == kind), None)

@@ -178,21 +178,25 @@ class Shard:
         raise Closed("the keeper ends again and again")
 
     async def ask_reader(self, line: str) -> Reply:
+        """The reader's reply. A reader that ended, or that has no memory, is replaced by a new one."""
         for _ in range(TRIES):
             try:
                 assert self.reader
                 reply = await self.reader.ask(line)
                 if reply.head != NO_MEMORY:
                     return reply
-                await self.renew_reader()
             except Gone:
-                await self.renew_reader()
+                pass
+            await self.renew_reader()
         raise Closed("the reader ends again and again")
 
     async def renew_reader(self) -> None:
         if self.reader:
             await self.reader.stop()
-        await self.start_reader(kept_lines(self.journal)[: self.kept])
+        try:
+            await self.start_reader(kept_lines(self.journal)[: self.kept])
+        except (Gone, OSError) as error:
+            raise Closed(f"no new reader: {error}") from None
 
     # -- lines: the lock is held
 

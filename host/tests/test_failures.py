@@ -2,6 +2,7 @@
 
 import json
 import os
+import random
 import signal
 import threading
 import time
@@ -50,9 +51,11 @@ class Clients:
 @pytest.mark.parametrize("whom", ["keeper", "host"])
 def test_killed_again_and_again(fractions, whom):
     """While commands come, the keeper or the host is killed: each acknowledged command is in the journal, once."""
-    clients, kills = Clients(fractions), 0
+    seed = random.randrange(1 << 32)
+    print("seed", seed)
+    moments, clients, kills = random.Random(seed), Clients(fractions), 0
     while clients.are_busy() and kills < KILLS:
-        time.sleep(0.15)
+        time.sleep(moments.uniform(0.05, 0.3))
         if whom == "host":
             fractions.stop(signal.SIGKILL)
             fractions.start()

@@ -15,7 +15,8 @@ from ldhost.launches import CLAIM
 from ldhost.platforms import Platform
 
 ISSUER, CLIENT = "https://lms.example", "tool-1"
-TEACHER = "http://purl.imsglobal.org/vocab/lis/v2/membership#Instructor"
+ROLES = "http://purl.imsglobal.org/vocab/lis/v2/"
+TEACHER = ROLES + "membership#Instructor"
 
 
 class Keys:
@@ -110,9 +111,16 @@ def test_launch(tool, keys):
     persons = tool.api().get("/runs/monday").json()["persons"]
     assert list(persons.values()) == [["teacher"]] and list(persons)[0].startswith("lti-")
     assert launch(tool, key).status_code == 303 and len(tool.api().get("/runs/monday").json()["persons"]) == 1
-    learner = {CLAIM + "roles": ["http://purl.imsglobal.org/vocab/lis/v2/membership#Learner"], "sub": "8"}
-    assert launch(tool, key, **learner).status_code == 303
-    assert list(tool.api().get("/runs/monday").json()["persons"].values()) == [["teacher"], ["pupil"]]
+    for number, (roles, role) in enumerate(
+        [
+            ([ROLES + "membership#Learner"], "pupil"),
+            ([ROLES + "institution/person#Instructor", ROLES + "membership#Learner"], "pupil"),
+            ([ROLES + "membership/Instructor#TeachingAssistant"], "teacher"),
+            ([], "pupil"),
+        ]
+    ):
+        assert launch(tool, key, **{CLAIM + "roles": roles, "sub": f"s{number}"}).status_code == 303
+        assert list(tool.api().get("/runs/monday").json()["persons"].values())[-1] == [role]
     assert keys.asked == 1, "the keys are kept for a while"
 
 

@@ -8,10 +8,12 @@ import shutil
 import subprocess
 import sys
 import tempfile
+from concurrent.futures import ThreadPoolExecutor
 from pathlib import Path
 
 TOP = Path(__file__).parent.parent
-SECONDS = 120
+SECONDS, AT_A_TIME = 120, 2
+SEEN, NOT_SEEN, LEFT_OUT = "seen", "NOT SEEN", "left out"
 NOT_INSTALLED = shutil.ignore_patterns("__pycache__", "data", "docs", ".mypy_cache")
 
 # (file, text, what it becomes, the tests that see it)
@@ -118,18 +120,19 @@ CHANGES = [
 
 
 def main(words):
-    lost = 0
-    for file, text, other, tests in CHANGES:
-        if any(word not in file + text for word in words):
-            continue
-        is_seen = sees(file, text, other, tests)
-        lost += not is_seen
-        print("seen " if is_seen else "NOT SEEN ", f"{file}: {text.strip()} -> {other.strip()}", flush=True)
-    return 1 if lost else 0
+    chosen = [change for change in CHANGES if all(word in change[0] + change[1] for word in words)]
+    found = []
+    with ThreadPoolExecutor(AT_A_TIME) as pool:
+        for change, verdict in zip(chosen, pool.map(verdict_of, chosen)):
+            file, text, other, _ = change
+            print(f"{verdict}  {file}: {text.strip()} -> {other.strip()}", flush=True)
+            found.append(verdict)
+    return 1 if NOT_SEEN in found else 0
 
 
-def sees(file, text, other, tests):
-    """Whether the tests fail over the changed host. A test that is left out sees nothing, so it does not count as failed."""
+def verdict_of(change):
+    """Whether the tests fail over the changed host. Tests that are left out, since the engine lacks something, see nothing."""
+    file, text, other, tests = change
     with tempfile.TemporaryDirectory() as folder:
         copy = Path(folder) / "host"
         shutil.copytree(TOP, copy, ignore=NOT_INSTALLED)
@@ -146,10 +149,9 @@ def sees(file, text, other, tests):
             stdout=subprocess.PIPE,
             timeout=SECONDS,
         )
-    if done.returncode == 0 and b" passed" not in done.stdout:
-        print("left out, since the engine lacks what it is about:", end=" ")
-        return True
-    return done.returncode == 1
+    if done.returncode == 1:
+        return SEEN
+    return NOT_SEEN if b" passed" in done.stdout else LEFT_OUT
 
 
 if __name__ == "__main__":

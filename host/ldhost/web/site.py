@@ -145,9 +145,8 @@ class Site:
 
     def set_cookie(self, answer: Response, name: str, value: str) -> None:
         """A platform shows launches in a frame, for which a cookie has to be `none`; that needs HTTPS."""
-        answer.set_cookie(
-            name, value, httponly=True, secure=self.is_secure, samesite="none" if self.is_secure else "lax"
-        )
+        is_framed = self.is_secure and bool(self.platforms)
+        answer.set_cookie(name, value, httponly=True, secure=self.is_secure, samesite="none" if is_framed else "lax")
 
 
 def text_of(form: FormData, name: str) -> str:
