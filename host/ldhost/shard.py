@@ -159,6 +159,7 @@ class Shard:
                     then(line, reply)
         finally:
             feeding.cancel()
+            await asyncio.gather(feeding, return_exceptions=True)
 
     async def ask_keeper(self, line: str) -> Reply | None:
         """The keeper's reply. None where the line is kept, but its reply was lost when the keeper ended."""

@@ -34,7 +34,7 @@ class Person:
         self.b.get(self.host.url + path)
         return self
 
-    def see(self, css, text="", seconds=10):
+    def see(self, css, text="", seconds=60):
         """Waits until some such element shows the text; the page is not loaded again for it."""
 
         def shows(b):

@@ -11,7 +11,7 @@ import httpx
 import pytest
 from conftest import HERE, say
 
-CLIENTS, COMMANDS, KILLS, SECONDS = 3, 60, 12, 60
+CLIENTS, COMMANDS, KILLS, SECONDS = 3, 60, 12, 180
 
 
 class Clients:

@@ -12,7 +12,7 @@ from concurrent.futures import ThreadPoolExecutor
 from pathlib import Path
 
 TOP = Path(__file__).parent.parent
-SECONDS, AT_A_TIME = 120, 2
+SECONDS, AT_A_TIME = 600, 2
 SEEN, NOT_SEEN, LEFT_OUT = "seen", "NOT SEEN", "left out"
 NOT_INSTALLED = shutil.ignore_patterns("__pycache__", "data", "docs", ".mypy_cache")
 
