@@ -1,3 +1,4 @@
+# shellcheck shell=bash disable=SC2034
 # What host/start and host/test share. It is read by them, and does nothing alone.
 top=$(cd "$(dirname "${BASH_SOURCE[0]}")/.." && pwd) || exit 1
 python=/usr/bin/python3

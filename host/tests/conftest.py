@@ -29,6 +29,11 @@ needs_next = pytest.mark.skipif(not ENGINE.has_next, reason="the engine has no '
 needs_pages = pytest.mark.skipif(not ENGINE.has_pages, reason="the engine has no forms (pages.json)")
 
 
+def client(**how):
+    """A client that waits long, since the machine may be busy with proofs."""
+    return httpx.Client(timeout=120, **how)
+
+
 class Host:
     """A host on a free port of this machine."""
 
@@ -52,7 +57,7 @@ class Host:
         self.process = self.launch(stderr=subprocess.DEVNULL)
         while self.process.poll() is None:
             try:
-                httpx.get(self.url + "/sign-in", timeout=30)
+                client().get(self.url + "/sign-in")
                 break
             except httpx.HTTPError:
                 time.sleep(0.05)
@@ -65,18 +70,14 @@ class Host:
             self.process.wait(30)
 
     def api(self, token=None):
-        return httpx.Client(
-            base_url=self.url + "/api/v1",
-            timeout=30,
-            headers={"authorization": f"Bearer {token or self.token}"},
-        )
+        return client(base_url=self.url + "/api/v1", headers={"authorization": f"Bearer {token or self.token}"})
 
     def browser(self, token=None):
         """A client with a session, as a browser has it."""
-        client = httpx.Client(base_url=self.url, follow_redirects=True, timeout=30)
-        client.post("/sign-in", data={"token": token or self.token})
-        client.word = re.search(r'name="word" value="(\w+)"', client.get("/").text).group(1)
-        return client
+        browser = client(base_url=self.url, follow_redirects=True)
+        browser.post("/sign-in", data={"token": token or self.token})
+        browser.word = re.search(r'name="word" value="(\w+)"', browser.get("/").text).group(1)
+        return browser
 
     def give_token(self, person, rights=""):
         page = self.browser()

@@ -5,8 +5,7 @@ import subprocess
 import sys
 import zipfile
 
-import httpx
-from conftest import HERE, TOP
+from conftest import HERE, TOP, client
 
 from ldhost.attempts import Attempts
 
@@ -80,9 +79,9 @@ def test_requests_are_bounded(host):
 
 
 def test_tries_to_sign_in_are_bounded(host):
-    codes = [httpx.post(host.url + "/sign-in", data={"token": "x"}).status_code for _ in range(MOST_TRIES + 1)]
+    codes = [client().post(host.url + "/sign-in", data={"token": "x"}).status_code for _ in range(MOST_TRIES + 1)]
     assert codes == [403] * MOST_TRIES + [429]
-    answer = httpx.post(host.url + "/sign-in", data={"token": host.token})
+    answer = client().post(host.url + "/sign-in", data={"token": host.token})
     assert answer.status_code == 429 and int(answer.headers["retry-after"]) > 200
     assert host.api("nonsense").get("/runs").status_code == 429
     assert host.api().get("/runs").status_code == 200, "a good token of a platform is not held up"

@@ -8,7 +8,7 @@ from http.server import BaseHTTPRequestHandler, HTTPServer
 
 import httpx
 import pytest
-from conftest import say
+from conftest import client, say
 from jwcrypto import jwk, jwt
 
 from ldhost.launches import CLAIM
@@ -73,9 +73,9 @@ def tool(new_host, tmp_path, keys):
     return host
 
 
-def body_of(host, client, key, **change):
+def body_of(host, browser, key, **change):
     """What the platform lets the browser send."""
-    asked = client.get(
+    asked = browser.get(
         host.url + "/lti/login",
         params={"iss": ISSUER, "client_id": CLIENT, "login_hint": "7", "lti_message_hint": "m"},
     )
@@ -85,7 +85,7 @@ def body_of(host, client, key, **change):
         "iss": ISSUER,
         "aud": CLIENT,
         "sub": "7",
-        "exp": int(time.time()) + 60,
+        "exp": int(time.time()) + 600,
         "iat": int(time.time()),
         "nonce": back["nonce"],
         CLAIM + "version": "1.3.0",
@@ -100,8 +100,8 @@ def body_of(host, client, key, **change):
 
 
 def launch(host, key, **change):
-    client = httpx.Client()
-    return client.post(host.url + "/lti/launch", data=body_of(host, client, key, **change))
+    browser = client()
+    return browser.post(host.url + "/lti/launch", data=body_of(host, browser, key, **change))
 
 
 def test_launch(tool, keys):
@@ -149,39 +149,39 @@ def test_a_run_of_another_platform(tool, keys):
 
 def test_forged_tokens(tool, keys):
     assert launch(tool, Keys.make("first")).status_code == 403, "another key of the same name"
-    client = httpx.Client()
-    body = body_of(tool, client, keys.keys[0])
+    browser = client()
+    body = body_of(tool, browser, keys.keys[0])
     head, payload, signature = body["id_token"].split(".")
     none = base64.urlsafe_b64encode(b'{"alg":"none","kid":"first"}').rstrip(b"=").decode()
     for token in (f"{none}.{payload}.", f"{none}.{payload}.{signature}", "x", "", f"{head}.{payload}."):
-        body = body_of(tool, client, keys.keys[0]) | {"id_token": token}
-        assert client.post(tool.url + "/lti/launch", data=body).status_code in (403, 422), token
+        body = body_of(tool, browser, keys.keys[0]) | {"id_token": token}
+        assert browser.post(tool.url + "/lti/launch", data=body).status_code in (403, 422), token
     secret = jwk.JWK(
         kty="oct", k=base64.urlsafe_b64encode(keys.keys[0].export_to_pem()).rstrip(b"=").decode(), kid="first"
     )
-    body = body_of(tool, client, keys.keys[0])
+    body = body_of(tool, browser, keys.keys[0])
     forged = jwt.JWT(
         header={"alg": "HS256", "kid": "first"}, claims=json.loads(base64.urlsafe_b64decode(payload + "==="))
     )
     forged.make_signed_token(secret)
-    assert client.post(tool.url + "/lti/launch", data=body | {"id_token": forged.serialize()}).status_code == 403
+    assert browser.post(tool.url + "/lti/launch", data=body | {"id_token": forged.serialize()}).status_code == 403
 
 
 def test_each_launch_once_and_in_its_browser(tool, keys):
-    key, client = keys.keys[0], httpx.Client()
-    body = body_of(tool, client, key)
-    assert client.post(tool.url + "/lti/launch", data=body).status_code == 303
-    assert client.post(tool.url + "/lti/launch", data=body).status_code == 403, "once only"
-    other = body_of(tool, httpx.Client(), key)
-    assert httpx.post(tool.url + "/lti/launch", data=other).status_code == 403, "another browser"
-    mine = httpx.Client(cookies={"ldhost-state": "mine"})
-    body = body_of(tool, httpx.Client(), key) | {"state": "mine"}
+    key, browser = keys.keys[0], client()
+    body = body_of(tool, browser, key)
+    assert browser.post(tool.url + "/lti/launch", data=body).status_code == 303
+    assert browser.post(tool.url + "/lti/launch", data=body).status_code == 403, "once only"
+    other = body_of(tool, client(), key)
+    assert client().post(tool.url + "/lti/launch", data=other).status_code == 403, "another browser"
+    mine = client(cookies={"ldhost-state": "mine"})
+    body = body_of(tool, client(), key) | {"state": "mine"}
     assert mine.post(tool.url + "/lti/launch", data=body).status_code == 403, "a state of one's own"
 
 
 def test_unknown_platforms(tool):
     for asked in ({"iss": "https://other.example"}, {"iss": ISSUER}, {"iss": ISSUER, "client_id": "x"}, {}):
-        assert httpx.get(tool.url + "/lti/login", params=asked).status_code == 403
+        assert client().get(tool.url + "/lti/login", params=asked).status_code == 403
 
 
 def test_keys_change():

@@ -1,14 +1,13 @@
 """The description of the interface for programs."""
 
-import httpx
-from conftest import ENGINE
+from conftest import ENGINE, client
 
 from ldhost.web.interface import COMMANDS
 
 
 def test_openapi(host):
     """Each path of the interface is described, with its token and its refusals; pages are not."""
-    said = httpx.get(host.url + "/openapi.json").json()
+    said = client().get(host.url + "/openapi.json").json()
     paths = {
         "/api/v1/units",
         "/api/v1/units/{unit}/globals",

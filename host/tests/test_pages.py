@@ -4,7 +4,7 @@ import html
 import re
 
 import httpx
-from conftest import needs_pages, say
+from conftest import client, needs_pages, say
 
 FORM = {"key": "1", "verb": "complete", "activity": "lesson"}
 
@@ -21,11 +21,11 @@ def test_forms_of_another_site(fractions):
     assert "ida" in fractions.kept()[-1]
     cookie = page.cookies.get("ldhost")
     assert (
-        httpx.post(fractions.url + "/sign-in", data={"token": "x"}, headers={"origin": "https://evil"}).status_code
+        client().post(fractions.url + "/sign-in", data={"token": "x"}, headers={"origin": "https://evil"}).status_code
         == 403
     )
-    assert httpx.post(fractions.url + "/sign-in", data={"token": "x"}, headers={"origin": "null"}).status_code == 403
-    api = httpx.get(fractions.url + "/api/v1/runs", cookies={"ldhost": cookie})
+    assert client().post(fractions.url + "/sign-in", data={"token": "x"}, headers={"origin": "null"}).status_code == 403
+    api = client(cookies={"ldhost": cookie}).get(fractions.url + "/api/v1/runs")
     assert api.status_code == 401, "the interface takes no cookie"
 
 
@@ -42,7 +42,7 @@ def test_headers(fractions):
     assert "default-src 'self'" in answer.headers["content-security-policy"]
     assert "frame-ancestors 'none'" in answer.headers["content-security-policy"]
     assert answer.headers["x-content-type-options"] == "nosniff" and answer.headers["cache-control"] == "no-store"
-    cookie = httpx.post(fractions.url + "/sign-in", data={"token": fractions.token}).headers["set-cookie"]
+    cookie = client().post(fractions.url + "/sign-in", data={"token": fractions.token}).headers["set-cookie"]
     assert "HttpOnly" in cookie and "SameSite=lax" in cookie
 
 
@@ -50,7 +50,7 @@ def test_sessions_end(fractions):
     page = fractions.browser()
     cookie = page.cookies.get("ldhost")
     page.post("/sign-out", data={"word": page.word})
-    assert httpx.get(fractions.url + "/", cookies={"ldhost": cookie}).headers["location"] == "/sign-in"
+    assert client(cookies={"ldhost": cookie}).get(fractions.url + "/").headers["location"] == "/sign-in"
     ida = fractions.browser(fractions.give_token("ida"))
     boss = fractions.browser()
     boss.post("/admin/tokens/revoke", data={"word": boss.word, "person": "ida"})

@@ -1,8 +1,7 @@
 """Each cell of the table of rights: who may do it does it, and who may not is refused."""
 
-import httpx
 import pytest
-from conftest import ENGINE, Host
+from conftest import ENGINE, Host, client
 
 from ldhost.rights import ADMINISTRATOR, AUTHOR, MEMBER, STAFF, STANDINGS, STRANGER, TABLE
 
@@ -94,7 +93,7 @@ class Cast:
         tokens |= {ADMINISTRATOR: host.token, AUTHOR: host.give_token("ari", "author"), NOBODY: "nonsense"}
         self.apis = {who: host.api(token) for who, token in tokens.items()}
         self.pages = {who: host.browser(token) for who, token in tokens.items() if who != NOBODY}
-        self.pages[NOBODY] = httpx.Client(base_url=host.url)
+        self.pages[NOBODY] = client(base_url=host.url)
         self.pages[NOBODY].word = "0" * 64
         for page in self.pages.values():
             page.follow_redirects = False
