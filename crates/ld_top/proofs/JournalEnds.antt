@@ -6,12 +6,13 @@ use Rattle.ld_keeping.specs.declared.ending.KeepEnding.{KeepEnding}
 use Rattle.ld_keeping.specs.declared.ending.KeepEnding.TheVariants.{Done as AllDone, ReadFault as Unread, WriteFault as Unwritten, NoMemory as Roomless, InputTooLong as TooLong, DiskFault as Unkept, JournalDiffers as Differs, JournalFull as Full}
 use Rattle.ld_model.specs.declared.unit.Unit.{Unit}
 use Rattle.ld_world.specs.World.{first_world}
-use Rattle.ld_top.specs.Endings.{IsJournalEnding, IsOneOf, NothingTaken, NothingWritten, number_of}
+use Rattle.ld_top.specs.Endings.{IsJournalEnding, IsOneOf, NotOpened, NothingTaken, NothingWritten, number_of}
 use Rattle.ld_top.specs.InFolder.{WhereTold}
 use Rattle.ld_top.specs.JournalEndings.{ending_behind, ending_of}
 use Rattle.ld_top.specs.Journaled.{HasGoodJournal, IsGivenToKeep}
 use Rattle.ld_top.specs.Replay.{Publishes}
 use Rattle.ld_top.specs.declared.ending.Ending.{Ending}
+use Rattle.ld_top.specs.declared.ending.Ending.TheVariants.{Done, BadWords, ShelfFault, UnitRefused, ReadFault, WriteFault, NoMemory, InputTooLong, DiskFault, JournalDiffers, JournalFull}
 use Rattle.ld_top.proofs.Completing.{folders_publish_one_thing}
 
 behind : (e : KeepEnding) → ending_behind (ending_of e) ≡ Some e
@@ -59,6 +60,20 @@ before_lines TooLong A roomless differs is = absurd (cc is)
 before_lines Unkept A roomless differs is = absurd (cc is)
 before_lines Differs A roomless differs is = differs refl
 before_lines Full A roomless differs is = absurd (cc is)
+
+-- Once the journal is opened, no such number comes.
+pub not_unopened : (ending : Ending) → IsJournalEnding ending → NotOpened (number_of ending) → ⊥
+not_unopened Done can is = cc is
+not_unopened BadWords can is = absurd can
+not_unopened ShelfFault can is = absurd can
+not_unopened UnitRefused can is = absurd can
+not_unopened ReadFault can is = cc is
+not_unopened WriteFault can is = cc is
+not_unopened NoMemory can is = cc is
+not_unopened InputTooLong can is = cc is
+not_unopened DiskFault can is = cc is
+not_unopened JournalDiffers can is = cc is
+not_unopened JournalFull can is = cc is
 
 -- Where nothing failed.
 complete_as : (e : KeepEnding) → IsComplete e → IsOneOf (0 ∷ 7 ∷ []) (number_of (ending_of e))

@@ -56,6 +56,10 @@ NothingTaken = IsOneOf (2 ∷ 3 ∷ 4 ∷ 7 ∷ 10 ∷ [])
 abbrev pub NothingKept : ℕ → Type 0
 NothingKept = IsOneOf (2 ∷ 3 ∷ 4 ∷ 7 ∷ 10 ∷ [])
 
+-- With these numbers the disk was not called.
+abbrev pub NotOpened : ℕ → Type 0
+NotOpened = IsOneOf (2 ∷ 3 ∷ 4 ∷ [])
+
 -- How a refusal of the folder can end.
 abbrev pub IsRefusalEnding : Ending → Type 0
 IsRefusalEnding Done = ⊥

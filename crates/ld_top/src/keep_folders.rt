@@ -2,7 +2,7 @@
 ghost use Rattle.std.specs.Prelude.{◌≡◌, ◌≤◌, ◌<◌, ◌^◌, ◌∷◌, []};
 ghost use Rattle.ld_base.specs.Outside.{Rose};
 ghost use Rattle.ld_top.specs.Completeness.{DidNotFail, EndsRefused};
-ghost use Rattle.ld_top.specs.Endings.{IsJournalEnding, IsKeepEnding, IsOneOf, NothingKept, NothingTaken, NothingWritten, number_of};
+ghost use Rattle.ld_top.specs.Endings.{IsJournalEnding, IsKeepEnding, IsOneOf, NotOpened, NothingKept, NothingTaken, NothingWritten, number_of};
 ghost use Rattle.ld_top.specs.JournalEndings.{ending_of as ending_for};
 ghost use Rattle.ld_top.specs.Journaled.{HasGoodJournal, IsGivenToKeep, JournaledAll, JournaledCut, JournaledDiffers, JournaledFull, JournaledLost, JournaledTaken, KeptAll, KeptCut, KeptDiffers, KeptFull, KeptLost, KeptTaken, journaled};
 ghost use Rattle.ld_top.specs.Replay.{Refused};
@@ -149,6 +149,7 @@ pub(crate) fn keep_folders<H: Shelf, S: Source, K: Sink, D: Disk, L: Ledger>(
     ensures not_taken { NothingTaken (number_of result) → input.new ≡ input.old }
     ensures not_kept { NothingKept (number_of result)
         → (journaled D.model disk.old disk.new).KeptNone }
+    ensures not_opened { NotOpened (number_of result) → disk.new ≡ disk.old }
     ensures shelf_fault { result ≡ Ending.ShelfFault
         → Rose (H.faults shelf.old) (H.faults shelf.new) }
     ensures read_fault { result ≡ Ending.ReadFault

@@ -2,7 +2,7 @@
 ghost use Rattle.std.specs.Prelude.{◌≡◌, ◌≤◌, ◌<◌, ◌^◌, ◌⊎◌, ◌∷◌, [], IfSome, None};
 ghost use Rattle.ld_base.specs.Outside.{Rose};
 ghost use Rattle.ld_top.specs.Completeness.{DidNotFail, EndsAtLimit, EndsRefused, TaskEndsRefused, TaskEndsWell};
-ghost use Rattle.ld_top.specs.Endings.{IsOneOf, IsPlainStatus, IsStatus, NothingKept, NothingTaken, NothingWritten, ending_word, number_of};
+ghost use Rattle.ld_top.specs.Endings.{IsOneOf, IsPlainStatus, IsStatus, NotOpened, NothingKept, NothingTaken, NothingWritten, ending_word, number_of};
 ghost use Rattle.ld_top.specs.Journaled.{IsGivenToKeep, KeptAll, KeptCut, KeptDiffers, KeptFull, KeptLost, KeptTaken, journaled};
 ghost use Rattle.ld_top.specs.Replay.{Refused};
 ghost use Rattle.ld_top.specs.Tasks.{IsReport, OfAsked, TaskCut, TaskDone, TaskRefused, TaskStopped, keep_in, task_in};
@@ -199,13 +199,14 @@ pub fn ld_top<H: Shelf, S: Source, K: Sink, D: Disk, L: Ledger>(
     ensures not_written { NothingWritten result.0 → output.new ≡ output.old }
     ensures not_taken { NothingTaken result.0 → input.new ≡ input.old }
     ensures not_kept { NothingKept result.0 → (journaled D.model disk.old disk.new).KeptNone }
+    ensures not_opened { NotOpened result.0 → disk.new ≡ disk.old }
     ensures only_keep_keeps { keep_in (words_of words.now) ≡ None → disk.new ≡ disk.old }
     ensures no_report_takes { OfAsked (task_in (words_of words.now)) IsReport
         → input.new ≡ input.old }
     ensures files { H.files shelf.new ≡ H.files shelf.old }
 
-    // Which status comes where nothing of the outside failed: what is asked, the files, the input
-    // and the journal tell it, but that memory may run out.
+    // Which status comes where nothing of the outside failed, but that memory may run out: without a
+    // journal as `ld_main` says, and with one where nothing is refused, or a folder is.
     ensures complete { DidNotFail (H.faults shelf.old) (H.faults shelf.new)
         → DidNotFail (S.faults input.old) (S.faults input.new)
         → DidNotFail (K.faults output.old) (K.faults output.new)

@@ -46,7 +46,12 @@ fn status_of<L: Ledger>(
 }
 
 /// The call over a journal of these bytes. The disk's call of this number fails, none where it is 0.
-fn kept(alloc: Global, case: &Case<'_>, journal: &[u8], fails: u64) -> Result<Kept, NoMemory> {
+fn call_of_keep(
+    alloc: Global,
+    case: &Case<'_>,
+    journal: &[u8],
+    fails: u64,
+) -> Result<Kept, NoMemory> {
     let words = strings(alloc, case.words)?;
     let mut source = source(alloc, case)?;
     let mut shelf = MemoryShelf::new(first_files(alloc)?, call(alloc, 0)?);
@@ -71,7 +76,7 @@ fn kept(alloc: Global, case: &Case<'_>, journal: &[u8], fails: u64) -> Result<Ke
 #[test]
 fn a_line_is_kept_and_the_next_call_goes_on(rt: HostRuntime) -> Result<(), Fail> {
     let words = ["keep", "u1"];
-    let one = kept(rt.alloc(), &case_of(&words, &LINES[..FIRST + 1]), b"", 0)?;
+    let one = call_of_keep(rt.alloc(), &case_of(&words, &LINES[..FIRST + 1]), b"", 0)?;
     let answer: &[u8] = b"ok create\n";
     assert_eq!(rt; (one.status, one.written.as_slice()), (0, answer));
     let start: &[u8] = &[1, 0, 0, 0, 42];
@@ -79,7 +84,7 @@ fn a_line_is_kept_and_the_next_call_goes_on(rt: HostRuntime) -> Result<(), Fail>
     assert_eq!(rt; (&one.journal[..5], one.journal[47]), (start, 0));
     assert_eq!(rt; &one.journal[5..47], &LINES[..FIRST]);
     let case = case_of(&words, &LINES[FIRST + 1..]);
-    let two = kept(rt.alloc(), &case, one.journal.as_slice(), 0)?;
+    let two = call_of_keep(rt.alloc(), &case, one.journal.as_slice(), 0)?;
     let answer: &[u8] = b"ok enrol turns=0 fired=0 rejected=0 sent=0\n";
     assert_eq!(rt; (two.status, two.written.as_slice()), (0, answer));
     Ok(())
@@ -88,7 +93,7 @@ fn a_line_is_kept_and_the_next_call_goes_on(rt: HostRuntime) -> Result<(), Fail>
 #[test]
 fn a_disk_that_fails_ends_the_call(rt: HostRuntime) -> Result<(), Fail> {
     let case = case_of(&["keep", "u1"], LINES);
-    let lost = kept(rt.alloc(), &case, b"", 1)?;
+    let lost = call_of_keep(rt.alloc(), &case, b"", 1)?;
     assert_eq!(rt; (lost.status, lost.written.len()), (9, 0));
     Ok(())
 }

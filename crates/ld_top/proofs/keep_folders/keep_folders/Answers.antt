@@ -6,7 +6,7 @@ use Rattle.ld_top.specs.Endings.{number_of}
 use Rattle.ld_top.specs.InFolder.{WhereTold}
 use Rattle.ld_top.specs.Replay.{Publishes}
 use Rattle.ld_top.proofs.Completing.{not_both, published_not_refused, refusal_ends, seven_refused}
-use Rattle.ld_top.proofs.JournalEnds.{good_from}
+use Rattle.ld_top.proofs.JournalEnds.{good_from, not_unopened}
 use Rattle.ld_top.proofs.Refusing.{refused_for}
 use Rattle.ld_top.proofs.keep_folders.keep_folders.Goals as goal
 
@@ -78,3 +78,6 @@ returns-clause-cut g c = λ is. inr (c.in-Ok.world.units, c.in-Ok.ensures.publis
 
 pub returns-clause-lost : goal.returns-clause-lost
 returns-clause-lost g c = λ is. (c.in-Ok.world.units, c.in-Ok.ensures.published, c.keep_units.ensures.lost is)
+
+pub returns-clause-not_opened : goal.returns-clause-not_opened
+returns-clause-not_opened g c = λ is. absurd (not_unopened c.keep_units.result c.keep_units.ensures.endings is)
