@@ -19,7 +19,7 @@ help() {
 ./ld keep FOLDER.. < LINES      the same, and keeps what is done in the file ld.journal of this folder
 ./ld check FOLDER               says whether a course is right, or its first fault
 ./ld rank FOLDER                says whether its rules can set each other off for too long
-./ld --build                    proves and builds the program, for half an hour to two hours
+./ld --build                    proves and builds the program, in one to two hours
 END
 }
 
@@ -39,7 +39,7 @@ needs_toolchain() {
 
 build() {
   needs_toolchain
-  say "proving and building the program; the first time takes from half an hour to two hours (README.md)"
+  say "proving and building the program; the first time takes one to two hours (README.md)"
   python3 -B "$root/build.py"
 }
 
