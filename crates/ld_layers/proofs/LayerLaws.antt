@@ -37,7 +37,7 @@ at_least f test (suc n) from a above below passes =
     ]
     by rest false is = rest (λ same. false≢true (sym is ∙ ap test same ∙ passes))
 
-attained : (f : ℕ → ℕ) (test : ℕ → Bool) (xs : List ℕ) → 0 < greatest f (filter test xs)
+pub attained : (f : ℕ → ℕ) (test : ℕ → Bool) (xs : List ℕ) → 0 < greatest f (filter test xs)
     → (a : ℕ) × (test a ≡ true) × (f a ≡ greatest f (filter test xs))
 attained f test [] = λ some. absurd (omega (arith, some))
 attained f test (x ∷ xs) = by (attained f test xs) (test x) refl
@@ -72,7 +72,7 @@ leading_is_node g a b next = elim (cases_lt a (length g)) [
   | inr past ↦ absurd (false≢true (rw (slice_get_past g a past) at next))
 ]
 
-abbrev NoCycle : Graph → Type 0
+abbrev pub NoCycle : Graph → Type 0
 NoCycle g = first_on_cycle g ≡ None
 
 -- How many nodes lead to a node.
@@ -108,21 +108,28 @@ settled g none (suc n) b few =
     ap suc (same_greatest (layer_within g n) (layer_within g (suc n)) (λ a. leads_on g a b) (numbers_below (length g))
     (λ a next. settled g none n a (omega (arith, few, height_rises g none a b next))))
 
-abbrev layer : Graph → ℕ → ℕ
+abbrev pub layer : Graph → ℕ → ℕ
 layer g b = layer_within g (length g) b
 
 one_above : (g : Graph) → NoCycle g → (b : ℕ) → b < length g → layer g b ≡ suc (greatest (layer g) (before g b))
 one_above g none b within = settled g none (length g) b (low g none b within)
 
+-- The layer rises along each step.
+pub layer_rises : (g : Graph) → NoCycle g → (a b : ℕ) → b < length g → IsNext g a b → layer g a < layer g b
+layer_rises g none a b within next =
+    let here = leading_is_node g a b next in
+    let least = at_least (layer g) (λ x. leads_on g x b) (length g) 0 a (omega arith) (omega (arith, here)) next in
+    omega (arith, least, one_above g none b within)
+
 counted : (g : Graph) → length (layers_of g) ≡ length g
 counted g = length-map-range_with_len (layer g) 0 (length g)
 
-layer_at : (g : Graph) (b : ℕ) → b < length g → number_or_zero_at (layers_of g) b ≡ layer g b
+pub layer_at : (g : Graph) (b : ℕ) → b < length g → number_or_zero_at (layers_of g) b ≡ layer g b
 layer_at g b within =
     ap number_or_zero (slice_get-get_or (layers_of g) b 0 (omega (arith, within, counted g)))
     ∙ get_or-map-range_with_len (layer g) 0 (length g) b b 0 within (omega arith)
 
-layer_past : (g : Graph) (b : ℕ) → length g ≤ b → number_or_zero_at (layers_of g) b ≡ 0
+pub layer_past : (g : Graph) (b : ℕ) → length g ≤ b → number_or_zero_at (layers_of g) b ≡ 0
 layer_past g b past = ap number_or_zero (slice_get_past (layers_of g) b (omega (arith, past, counted g)))
 
 pub are_layers : (g : Graph) → NoCycle g → AreLayers g (layers_of g)
@@ -134,9 +141,7 @@ are_layers g none = record {
     | inr past ↦ omega (arith, layer_past g b past)
   ];
   rise = λ a b within next.
-      let here = leading_is_node g a b next in
-      let least = at_least (layer g) (λ x. leads_on g x b) (length g) 0 a (omega arith) (omega (arith, here)) next in
-      omega (arith, least, layer_at g a here, layer_at g b within, one_above g none b within);
+      omega (arith, layer_rises g none a b within next, layer_at g a (leading_is_node g a b next), layer_at g b within);
   tight = tight_at;
 }
   where

@@ -1,103 +1,120 @@
 //! The layers of the nodes of a graph without cycles.
-ghost use Rattle.std.specs.Prelude.{◌≡◌, ◌-◌, ◌<◌, ◌^◌, ◌∷◌, ◌++◌, [], ℕ, suc, cond, IfOk, OnOk, None, map, length, slice_get};
-ghost use Rattle.ld_base.specs.Numbers.{numbers_below};
-ghost use Rattle.ld_cycles.specs.Graphs.{Graph, first_on_cycle, number_or_zero};
-ghost use Rattle.ld_layers.specs.Layers.{AreLayers, before, greatest, layer_within, layers_of};
+ghost use Rattle.std.specs.Prelude.{◌≡◌, ◌+◌, ◌<◌, ◌≤◌, ℕ, IfOk, None, cond, false, length, map, max, nat_eq};
+ghost use Rattle.std.specs.List.{list_any};
+ghost use Rattle.ld_cycles.specs.Graphs.{IsNext, first_on_cycle, number_or_zero_at};
+ghost use Rattle.ld_layers.specs.Layers.{AreLayers};
+ghost use Rattle.ld_layers.specs.Raising.{AreLow};
 
+use crate::order::order_of;
 use ld_base::NoMemory;
 use std::alloc::Global;
 
 /// The layer of each node, from 1 on: it is one above the highest of those of the nodes that lead
-/// to it. So of a row of three nodes they are 1, 2 and 3. It goes in rounds until one changes
-/// nothing, one more than there are layers, each of which takes time as there are nodes and edges.
-/// The only error is out of memory.
+/// to it. So of a row of three nodes they are 1, 2 and 3.
+///
+/// Each number begins at 1, and is raised above those of the nodes that lead there until none is.
+/// The first round goes along an order in which each node comes after those that lead to it, so
+/// that the second changes nothing. That it is such an order is not proved: nothing rests on it but
+/// time, which is as the number of nodes and edges. The only error is out of memory.
 pub fn layers_of(alloc: Global, edges: &[Vec<usize>]) -> Result<Vec<usize>, NoMemory>
     requires { first_on_cycle (map (λ next. next.items) edges.now) ≡ None }
     ensures { IfOk result (λ layers. AreLayers (map (λ next. next.items) edges.now) layers.items) }
 {
-    let before = turned(alloc, edges)?;
-    let mut layers = vec![in alloc; 0; edges.len()]?;
-    for _ in 0..edges.len() {
-        let next = next_layers(alloc, &before, &layers)?;
-        if next.as_slice() == layers.as_slice() {
-            return Ok(layers);
-        }
-        layers = next;
-    }
+    let order = order_of(alloc, edges)?;
+    let mut layers = vec![in alloc; 1; edges.len()]?;
+    raise_to_layers(edges, &order, &mut layers);
     Ok(layers)
 }
 
-/// For each node those that lead to it, in order. It takes time as the number of nodes times that
-/// of edges.
-fn turned(alloc: Global, edges: &[Vec<usize>]) -> Result<Vec<Vec<usize>>, NoMemory>
-    ensures { IfOk result (λ rows. map (λ row. row.items) rows.items
-        ≡ map (before (map (λ next. next.items) edges.now)) (numbers_below (length edges.now))) }
+/// Raises the numbers until they are the layers, first along the order.
+fn raise_to_layers(edges: &[Vec<usize>], order: &[usize], numbers: &mut [usize])
+    requires acyclic { first_on_cycle (map (λ next. next.items) edges.now) ≡ None }
+    requires low { AreLow (map (λ next. next.items) edges.now) numbers.old }
+    ensures { AreLayers (map (λ next. next.items) edges.now) numbers.new }
 {
-    let mut rows = Vec::with_capacity(alloc, edges.len())?;
+    raise_along(edges, order, numbers);
+    for _ in 0..edges.len() {
+        if !raise_all(edges, numbers) {
+            return;
+        }
+    }
+}
+
+/// Raises the numbers of the nodes to which nodes lead, for one of these after the other.
+fn raise_along(edges: &[Vec<usize>], order: &[usize], numbers: &mut [usize])
+    requires acyclic { first_on_cycle (map (λ next. next.items) edges.now) ≡ None }
+    requires low { AreLow (map (λ next. next.items) edges.now) numbers.old }
+    ensures { AreLow (map (λ next. next.items) edges.now) numbers.new }
+{
+    for node in order {
+        if *node < edges.len() {
+            raise_from(edges, *node, numbers);
+        }
+    }
+}
+
+/// Raises the numbers of all nodes to which nodes lead, in a round. Tells whether it raised one.
+fn raise_all(edges: &[Vec<usize>], numbers: &mut [usize]) -> bool
+    requires acyclic { first_on_cycle (map (λ next. next.items) edges.now) ≡ None }
+    requires low { AreLow (map (λ next. next.items) edges.now) numbers.old }
+    ensures low { AreLow (map (λ next. next.items) edges.now) numbers.new }
+    ensures rise { (a b : ℕ) → b < length edges.now → IsNext (map (λ next. next.items) edges.now) a b
+        → number_or_zero_at numbers.old a < number_or_zero_at numbers.new b }
+    ensures still { result ≡ false → numbers.new ≡ numbers.old }
+{
+    let mut raised = false;
     for node in 0..edges.len() {
-        rows.push(leading_to(alloc, edges, node)?)?;
+        if raise_from(edges, node, numbers) {
+            raised = true;
+        }
     }
-    Ok(rows)
+    raised
 }
 
-/// The nodes that lead to the node, in order.
-fn leading_to(alloc: Global, edges: &[Vec<usize>], node: usize) -> Result<Vec<usize>, NoMemory>
-    ensures { IfOk result (λ row. row.items ≡ before (map (λ next. next.items) edges.now) node) }
+/// Raises the numbers of the nodes to which the node leads above its own, where they are not. Tells
+/// whether it raised one.
+fn raise_from(edges: &[Vec<usize>], node: usize, numbers: &mut [usize]) -> bool
+    requires node { node < length edges.now }
+    requires acyclic { first_on_cycle (map (λ next. next.items) edges.now) ≡ None }
+    requires low { AreLow (map (λ next. next.items) edges.now) numbers.old }
+    ensures low { AreLow (map (λ next. next.items) edges.now) numbers.new }
+    ensures grow { (b : ℕ) → number_or_zero_at numbers.old b ≤ number_or_zero_at numbers.new b }
+    ensures rise { (b : ℕ) → b < length edges.now
+        → IsNext (map (λ next. next.items) edges.now) node b
+        → number_or_zero_at numbers.old node < number_or_zero_at numbers.new b }
+    ensures still { result ≡ false → numbers.new ≡ numbers.old }
 {
-    let mut row = Vec::new(alloc);
-    for from in 0..edges.len() {
-        push_if(&mut row, from, edges[from].contains(&node))?;
-    }
-    Ok(row)
+    let above = numbers[node] + 1;
+    raise_each(&edges[node], above, numbers)
 }
 
-/// Appends the node, if so.
-fn push_if(row: &mut Vec<usize>, node: usize, so: bool) -> Result<(), NoMemory>
-    ensures { OnOk result (row.new.items ≡ row.old.items ++ cond so (node ∷ []) []) }
+/// Raises the numbers of these nodes to this, where they are less. Tells whether one was.
+fn raise_each(nodes: &[usize], least: usize, numbers: &mut [usize]) -> bool
+    ensures each { length numbers.new ≡ length numbers.old }
+    ensures value { (b : ℕ) → b < length numbers.old → number_or_zero_at numbers.new b
+        ≡ max (number_or_zero_at numbers.old b)
+        (cond (list_any (λ node. nat_eq node b) nodes.now) least 0) }
+    ensures still { result ≡ false → numbers.new ≡ numbers.old }
 {
-    if !so {
-        return Ok(());
-    }
-    row.push(node)?;
-    Ok(())
-}
-
-/// The layers with ways of one node more than those given.
-fn next_layers(
-    alloc: Global,
-    before: &[Vec<usize>],
-    layers: &[usize],
-) -> Result<Vec<usize>, NoMemory>
-    requires { (a : ℕ) → number_or_zero (slice_get layers.now a) < 2 ^ 64 - 1 }
-    ensures { IfOk result (λ next. next.items
-        ≡ map (λ row. suc (greatest (λ a. number_or_zero (slice_get layers.now a)) row.items)) before.now) }
-{
-    let mut next = Vec::with_capacity(alloc, before.len())?;
-    for row in before {
-        next.push(highest(row, layers) + 1)?;
-    }
-    Ok(next)
-}
-
-/// The highest layer of the nodes; 0 where there are none.
-fn highest(nodes: &[usize], layers: &[usize]) -> usize
-    requires { (a : ℕ) → number_or_zero (slice_get layers.now a) < 2 ^ 64 - 1 }
-    ensures value { result ≡ greatest (λ a. number_or_zero (slice_get layers.now a)) nodes.now }
-    ensures few { result < 2 ^ 64 - 1 }
-{
-    let mut most = 0;
+    let mut raised = false;
     for node in nodes {
-        most = most.max(layer_of(layers, *node));
+        if raise(*node, least, numbers) {
+            raised = true;
+        }
     }
-    most
+    raised
 }
 
-/// The layer of the node; 0 for a number that is no node.
-fn layer_of(layers: &[usize], node: usize) -> usize
-    ensures { result ≡ number_or_zero (slice_get layers.now node) }
+/// Raises the number of the node to this, where it is less. Tells whether it was.
+fn raise(node: usize, least: usize, numbers: &mut [usize]) -> bool
+    ensures each { length numbers.new ≡ length numbers.old }
+    ensures value { (b : ℕ) → b < length numbers.old → number_or_zero_at numbers.new b
+        ≡ max (number_or_zero_at numbers.old b) (cond (nat_eq node b) least 0) }
+    ensures still { result ≡ false → numbers.new ≡ numbers.old }
 {
-    match layers.get(node) {
-        Some(layer) => *layer,
-        None => 0,
+    if node >= numbers.len() || least <= numbers[node] {
+        return false;
     }
+    numbers[node] = least;
+    true
 }

@@ -8,6 +8,7 @@
 
 pub mod layers;
 pub mod loops;
+mod order;
 pub mod sweeps;
 
 pub use layers::layers_of;
