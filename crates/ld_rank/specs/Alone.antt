@@ -1,5 +1,5 @@
 -- Feeding as it is decided: in a run of one person, who holds every role.
-use Rattle.std.specs.Prelude.{ℕ, List, [], ◌∷◌, slice_get, None, Bool, true, false}
+use Rattle.std.specs.Prelude.{ℕ, List, [], ◌∷◌, ◌++◌, slice_get, None, Bool, true, false, if◌then◌else◌}
 use Rattle.std.specs.List.{list_any}
 use Rattle.ld_model.specs.Cells.{same_cell}
 use Rattle.ld_model.specs.Expressions.{TestOf, users_test}
@@ -15,8 +15,10 @@ use Rattle.ld_expr.specs.Lookup.{is_some_and}
 use Rattle.ld_expr.specs.Owners.{mark_owner, of_person}
 use Rattle.ld_expr.specs.Seen.{Seen}
 use Rattle.ld_state.specs.RunState.{RunState, seen_in}
+use Rattle.ld_firing.specs.ActionCells.{opened_act_cells}
 use Rattle.ld_rules.specs.SiteLooks.{rule_looks}
-use Rattle.ld_rank.specs.Feeding.{feeding_cells}
+use Rattle.ld_rules.specs.SiteTests.{says_for_good}
+use Rattle.ld_rank.specs.Feeding.{branch_writes, feeding_cells}
 
 -- A run of one person, who holds every role, and of which nothing else is known.
 abbrev pub alone : RunState
@@ -38,6 +40,13 @@ owner_alone rule = mark_owner (kind_of rule) (of_person 0)
 -- What the rule asks to look at in that run.
 abbrev pub looks_alone : Unit → Rule → List CellName
 looks_alone unit rule = rule_looks unit (seen_alone unit) (owner_alone rule) rule
+
+-- What the rule writes in that run beside its mark, whatever that becomes: what a rule for good does is the
+-- same for each verdict.
+abbrev pub writes_alone : Unit → Rule → List CellName
+writes_alone unit rule =
+    let branch = branch_writes unit 1 (owner_alone rule) rule in
+    opened_act_cells unit rule ++ (if says_for_good rule then branch true else branch true ++ branch false)
 
 -- The rule's site in that run.
 abbrev pub site_alone : ℕ → Rule → Site

@@ -1,5 +1,6 @@
 -- Loops of rules, and the graph of a unit's rules.
-use Rattle.std.specs.Prelude.{◌≡◌, ℕ, ◌≤◌, List, [], ◌∷◌, length}
+use Rattle.std.specs.Prelude.{◌≡◌, ℕ, ◌<◌, ◌≤◌, List, [], ◌∷◌, length, slice_get, Bool, false}
+use Rattle.std.specs.Option.{unwrap_or}
 use Rattle.ld_model.specs.declared.unit.Unit.{Unit}
 use Rattle.ld_names.specs.Rules.{rules_of}
 use Rattle.ld_cycles.specs.Graphs.{Graph}
@@ -35,3 +36,12 @@ pub record IsFirstRuleLoop (unit : Unit) (loop : List ℕ) : Type 0 where
 pub record IsGraphOf (unit : Unit) (g : Graph) : Type 0 where
   pub each : length g ≡ length (rules_of unit)
   pub edges : (a b : ℕ) → leads_on g a b ≡ feeds_between unit a b
+
+-- The table names the rule of this number.
+abbrev pub is_named : List Bool → ℕ → Bool
+is_named table rule = unwrap_or (slice_get table rule) false
+
+-- The table names just the rules that the rule feeds.
+pub record IsRowOf (unit : Unit) (rule : ℕ) (table : List Bool) : Type 0 where
+  pub each : length table ≡ length (rules_of unit)
+  pub value : (b : ℕ) → b < length (rules_of unit) → is_named table b ≡ feeds_between unit rule b

@@ -1,110 +1,137 @@
-//! Whether terms and tests look at a cell, in a run of one person who holds every role.
+//! The cells at which terms and tests look, in a run of one person who holds every role.
 ghost use Rattle.std.specs.Prelude.{◌≡◌, ◌++◌};
-ghost use Rattle.std.specs.List.{list_any};
-ghost use Rattle.ld_model.specs.Cells.{same_cell};
 ghost use Rattle.ld_model.specs.Expressions.{terms_from, tests_from};
 ghost use Rattle.ld_expr.specs.Looks.{term_looks, terms_looks, test_looks, tests_looks};
 ghost use Rattle.ld_rank.specs.Alone.{seen_alone, users_looks};
+ghost use Rattle.ld_rank.specs.Telling.{Tells, told_after};
 
-use crate::asked::{Asked, is_mark, is_property};
+use crate::sink::{CellSink, put_mark, put_property};
 use ld_base::{Id, PersonNo};
 use ld_expr::role_number;
 use ld_model::{Owner, Term, TermForm, Test, TestForm};
+use ld_rules::PreparedUnit;
 
-/// Whether the term looks at the cell.
+/// Tells the cells at which the term looks.
 #[cycle(terms)]
-pub(crate) fn in_term(asked: &Asked<'_>, owner: Owner, term: &Term) -> bool
-    ensures { result
-        ≡ list_any (same_cell asked.now.cell) (term_looks asked.now.unit.now (seen_alone asked.now.unit.now) owner term.now) }
+pub(crate) fn put_term<S: CellSink>(
+    unit: &PreparedUnit,
+    owner: Owner,
+    term: &Term,
+    cells: &mut S,
+) -> Result<(), S::Stop>
+    ensures { Tells S.can_fail (told_after S.after (S.told cells.old)
+        (term_looks unit.now (seen_alone unit.now) owner term.now)) result (S.told cells.new) }
 {
     match &*term.form {
-        TermForm::Property(id) => is_property(asked, owner, id),
+        TermForm::Property(id) => put_property(unit, owner, id, cells),
         TermForm::Text(_)
         | TermForm::Integer(_)
         | TermForm::Boolean(_)
         | TermForm::Datetime(_)
-        | TermForm::Duration(_) => false,
-        TermForm::Sum(terms) => in_terms(asked, owner, terms),
-        TermForm::Multiply(terms) => in_terms(asked, owner, terms),
-        TermForm::Subtract(a, b) => in_both(asked, owner, a, b),
-        TermForm::Divide(a, b) => in_both(asked, owner, a, b),
-        TermForm::CurrentDatetime => false,
-        TermForm::DatetimeActivityStarted(_) => false,
-        TermForm::TimeUnitOfLearningStarted => false,
+        | TermForm::Duration(_) => Ok(()),
+        TermForm::Sum(terms) => put_terms(unit, owner, terms, cells),
+        TermForm::Multiply(terms) => put_terms(unit, owner, terms, cells),
+        TermForm::Subtract(a, b) => put_both(unit, owner, a, b, cells),
+        TermForm::Divide(a, b) => put_both(unit, owner, a, b, cells),
+        TermForm::CurrentDatetime => Ok(()),
+        TermForm::DatetimeActivityStarted(_) => Ok(()),
+        TermForm::TimeUnitOfLearningStarted => Ok(()),
     }
 }
 
-/// Whether one of the terms looks at the cell.
+/// Tells the cells at which the terms look.
 #[cycle(terms)]
-fn in_terms(asked: &Asked<'_>, owner: Owner, terms: &[Term]) -> bool
-    ensures { result ≡ list_any (same_cell asked.now.cell)
-        (terms_looks asked.now.unit.now (seen_alone asked.now.unit.now) owner (terms_from terms.now)) }
+fn put_terms<S: CellSink>(
+    unit: &PreparedUnit,
+    owner: Owner,
+    terms: &[Term],
+    cells: &mut S,
+) -> Result<(), S::Stop>
+    ensures { Tells S.can_fail (told_after S.after (S.told cells.old)
+        (terms_looks unit.now (seen_alone unit.now) owner (terms_from terms.now))) result
+        (S.told cells.new) }
 {
     for term in terms {
-        if in_term(asked, owner, term) {
-            return true;
-        }
+        put_term(unit, owner, term, cells)?;
     }
-    false
+    Ok(())
 }
 
-/// Whether one of the two terms looks at the cell.
+/// Tells the cells at which the two terms look.
 #[cycle(terms)]
-pub(crate) fn in_both(asked: &Asked<'_>, owner: Owner, a: &Term, b: &Term) -> bool
-    ensures { result ≡ list_any (same_cell asked.now.cell)
-        (term_looks asked.now.unit.now (seen_alone asked.now.unit.now) owner a.now ++ term_looks asked.now.unit.now (seen_alone asked.now.unit.now) owner b.now) }
+pub(crate) fn put_both<S: CellSink>(
+    unit: &PreparedUnit,
+    owner: Owner,
+    a: &Term,
+    b: &Term,
+    cells: &mut S,
+) -> Result<(), S::Stop>
+    ensures { Tells S.can_fail (told_after S.after (S.told cells.old)
+        (term_looks unit.now (seen_alone unit.now) owner a.now
+        ++ term_looks unit.now (seen_alone unit.now) owner b.now)) result (S.told cells.new) }
 {
-    if in_term(asked, owner, a) {
-        return true;
-    }
-    in_term(asked, owner, b)
+    put_term(unit, owner, a, cells)?;
+    put_term(unit, owner, b, cells)
 }
 
-/// Whether the test looks at the cell.
+/// Tells the cells at which the test looks.
 #[cycle(tests)]
-pub(crate) fn in_test(asked: &Asked<'_>, owner: Owner, test: &Test) -> bool
-    ensures { result ≡ list_any (same_cell asked.now.cell)
-        (test_looks asked.now.unit.now (seen_alone asked.now.unit.now) owner test.now) }
+pub(crate) fn put_test<S: CellSink>(
+    unit: &PreparedUnit,
+    owner: Owner,
+    test: &Test,
+    cells: &mut S,
+) -> Result<(), S::Stop>
+    ensures { Tells S.can_fail (told_after S.after (S.told cells.old)
+        (test_looks unit.now (seen_alone unit.now) owner test.now)) result (S.told cells.new) }
 {
     match &*test.form {
-        TestForm::Is(a, b) => in_both(asked, owner, a, b),
-        TestForm::IsNot(a, b) => in_both(asked, owner, a, b),
-        TestForm::GreaterThan(a, b) => in_both(asked, owner, a, b),
-        TestForm::LessThan(a, b) => in_both(asked, owner, a, b),
-        TestForm::And(tests) => in_tests(asked, owner, tests),
-        TestForm::Or(tests) => in_tests(asked, owner, tests),
-        TestForm::Not(test) => in_test(asked, owner, test),
-        TestForm::NoValue(property) => is_property(asked, owner, property),
-        TestForm::IsMemberOfRole(_) => false,
-        TestForm::UsersInRole(role, test) => in_users(asked, role, test),
-        TestForm::Complete(thing) => is_mark(asked, owner, thing),
+        TestForm::Is(a, b) => put_both(unit, owner, a, b, cells),
+        TestForm::IsNot(a, b) => put_both(unit, owner, a, b, cells),
+        TestForm::GreaterThan(a, b) => put_both(unit, owner, a, b, cells),
+        TestForm::LessThan(a, b) => put_both(unit, owner, a, b, cells),
+        TestForm::And(tests) => put_tests(unit, owner, tests, cells),
+        TestForm::Or(tests) => put_tests(unit, owner, tests, cells),
+        TestForm::Not(test) => put_test(unit, owner, test, cells),
+        TestForm::NoValue(property) => put_property(unit, owner, property, cells),
+        TestForm::IsMemberOfRole(_) => Ok(()),
+        TestForm::UsersInRole(role, test) => put_users(unit, role, test, cells),
+        TestForm::Complete(thing) => put_mark(unit, owner, thing, cells),
     }
 }
 
-/// Whether one of the tests looks at the cell.
+/// Tells the cells at which the tests look.
 #[cycle(tests)]
-fn in_tests(asked: &Asked<'_>, owner: Owner, tests: &[Test]) -> bool
-    ensures { result ≡ list_any (same_cell asked.now.cell)
-        (tests_looks asked.now.unit.now (seen_alone asked.now.unit.now) owner
-        (tests_from tests.now)) }
+fn put_tests<S: CellSink>(
+    unit: &PreparedUnit,
+    owner: Owner,
+    tests: &[Test],
+    cells: &mut S,
+) -> Result<(), S::Stop>
+    ensures { Tells S.can_fail (told_after S.after (S.told cells.old)
+        (tests_looks unit.now (seen_alone unit.now) owner (tests_from tests.now))) result
+        (S.told cells.new) }
 {
     for test in tests {
-        if in_test(asked, owner, test) {
-            return true;
-        }
+        put_test(unit, owner, test, cells)?;
     }
-    false
+    Ok(())
 }
 
-/// Whether the cell is looked at to know whether the test holds for the members of the role: of
-/// that run's one person, where there is such a role.
+/// Tells the cells at which is looked to know whether the test holds for the members of the role:
+/// for that run's one person, where there is such a role.
 #[cycle(tests)]
-pub(crate) fn in_users(asked: &Asked<'_>, role: &Id, test: &Test) -> bool
-    ensures { result ≡ list_any (same_cell asked.now.cell)
-        (users_looks asked.now.unit.now role.now test.now) }
+pub(crate) fn put_users<S: CellSink>(
+    unit: &PreparedUnit,
+    role: &Id,
+    test: &Test,
+    cells: &mut S,
+) -> Result<(), S::Stop>
+    ensures { Tells S.can_fail (told_after S.after (S.told cells.old)
+        (users_looks unit.now role.now test.now)) result (S.told cells.new) }
 {
-    match role_number(asked.unit.unit(), asked.unit.names(), role) {
-        Some(_) => in_test(asked, Owner::Person(PersonNo(0)), test),
-        None => false,
+    match role_number(unit.unit(), unit.names(), role) {
+        Some(_) => put_test(unit, Owner::Person(PersonNo(0)), test, cells),
+        None => Ok(()),
     }
 }

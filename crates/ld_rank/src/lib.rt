@@ -3,15 +3,20 @@
 //! can be refused for passing its budget. (docs/RANKS.md)
 #![tactic(auto)]
 
-mod asked;
+mod edges;
 mod expressions;
 pub mod feeding;
+mod finding;
 pub mod laws;
+mod lists;
+mod lookers;
 mod looks;
 pub mod printing;
 pub mod ranking;
 pub mod ranks;
 pub mod report;
+mod sink;
+mod writes;
 
 pub use feeding::feeds;
 pub use printing::{print_report, report_text, rule_name};

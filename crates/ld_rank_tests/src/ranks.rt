@@ -1,7 +1,7 @@
 //! Ranks, loops and what is printed of them.
 #![tactic(auto)]
 
-use crate::units::{deep, first, looped};
+use crate::units::{deep, first, looped, whole};
 use ld_base::{Items, RuleNo, Text};
 use ld_rank::{Report, feeds, is_ranking, print_report, rank, rule_name};
 use ld_rules::PreparedUnit;
@@ -29,6 +29,16 @@ fn ranked_units_are_printed(rt: HostRuntime) -> Result<(), Fail> {
     );
     assert!(rt;
         out.as_str().ends_with("4 condition 1\n3 condition 2\n2 condition 3\n1 condition 4\n")
+    );
+    Ok(())
+}
+
+#[test]
+fn rules_of_each_kind_are_ranked(rt: HostRuntime) -> Result<(), Fail> {
+    let out = printed(rt.alloc(), &whole(rt.alloc())?)?;
+    assert!(rt;
+        out.as_str()
+            == "ranked w rules=8 depth=7 turns=64 never-30\n1 activity read\n2 structure s\n1 opening a\n3 part rp\n4 act a\n5 play p\n6 unit w\n7 condition 1\n"
     );
     Ok(())
 }

@@ -14,6 +14,10 @@ const ROLES: &str = r#"{"roles":[{"identifier":"learner","kind":"learner"}]}"#;
 const ACTIVITIES: &str =
     r#"{"activities":[{"identifier":"read","complete":{"user-choice":true}}]}"#;
 
+/// A structure of one activity.
+const STRUCTURE: &str = r#"{"activities":[{"identifier":"read","complete":{"user-choice":true}}],
+"structures":[{"identifier":"s","kind":"sequence","children":["read"]}]}"#;
+
 /// One play of one act with one role-part.
 const UNIT: &str =
     r#"{"format":1,"identifier":"u1","level":"A","method":{"plays":[{"identifier":"p","acts":[
@@ -23,6 +27,17 @@ const UNIT: &str =
 const THREE_TURNS: &str =
     r#"{"format":1,"identifier":"u","level":"B","turns":3,"method":{"plays":[{"identifier":"p","acts":[
 {"identifier":"a","role-parts":[{"identifier":"rp","role":"learner","ref":"read"}]}]}]}}"#;
+
+/// A unit that is complete once its play is, that once its last act is, and that once its role-part
+/// is, which refers to the structure.
+const WHOLE: &str =
+    r#"{"format":1,"identifier":"w","level":"B","method":{"plays":[{"identifier":"p","acts":[
+{"identifier":"a","complete":{"when-role-part-completed":["rp"]},
+"role-parts":[{"identifier":"rp","role":"learner","ref":"s"}]}],
+"complete":{"when-last-act-completed":true}}],"complete":{"when-play-completed":["p"]}}}"#;
+
+/// The condition looks at whether the unit is complete.
+const AT_THE_END: &str = r#"{"conditions":[{"if":{"complete":"w"},"then":[{"show":["read"]}]}]}"#;
 
 const SWITCHES: &str = r#"{"properties":[
 {"identifier":"go","kind":"loc","datatype":"boolean","initial":"false"},
@@ -63,18 +78,18 @@ fn doc_of<'a>(
     Ok(Some(document(alloc, text.as_bytes(), scratch)?))
 }
 
-/// The documents of these texts, which are the properties, the method and the conditions; the rest
-/// is the same of all.
+/// The documents of these texts, which are the properties, the activities, the method and the
+/// conditions; the rest is the same of all.
 fn docs_of<'a>(
     alloc: Global,
-    texts: [&'static str; 3],
+    texts: [&'static str; 4],
     scratches: &'a mut Scratches,
 ) -> Result<Docs<'a>, Fail> {
-    let [properties, unit, conditions] = texts;
+    let [properties, activities, unit, conditions] = texts;
     let roles = doc_of(alloc, ROLES, &mut scratches.roles)?;
     let properties = doc_of(alloc, properties, &mut scratches.properties)?;
     let environments = doc_of(alloc, "", &mut scratches.environments)?;
-    let activities = doc_of(alloc, ACTIVITIES, &mut scratches.activities)?;
+    let activities = doc_of(alloc, activities, &mut scratches.activities)?;
     let unit = doc_of(alloc, unit, &mut scratches.unit)?;
     let conditions = doc_of(alloc, conditions, &mut scratches.conditions)?;
     Ok(Docs {
@@ -88,7 +103,7 @@ fn docs_of<'a>(
 }
 
 /// The checked unit of these texts.
-fn checked(alloc: Global, texts: [&'static str; 3]) -> Result<Checked, Fail> {
+fn checked(alloc: Global, texts: [&'static str; 4]) -> Result<Checked, Fail> {
     let mut scratches = Scratches::new(alloc);
     let docs = docs_of(alloc, texts, &mut scratches)?;
     let unit = match read_parts(alloc, &docs) {
@@ -100,21 +115,26 @@ fn checked(alloc: Global, texts: [&'static str; 3]) -> Result<Checked, Fail> {
 }
 
 /// The prepared unit of these texts.
-fn prepared(alloc: Global, texts: [&'static str; 3]) -> Result<PreparedUnit, Fail> {
+fn prepared(alloc: Global, texts: [&'static str; 4]) -> Result<PreparedUnit, Fail> {
     Ok(PreparedUnit::new(alloc, checked(alloc, texts)?)?)
 }
 
 /// An act of one role-part, without properties.
 pub(crate) fn first(alloc: Global) -> Result<PreparedUnit, Fail> {
-    prepared(alloc, ["", UNIT, ""])
+    prepared(alloc, ["", ACTIVITIES, UNIT, ""])
 }
 
 /// Two conditions that undo each other.
 pub(crate) fn looped(alloc: Global) -> Result<PreparedUnit, Fail> {
-    prepared(alloc, [SWITCHES, THREE_TURNS, IN_A_CIRCLE])
+    prepared(alloc, [SWITCHES, ACTIVITIES, THREE_TURNS, IN_A_CIRCLE])
 }
 
 /// Four conditions each of which waits for the next one, and three turns.
 pub(crate) fn deep(alloc: Global) -> Result<PreparedUnit, Fail> {
-    prepared(alloc, [NUMBERS, THREE_TURNS, IN_A_ROW])
+    prepared(alloc, [NUMBERS, ACTIVITIES, THREE_TURNS, IN_A_ROW])
+}
+
+/// A rule of each kind, each of which waits for the one before.
+pub(crate) fn whole(alloc: Global) -> Result<PreparedUnit, Fail> {
+    prepared(alloc, ["", STRUCTURE, WHOLE, AT_THE_END])
 }

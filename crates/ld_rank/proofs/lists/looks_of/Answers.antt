@@ -1,0 +1,11 @@
+use Rattle.std.proofs.Common.{List, ◌++◌, filter, ap, ◌∙◌}
+use Rattle.ld_model.specs.declared.cell.CellName.{CellName}
+use Rattle.ld_rank.specs.Alone.{is_fed, looks_alone}
+use Rattle.ld_rank.proofs.Told.{all_listed}
+use Rattle.ld_rank.proofs.lists.looks_of.Goals as goal
+
+pub returns : goal.returns
+returns c =
+    let looks = looks_alone c.args.unit.now c.args.rule in
+    all_listed c.new.result.items _ looks c.in_ok-put_looks.ensures
+    ∙ ap (λ (listed : List CellName). listed ++ filter is_fed looks) c.new.ensures.items
