@@ -19,6 +19,7 @@ help() {
 ./ld keep FOLDER.. < LINES      the same, and keeps what is done in the file ld.journal of this folder
 ./ld check FOLDER               says whether a course is right, or its first fault
 ./ld rank FOLDER                says whether its rules can set each other off for too long
+./ld canon FOLDER               prints its documents in their canonical form
 ./ld --build                    proves and builds the program, in one to two hours
 END
 }
@@ -49,7 +50,7 @@ answer_unproved() {
   local room words=() data=() word document when='in one to two minutes'
   case $1 in
     replay) when='one to two minutes after its input is closed' ;;
-    check | rank) ;;
+    check | rank | canon) ;;
     keep)
       say "'keep' writes a journal, so it needs the proved program: './ld --build' makes it"
       return 1

@@ -86,7 +86,7 @@ def cases(door):
     yield "words without a form", (status, written, said[0], door.words()) == (2, "", "ld: bad-words", None)
     status, written, said = door.call(["--help"])
     yield "help", (status, said, door.words()) == (0, [], None) and all(
-        f"./ld {word} " in written for word in ["replay", "keep", "check", "rank", "--build"])
+        f"./ld {word} " in written for word in ["replay", "keep", "check", "canon", "rank", "--build"])
     status, written, said = door.call(["keep", "my course"])
     yield "a journal", (status, written, door.words()) == (1, "", None) and "--build" in said[0]
     if not shutil.which("rt", path="/usr/bin:/bin"):

@@ -74,17 +74,17 @@ refused_not_well folders files left refused status told = record {
     never bytes given = not_both given.told folders given.units refused given.published (told given.told given.are_told)
 
 pub refusal_ends : (ending : Ending) (before now : ℕ) → IsRefusalEnding ending → (ending ≡ WriteFault → Rose before now) → DidNotFail before now → IsOneOf (4 ∷ 7 ∷ []) (number_of ending)
-refusal_ends Done before now can cause well = absurd can
-refusal_ends BadWords before now can cause well = absurd can
-refusal_ends ShelfFault before now can cause well = absurd can
+refusal_ends Done before now can cause well = absurd (cc can)
+refusal_ends BadWords before now can cause well = absurd (cc can)
+refusal_ends ShelfFault before now can cause well = absurd (cc can)
 refusal_ends UnitRefused before now can cause well = refl
-refusal_ends ReadFault before now can cause well = absurd can
+refusal_ends ReadFault before now can cause well = absurd (cc can)
 refusal_ends WriteFault before now can cause well = absurd (well (cause refl))
 refusal_ends NoMemory before now can cause well = refl
-refusal_ends InputTooLong before now can cause well = absurd can
-refusal_ends DiskFault before now can cause well = absurd can
-refusal_ends JournalDiffers before now can cause well = absurd can
-refusal_ends JournalFull before now can cause well = absurd can
+refusal_ends InputTooLong before now can cause well = absurd (cc can)
+refusal_ends DiskFault before now can cause well = absurd (cc can)
+refusal_ends JournalDiffers before now can cause well = absurd (cc can)
+refusal_ends JournalFull before now can cause well = absurd (cc can)
 
 -- ---- all units are published
 
@@ -117,34 +117,34 @@ module _ (w : WorldState) (before now old new : Option (List ℕ)) (reads reads_
   replay_fewer : (ending : Ending) → Ended ending → DidNotFail reads reads_now → DidNotFail writes writes_now
       → (bytes : List ℕ) → before ≡ Some bytes → length bytes < 2 ^ 40 → IsOneOf (0 ∷ 7 ∷ []) (number_of ending)
   replay_fewer Done ended well written bytes is few = refl
-  replay_fewer BadWords ended well written bytes is few = absurd ended.can
-  replay_fewer ShelfFault ended well written bytes is few = absurd ended.can
-  replay_fewer UnitRefused ended well written bytes is few = absurd ended.can
+  replay_fewer BadWords ended well written bytes is few = absurd (cc ended.can)
+  replay_fewer ShelfFault ended well written bytes is few = absurd (cc ended.can)
+  replay_fewer UnitRefused ended well written bytes is few = absurd (cc ended.can)
   replay_fewer ReadFault ended well written bytes is few = absurd (well (ended.read_cause refl))
   replay_fewer WriteFault ended well written bytes is few = absurd (written (ended.write_cause refl))
   replay_fewer NoMemory ended well written bytes is few = refl
   replay_fewer InputTooLong ended well written bytes is few =
       let long = ended.long refl in
       absurd (omega (arith, few, long.2, taken_within long.0 now bytes (sym long.1 ∙ is)))
-  replay_fewer DiskFault ended well written bytes is few = absurd ended.can
-  replay_fewer JournalDiffers ended well written bytes is few = absurd ended.can
-  replay_fewer JournalFull ended well written bytes is few = absurd ended.can
+  replay_fewer DiskFault ended well written bytes is few = absurd (cc ended.can)
+  replay_fewer JournalDiffers ended well written bytes is few = absurd (cc ended.can)
+  replay_fewer JournalFull ended well written bytes is few = absurd (cc ended.can)
 
   replay_others : (ending : Ending) → Ended ending → DidNotFail reads reads_now → DidNotFail writes writes_now
       → (bytes : List ℕ) → before ≡ Some bytes → 2 ^ 40 ≤ length bytes → IsOneOf (8 ∷ 7 ∷ []) (number_of ending)
   replay_others Done ended well written bytes is many =
       let all = subst (λ left. AnsweredAll w left now old new) is (ended.done refl) in
       absurd (omega (arith, many, all.1))
-  replay_others BadWords ended well written bytes is many = absurd ended.can
-  replay_others ShelfFault ended well written bytes is many = absurd ended.can
-  replay_others UnitRefused ended well written bytes is many = absurd ended.can
+  replay_others BadWords ended well written bytes is many = absurd (cc ended.can)
+  replay_others ShelfFault ended well written bytes is many = absurd (cc ended.can)
+  replay_others UnitRefused ended well written bytes is many = absurd (cc ended.can)
   replay_others ReadFault ended well written bytes is many = absurd (well (ended.read_cause refl))
   replay_others WriteFault ended well written bytes is many = absurd (written (ended.write_cause refl))
   replay_others NoMemory ended well written bytes is many = refl
   replay_others InputTooLong ended well written bytes is many = refl
-  replay_others DiskFault ended well written bytes is many = absurd ended.can
-  replay_others JournalDiffers ended well written bytes is many = absurd ended.can
-  replay_others JournalFull ended well written bytes is many = absurd ended.can
+  replay_others DiskFault ended well written bytes is many = absurd (cc ended.can)
+  replay_others JournalDiffers ended well written bytes is many = absurd (cc ended.can)
+  replay_others JournalFull ended well written bytes is many = absurd (cc ended.can)
 
   pub replay_ends_well : (folders : List (List ℕ)) (files : Option Files) (ending : Ending) → Ended ending → DidNotFail reads reads_now → DidNotFail writes writes_now
       → EndsWell folders files before (number_of ending)
@@ -158,9 +158,9 @@ module _ (w : WorldState) (before now old new : Option (List ℕ)) (reads reads_
   replay_at_limit Done ended written taken rest here there many =
       let all = subst (λ left. AnsweredAll w left now old new) here (ended.done refl) in
       absurd (omega (arith, many, all.1, length-append taken rest))
-  replay_at_limit BadWords ended written taken rest here there many = absurd ended.can
-  replay_at_limit ShelfFault ended written taken rest here there many = absurd ended.can
-  replay_at_limit UnitRefused ended written taken rest here there many = absurd ended.can
+  replay_at_limit BadWords ended written taken rest here there many = absurd (cc ended.can)
+  replay_at_limit ShelfFault ended written taken rest here there many = absurd (cc ended.can)
+  replay_at_limit UnitRefused ended written taken rest here there many = absurd (cc ended.can)
   replay_at_limit ReadFault ended written taken rest here there many =
       let few = ended.read refl in
       let same : few.0 ++ rest ≡ taken ++ rest = same_value (few.1 ∙ ap (piece_then few.0) there) here in
@@ -169,6 +169,6 @@ module _ (w : WorldState) (before now old new : Option (List ℕ)) (reads reads_
   replay_at_limit NoMemory ended written taken rest here there many =
       none_taken before (number_of NoMemory) taken rest here (sym (ended.none refl) ∙ there) many
   replay_at_limit InputTooLong ended written taken rest here there many = refl
-  replay_at_limit DiskFault ended written taken rest here there many = absurd ended.can
-  replay_at_limit JournalDiffers ended written taken rest here there many = absurd ended.can
-  replay_at_limit JournalFull ended written taken rest here there many = absurd ended.can
+  replay_at_limit DiskFault ended written taken rest here there many = absurd (cc ended.can)
+  replay_at_limit JournalDiffers ended written taken rest here there many = absurd (cc ended.can)
+  replay_at_limit JournalFull ended written taken rest here there many = absurd (cc ended.can)

@@ -30,14 +30,14 @@ pub came_from : (e f : KeepEnding) (result : Ending) → result ≡ ending_of e 
 came_from e f result one other = let same : Some e ≡ Some f = sym (behind e) ∙ ap ending_behind (sym one ∙ other) ∙ behind f in cc
 
 pub ends_over_journal : (e : KeepEnding) → IsJournalEnding (ending_of e)
-ends_over_journal AllDone = tt
-ends_over_journal Unread = tt
-ends_over_journal Unwritten = tt
-ends_over_journal Roomless = tt
-ends_over_journal TooLong = tt
-ends_over_journal Unkept = tt
-ends_over_journal Differs = tt
-ends_over_journal Full = tt
+ends_over_journal AllDone = refl
+ends_over_journal Unread = refl
+ends_over_journal Unwritten = refl
+ends_over_journal Roomless = refl
+ends_over_journal TooLong = refl
+ends_over_journal Unkept = refl
+ends_over_journal Differs = refl
+ends_over_journal Full = refl
 
 -- Where nothing was written.
 pub without_memory : (e : KeepEnding) (A : Type 0) → (e ≡ Roomless → A) → NothingWritten (number_of (ending_of e)) → A
@@ -64,9 +64,9 @@ before_lines Full A roomless differs is = absurd (cc is)
 -- Once the journal is opened, no such number comes.
 pub not_unopened : (ending : Ending) → IsJournalEnding ending → NotOpened (number_of ending) → ⊥
 not_unopened Done can is = cc is
-not_unopened BadWords can is = absurd can
-not_unopened ShelfFault can is = absurd can
-not_unopened UnitRefused can is = absurd can
+not_unopened BadWords can is = absurd (cc can)
+not_unopened ShelfFault can is = absurd (cc can)
+not_unopened UnitRefused can is = absurd (cc can)
 not_unopened ReadFault can is = cc is
 not_unopened WriteFault can is = cc is
 not_unopened NoMemory can is = cc is

@@ -39,7 +39,7 @@ abbrev pub EndsAtLimit : Option (List ℕ) → Option (List ℕ) → ℕ → Typ
 EndsAtLimit before now status =
     (taken rest : List ℕ) → before ≡ Some (taken ++ rest) → now ≡ Some rest → length taken ≡ 2 ^ 40 → status ≡ 8
 
--- ---- check FOLDER, rank FOLDER
+-- ---- check FOLDER, canon FOLDER, rank FOLDER
 
 -- Where the folder has a unit, the status is 0; or it is 7, and memory ran out.
 abbrev pub ReportEndsWell : List ℕ → Option Files → ℕ → Type 0

@@ -60,86 +60,30 @@ NothingKept = IsOneOf (2 ∷ 3 ∷ 4 ∷ 7 ∷ 10 ∷ [])
 abbrev pub NotOpened : ℕ → Type 0
 NotOpened = IsOneOf (2 ∷ 3 ∷ 4 ∷ [])
 
+-- The ending has one of these numbers.
+abbrev pub EndsWith : List ℕ → Ending → Type 0
+EndsWith numbers ending = IsOneOf numbers (number_of ending)
+
 -- How a refusal of the folder can end.
 abbrev pub IsRefusalEnding : Ending → Type 0
-IsRefusalEnding Done = ⊥
-IsRefusalEnding BadWords = ⊥
-IsRefusalEnding ShelfFault = ⊥
-IsRefusalEnding UnitRefused = Unit {0}
-IsRefusalEnding ReadFault = ⊥
-IsRefusalEnding WriteFault = Unit {0}
-IsRefusalEnding NoMemory = Unit {0}
-IsRefusalEnding InputTooLong = ⊥
-IsRefusalEnding DiskFault = ⊥
-IsRefusalEnding JournalDiffers = ⊥
-IsRefusalEnding JournalFull = ⊥
+IsRefusalEnding = EndsWith (4 ∷ 6 ∷ 7 ∷ [])
 
 -- How a replay can end.
 abbrev pub IsReplayEnding : Ending → Type 0
-IsReplayEnding Done = Unit {0}
-IsReplayEnding BadWords = ⊥
-IsReplayEnding ShelfFault = ⊥
-IsReplayEnding UnitRefused = ⊥
-IsReplayEnding ReadFault = Unit {0}
-IsReplayEnding WriteFault = Unit {0}
-IsReplayEnding NoMemory = Unit {0}
-IsReplayEnding InputTooLong = Unit {0}
-IsReplayEnding DiskFault = ⊥
-IsReplayEnding JournalDiffers = ⊥
-IsReplayEnding JournalFull = ⊥
+IsReplayEnding = EndsWith (0 ∷ 5 ∷ 6 ∷ 7 ∷ 8 ∷ [])
 
 -- How a call that publishes folders and answers lines can end.
 abbrev pub IsCallEnding : Ending → Type 0
-IsCallEnding Done = Unit {0}
-IsCallEnding BadWords = ⊥
-IsCallEnding ShelfFault = Unit {0}
-IsCallEnding UnitRefused = Unit {0}
-IsCallEnding ReadFault = Unit {0}
-IsCallEnding WriteFault = Unit {0}
-IsCallEnding NoMemory = Unit {0}
-IsCallEnding InputTooLong = Unit {0}
-IsCallEnding DiskFault = ⊥
-IsCallEnding JournalDiffers = ⊥
-IsCallEnding JournalFull = ⊥
+IsCallEnding = EndsWith (0 ∷ 3 ∷ 4 ∷ 5 ∷ 6 ∷ 7 ∷ 8 ∷ [])
 
 -- How a report on a folder can end.
 abbrev pub IsReportEnding : Ending → Type 0
-IsReportEnding Done = Unit {0}
-IsReportEnding BadWords = ⊥
-IsReportEnding ShelfFault = Unit {0}
-IsReportEnding UnitRefused = Unit {0}
-IsReportEnding ReadFault = ⊥
-IsReportEnding WriteFault = Unit {0}
-IsReportEnding NoMemory = Unit {0}
-IsReportEnding InputTooLong = ⊥
-IsReportEnding DiskFault = ⊥
-IsReportEnding JournalDiffers = ⊥
-IsReportEnding JournalFull = ⊥
+IsReportEnding = EndsWith (0 ∷ 3 ∷ 4 ∷ 6 ∷ 7 ∷ [])
 
 -- How a call that answers lines over a journal can end.
 abbrev pub IsKeepEnding : Ending → Type 0
-IsKeepEnding Done = Unit {0}
-IsKeepEnding BadWords = ⊥
-IsKeepEnding ShelfFault = Unit {0}
-IsKeepEnding UnitRefused = Unit {0}
-IsKeepEnding ReadFault = Unit {0}
-IsKeepEnding WriteFault = Unit {0}
-IsKeepEnding NoMemory = Unit {0}
-IsKeepEnding InputTooLong = Unit {0}
-IsKeepEnding DiskFault = Unit {0}
-IsKeepEnding JournalDiffers = Unit {0}
-IsKeepEnding JournalFull = Unit {0}
+IsKeepEnding = EndsWith (0 ∷ 3 ∷ 4 ∷ 5 ∷ 6 ∷ 7 ∷ 8 ∷ 9 ∷ 10 ∷ 11 ∷ [])
 
 -- How it can end once all folders are published.
 abbrev pub IsJournalEnding : Ending → Type 0
-IsJournalEnding Done = Unit {0}
-IsJournalEnding BadWords = ⊥
-IsJournalEnding ShelfFault = ⊥
-IsJournalEnding UnitRefused = ⊥
-IsJournalEnding ReadFault = Unit {0}
-IsJournalEnding WriteFault = Unit {0}
-IsJournalEnding NoMemory = Unit {0}
-IsJournalEnding InputTooLong = Unit {0}
-IsJournalEnding DiskFault = Unit {0}
-IsJournalEnding JournalDiffers = Unit {0}
-IsJournalEnding JournalFull = Unit {0}
+IsJournalEnding = EndsWith (0 ∷ 5 ∷ 6 ∷ 7 ∷ 8 ∷ 9 ∷ 10 ∷ 11 ∷ [])

@@ -6,9 +6,10 @@ use Rattle.ld_model.specs.declared.unit.Unit.{Unit}
 use Rattle.ld_names.specs.Rules.{rules_of}
 use Rattle.ld_refs.specs.Checks.{leaves_of}
 use Rattle.ld_world.specs.Published.{refused_line}
+use Rattle.ld_canon.specs.Documents.{IsCanonicalText}
 use Rattle.ld_top.specs.declared.report.Report.{Report}
 use Rattle.ld_rank.specs.Printed.{IsReportText}
-use Rattle.ld_top.specs.declared.report.Report.TheVariants.{Check, Rank}
+use Rattle.ld_top.specs.declared.report.Report.TheVariants.{Check, Canon, Rank}
 use Rattle.ld_top.specs.InFolder.{IsReading, WhereTold}
 
 -- ---- texts
@@ -22,6 +23,7 @@ check_line unit =
 -- This text is printed of the unit.
 abbrev pub Prints : Report → Unit → List ℕ → Type 0
 Prints Check unit text = text ≡ check_line unit
+Prints Canon unit text = IsCanonicalText unit text
 Prints Rank unit text = IsReportText unit text
 
 -- ---- the folder

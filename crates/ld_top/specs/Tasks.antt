@@ -2,9 +2,9 @@
 use Rattle.std.specs.Prelude.{ℕ, List, Option, Some, None, ⊤}
 use Rattle.ld_base.specs.Maybe.{◌>>=◌}
 use Rattle.ld_base.specs.Outside.{Files}
-use Rattle.ld_words.specs.Forms.{Form, replay_form, check_form, rank_form, keep_form, form_in}
+use Rattle.ld_words.specs.Forms.{Form, replay_form, check_form, canon_form, rank_form, keep_form, form_in}
 use Rattle.ld_top.specs.declared.report.Report.{Report}
-use Rattle.ld_top.specs.declared.report.Report.TheVariants.{Check, Rank}
+use Rattle.ld_top.specs.declared.report.Report.TheVariants.{Check, Canon, Rank}
 use Rattle.ld_top.specs.Replay.{CutShort, Refused, ReplayedAll, ReplayedTaken}
 use Rattle.ld_top.specs.Reports.{ReportCut, Reported, ReportRefused}
 
@@ -19,6 +19,7 @@ pub data Task : Type 0 where
 abbrev pub task_of : Form → Option Task
 task_of (replay_form folders) = Some (replays folders)
 task_of (check_form folder) = Some (reports Check folder)
+task_of (canon_form folder) = Some (reports Canon folder)
 task_of (rank_form folder) = Some (reports Rank folder)
 task_of (keep_form _) = None
 
@@ -30,6 +31,7 @@ task_in words = form_in words >>= task_of
 abbrev pub folders_of_keep : Form → Option (List (List ℕ))
 folders_of_keep (replay_form _) = None
 folders_of_keep (check_form _) = None
+folders_of_keep (canon_form _) = None
 folders_of_keep (rank_form _) = None
 folders_of_keep (keep_form folders) = Some folders
 
@@ -42,10 +44,10 @@ abbrev pub OfAsked : {A : Type 0} → Option A → (A → Type 0) → Type 0
 OfAsked None Holds = ⊥
 OfAsked (Some asked) Holds = Holds asked
 
--- A report is asked for.
-abbrev pub IsReport : Task → Type 0
-IsReport (replays _) = ⊥
-IsReport (reports _ _) = ⊤
+-- The task wants no input.
+abbrev pub WantsNoInput : Task → Type 0
+WantsNoInput (replays _) = ⊥
+WantsNoInput (reports _ _) = ⊤
 
 -- ---- the ends of a call
 
@@ -59,7 +61,7 @@ abbrev pub TaskRefused : Option Files → Option (List ℕ) → Option (List ℕ
 TaskRefused files old new (replays folders) = Refused folders files old new
 TaskRefused files old new (reports report folder) = ReportRefused folder files old new
 
--- It stopped after this many bytes of the source. A report takes none.
+-- It stopped after this many bytes of the source. What wants no input takes none.
 abbrev pub TaskStopped : (ℕ → Type 0) → Option Files → Option (List ℕ) → Option (List ℕ) → Option (List ℕ) → Option (List ℕ) → Task → Type 0
 TaskStopped Many files before left old new (replays folders) = ReplayedTaken Many folders files before left old new
 TaskStopped Many files before left old new (reports report folder) = ⊥

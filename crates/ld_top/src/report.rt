@@ -12,6 +12,7 @@ use crate::reader::stop::FolderStop;
 use crate::refusal::refuse;
 use itoa::Buffer;
 use ld_base::{NoMemory, Shelf, Sink, Text, write_all};
+use ld_canon::canonical_text;
 use ld_rank::report_text;
 use ld_refs::Checked;
 use ld_rules::PreparedUnit;
@@ -22,6 +23,8 @@ use std::alloc::Global;
 pub enum Report {
     /// How many rules and leaves of expressions it has.
     Check,
+    /// Its canonical documents.
+    Canon,
     /// The ranks of its rules, or a loop of them.
     Rank,
 }
@@ -33,6 +36,7 @@ impl Report {
     {
         match self {
             Report::Check => line_of_check(alloc, &checked),
+            Report::Canon => canonical_text(alloc, checked.unit()),
             Report::Rank => ranks_of(alloc, checked),
         }
     }

@@ -5,7 +5,7 @@ ghost use Rattle.ld_top.specs.Completeness.{DidNotFail, EndsAtLimit, EndsRefused
 ghost use Rattle.ld_top.specs.Endings.{IsOneOf, IsPlainStatus, IsStatus, NotOpened, NothingKept, NothingTaken, NothingWritten, ending_word, number_of};
 ghost use Rattle.ld_top.specs.Journaled.{IsGivenToKeep, KeptAll, KeptCut, KeptDiffers, KeptFull, KeptLost, KeptTaken, journaled};
 ghost use Rattle.ld_top.specs.Replay.{Refused};
-ghost use Rattle.ld_top.specs.Tasks.{IsReport, OfAsked, TaskCut, TaskDone, TaskRefused, TaskStopped, keep_in, task_in};
+ghost use Rattle.ld_top.specs.Tasks.{OfAsked, TaskCut, TaskDone, TaskRefused, TaskStopped, WantsNoInput, keep_in, task_in};
 ghost use Rattle.ld_words.specs.Forms.{form_in};
 ghost use Rattle.ld_words.specs.Words.{words_of};
 
@@ -48,7 +48,7 @@ impl Status {
 }
 
 /// Does all that the program does without a journal. `words` are the words after the program's name.
-/// It knows the forms `replay`, `check` and `rank`; words of any other form are bad words.
+/// It knows all forms but `keep`; words of that form, or of none, are bad words.
 pub fn ld_main<H: Shelf, S: Source, K: Sink, L: Ledger>(
     alloc: Global,
     words: &[String],
@@ -86,7 +86,7 @@ pub fn ld_main<H: Shelf, S: Source, K: Sink, L: Ledger>(
     // What was left alone.
     ensures not_written { NothingWritten result.0 → output.new ≡ output.old }
     ensures not_taken { NothingTaken result.0 → input.new ≡ input.old }
-    ensures only_replay_takes { OfAsked (task_in (words_of words.now)) IsReport
+    ensures only_replay_takes { OfAsked (task_in (words_of words.now)) WantsNoInput
         → input.new ≡ input.old }
     ensures files { H.files shelf.new ≡ H.files shelf.old }
 
@@ -117,6 +117,10 @@ pub fn ld_main<H: Shelf, S: Source, K: Sink, L: Ledger>(
         }
         Some(Form::Check(folder)) => {
             let ending = report_on(alloc, Report::Check, folder, shelf, output);
+            return Status(ending.number());
+        }
+        Some(Form::Canon(folder)) => {
+            let ending = report_on(alloc, Report::Canon, folder, shelf, output);
             return Status(ending.number());
         }
         Some(Form::Rank(folder)) => {
@@ -201,7 +205,7 @@ pub fn ld_top<H: Shelf, S: Source, K: Sink, D: Disk, L: Ledger>(
     ensures not_kept { NothingKept result.0 → (journaled D.model disk.old disk.new).KeptNone }
     ensures not_opened { NotOpened result.0 → disk.new ≡ disk.old }
     ensures only_keep_keeps { keep_in (words_of words.now) ≡ None → disk.new ≡ disk.old }
-    ensures no_report_takes { OfAsked (task_in (words_of words.now)) IsReport
+    ensures no_input_wanted { OfAsked (task_in (words_of words.now)) WantsNoInput
         → input.new ≡ input.old }
     ensures files { H.files shelf.new ≡ H.files shelf.old }
 

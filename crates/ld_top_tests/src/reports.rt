@@ -92,3 +92,34 @@ fn check_ends_where_the_sink_fails(rt: HostRuntime) -> Result<(), Fail> {
     }
     Ok(())
 }
+
+/// What `canon` prints of the first unit.
+const FIRST_CANON: &[u8] = br##"# roles.json
+{"roles":[{"identifier":"learner","kind":"learner"}]}
+# activities.json
+{"activities":[{"complete":{"user-choice":true},"identifier":"read","items":[{"href":"text.html","identifier":"i1","title":"Text"}],"title":"Read"}]}
+# unit.json
+{"format":1,"identifier":"u1","level":"A","method":{"plays":[{"acts":[{"identifier":"a","role-parts":[{"identifier":"rp","ref":"read","role":"learner"}]}],"identifier":"p"}]},"title":"First"}
+"##;
+
+#[test]
+fn canon_prints_the_canonical_documents(rt: HostRuntime) -> Result<(), Fail> {
+    let mut case = case_of(&["canon", "u1"], b"[]\n");
+    case.source_fails = 1;
+    let (status, written) = ran_over(rt.alloc(), first_files(rt.alloc())?, &case)?;
+    assert_eq!(rt; (status, written.as_slice()), (0, FIRST_CANON));
+    for (room, expected) in [(FIRST_CANON.len() - 1, 6), (FIRST_CANON.len(), 0)] {
+        case.room = room;
+        let (status, _) = ran_over(rt.alloc(), first_files(rt.alloc())?, &case)?;
+        assert_eq!(rt; status, expected, "with room {room}");
+    }
+    Ok(())
+}
+
+#[test]
+fn canon_tells_the_first_fault(rt: HostRuntime) -> Result<(), Fail> {
+    let case = case_of(&["canon", "none"], b"");
+    let (status, written) = ran_over(rt.alloc(), first_files(rt.alloc())?, &case)?;
+    assert_eq!(rt; (status, written.as_slice()), (4, REFUSAL));
+    Ok(())
+}

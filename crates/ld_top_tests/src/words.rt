@@ -12,7 +12,7 @@ fn status<'a>(alloc: Global, words: &'a [&'static str]) -> Result<u8, NoMemory> 
 
 #[test]
 fn words_of_no_form_are_refused(rt: HostRuntime) -> Result<(), Fail> {
-    let table: [(&[&str], u8); 15] = [
+    let table: [(&[&str], u8); 17] = [
         (&[], 2),
         (&["replay"], 2),
         (&["play", "u1"], 2),
@@ -25,6 +25,8 @@ fn words_of_no_form_are_refused(rt: HostRuntime) -> Result<(), Fail> {
         (&["check", "-u1"], 2),
         (&["check", "--help"], 2),
         (&["keep", "u1"], 2),
+        (&["canon"], 2),
+        (&["canon", "u1", "u2"], 2),
         (&["check", "u1"], 0),
         (&["replay", "u1", "u2"], 0),
         (&["replay", "replay"], 4),

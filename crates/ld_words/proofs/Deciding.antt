@@ -10,7 +10,7 @@ use Rattle.clap.specs.Walk.{Text, nothing_held, walked}
 use Rattle.clap.specs.declared.error.kind.ErrorKind.{ErrorKind}
 use Rattle.clap.specs.declared.error.kind.ErrorKind.TheVariants.{OutOfMemory}
 use Rattle.ld_words.proofs.Counts.{many_free, free_many, more_than_one}
-use Rattle.ld_words.proofs.Taken.{IsNoVerb, either_way, fault_of_replay, fault_of_check, fault_of_rank, fault_of_keep, stray_fault}
+use Rattle.ld_words.proofs.Taken.{IsNoVerb, either_way, fault_of_replay, fault_of_check, fault_of_canon, fault_of_rank, fault_of_keep, stray_fault}
 use Rattle.ld_words.proofs.Walks.{first_plain, leaf_of, others_plain, several_fault, none_fault, one_fault, more_fault}
 use Rattle.ld_words.specs.App.{ld_app}
 use Rattle.ld_words.specs.Forms.{is_up_to}
@@ -71,6 +71,7 @@ stray_decided word rest is plain =
     rw (
       either_way (codes "replay") word is.replay,
       either_way (codes "check") word is.check,
+      either_way (codes "canon") word is.canon,
       either_way (codes "rank") word is.rank,
       either_way (codes "keep") word is.keep,
     ) refl in
@@ -82,23 +83,27 @@ stray_decided word rest is plain =
 -- ---- all words
 
 by_verb : (verb : Text) (rest : List Text) → list_all is_plain_word (verb ∷ rest) ≡ true
-    → (a b c d : Bool) → bytes_eq (codes "replay") verb ≡ a → bytes_eq (codes "check") verb ≡ b
-    → bytes_eq (codes "rank") verb ≡ c → bytes_eq (codes "keep") verb ≡ d
+    → (a b c d e : Bool) → bytes_eq (codes "replay") verb ≡ a → bytes_eq (codes "check") verb ≡ b
+    → bytes_eq (codes "canon") verb ≡ c → bytes_eq (codes "rank") verb ≡ d → bytes_eq (codes "keep") verb ≡ e
     → Decided (verb ∷ rest)
-by_verb verb rest plain true b c d is_a is_b is_c is_d =
+by_verb verb rest plain true b c d e is_a is_b is_c is_d is_e =
     subst (λ v. Decided (v ∷ rest)) ((bytes_eq-Decides (codes "replay") verb).0 is_a)
     (several_decided (codes "replay") fault_of_replay (λ n. refl) rest (others_plain verb rest plain))
-by_verb verb rest plain false true c d is_a is_b is_c is_d =
+by_verb verb rest plain false true c d e is_a is_b is_c is_d is_e =
     subst (λ v. Decided (v ∷ rest)) ((bytes_eq-Decides (codes "check") verb).0 is_b)
     (one_decided (codes "check") fault_of_check (λ n. refl) rest (others_plain verb rest plain))
-by_verb verb rest plain false false true d is_a is_b is_c is_d =
-    subst (λ v. Decided (v ∷ rest)) ((bytes_eq-Decides (codes "rank") verb).0 is_c)
+by_verb verb rest plain false false true d e is_a is_b is_c is_d is_e =
+    subst (λ v. Decided (v ∷ rest)) ((bytes_eq-Decides (codes "canon") verb).0 is_c)
+    (one_decided (codes "canon") fault_of_canon (λ n. refl) rest (others_plain verb rest plain))
+by_verb verb rest plain false false false true e is_a is_b is_c is_d is_e =
+    subst (λ v. Decided (v ∷ rest)) ((bytes_eq-Decides (codes "rank") verb).0 is_d)
     (one_decided (codes "rank") fault_of_rank (λ n. refl) rest (others_plain verb rest plain))
-by_verb verb rest plain false false false true is_a is_b is_c is_d =
-    subst (λ v. Decided (v ∷ rest)) ((bytes_eq-Decides (codes "keep") verb).0 is_d)
+by_verb verb rest plain false false false false true is_a is_b is_c is_d is_e =
+    subst (λ v. Decided (v ∷ rest)) ((bytes_eq-Decides (codes "keep") verb).0 is_e)
     (several_decided (codes "keep") fault_of_keep (λ n. refl) rest (others_plain verb rest plain))
-by_verb verb rest plain false false false false is_a is_b is_c is_d =
-    stray_decided verb rest (record { replay = is_a; check = is_b; rank = is_c; keep = is_d })
+by_verb verb rest plain false false false false false is_a is_b is_c is_d is_e =
+    stray_decided verb rest
+    (record { replay = is_a; check = is_b; canon = is_c; rank = is_d; keep = is_e })
     (first_plain verb rest plain)
 
 -- Of plain words `clap` refuses just those that are not taken.
@@ -107,7 +112,8 @@ unfolding are_taken walk_fault defaults_fault walked
 decided [] plain = record { free = λ is. cc; taken = λ is. cc }
 decided (verb ∷ rest) plain =
     by_verb verb rest plain (bytes_eq (codes "replay") verb) (bytes_eq (codes "check") verb)
-    (bytes_eq (codes "rank") verb) (bytes_eq (codes "keep") verb) refl refl refl refl
+    (bytes_eq (codes "canon") verb) (bytes_eq (codes "rank") verb) (bytes_eq (codes "keep") verb)
+    refl refl refl refl refl
 
 -- ---- what the answers of a parse say
 

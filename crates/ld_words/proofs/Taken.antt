@@ -78,6 +78,11 @@ pub fault_of_check : (rest : List Text) → fault_of ld_app (codes "check" ∷ r
 unfolding walked defaults_fault
 fault_of_check rest = verb_fault (codes "check") (leaf_of (codes "check") 1) rest refl refl refl
 
+pub fault_of_canon : (rest : List Text) → fault_of ld_app (codes "canon" ∷ rest)
+    ≡ level_fault (leaf_of (codes "canon") 1) [] nothing_held rest false []
+unfolding walked defaults_fault
+fault_of_canon rest = verb_fault (codes "canon") (leaf_of (codes "canon") 1) rest refl refl refl
+
 pub fault_of_rank : (rest : List Text) → fault_of ld_app (codes "rank" ∷ rest)
     ≡ level_fault (leaf_of (codes "rank") 1) [] nothing_held rest false []
 unfolding walked defaults_fault
@@ -101,11 +106,12 @@ either_way a b is = unlike b a (bytes_eq b a) refl (λ same. true≢false (sym (
 pub record IsNoVerb (word : Text) : Type 0 where
   pub replay : bytes_eq (codes "replay") word ≡ false
   pub check : bytes_eq (codes "check") word ≡ false
+  pub canon : bytes_eq (codes "canon") word ≡ false
   pub rank : bytes_eq (codes "rank") word ≡ false
   pub keep : bytes_eq (codes "keep") word ≡ false
 
 not_met : (word : Text) → IsNoVerb word → subcommand_met (names_of whole_app) idle word ≡ None
-not_met word is = rw (is.replay, is.check, is.rank, is.keep) refl
+not_met word is = rw (is.replay, is.check, is.canon, is.rank, is.keep) refl
 
 stray_turn : (word : Text) → IsNoVerb word → is_plain_word word ≡ true
     → turn_fault whole_app.top (names_of whole_app) (walk_from nothing_held) word

@@ -9,6 +9,7 @@ use Rattle.ld_words.specs.Words.{is_plain_word}
 pub data Form : Type 0 where
   replay_form : List (List ℕ) → Form
   check_form : List ℕ → Form
+  canon_form : List ℕ → Form
   rank_form : List ℕ → Form
   keep_form : List (List ℕ) → Form
 
@@ -31,6 +32,7 @@ abbrev pub form_behind : List ℕ → List (List ℕ) → Option Form
 form_behind verb rest =
     if bytes_eq verb (codes "replay") then option_map replay_form (some_words rest)
     else if bytes_eq verb (codes "check") then option_map check_form (only_word rest)
+    else if bytes_eq verb (codes "canon") then option_map canon_form (only_word rest)
     else if bytes_eq verb (codes "rank") then option_map rank_form (only_word rest)
     else if bytes_eq verb (codes "keep") then option_map keep_form (some_words rest)
     else None

@@ -8,6 +8,7 @@ abbrev pub takes_words : List ℕ → ℕ → Bool
 takes_words verb count =
     if bytes_eq verb (codes "replay") then is_up_to 64 count
     else if bytes_eq verb (codes "check") then is_up_to 1 count
+    else if bytes_eq verb (codes "canon") then is_up_to 1 count
     else if bytes_eq verb (codes "rank") then is_up_to 1 count
     else if bytes_eq verb (codes "keep") then is_up_to 64 count
     else false

@@ -19,6 +19,8 @@ pub enum Form<'a> {
     Replay(&'a [String]),
     /// Reads the folder and prints how many rules and leaves its unit has.
     Check(&'a str),
+    /// Reads the folder and prints the canonical documents of its unit.
+    Canon(&'a str),
     /// Reads the folder and prints a ranking of its unit's rules.
     Rank(&'a str),
     /// Answers the lines of the input as `replay` does, and keeps them in a journal.
@@ -76,6 +78,7 @@ fn form_of_taken(words: &[String]) -> Option<Form<'_>>
     match verb.as_str() {
         "replay" => Some(Form::Replay(rest)),
         "check" => Some(Form::Check(only_word(rest)?)),
+        "canon" => Some(Form::Canon(only_word(rest)?)),
         "rank" => Some(Form::Rank(only_word(rest)?)),
         "keep" => Some(Form::Keep(rest)),
         _ => None,

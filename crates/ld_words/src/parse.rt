@@ -54,6 +54,7 @@ fn whole_command<'a>(alloc: Global) -> Result<Command<'a>, AllocError>
     let command = bare_command(alloc)
         .subcommand(verb(alloc, "replay", FOLDERS_MOST)?)?
         .subcommand(verb(alloc, "check", 1)?)?
+        .subcommand(verb(alloc, "canon", 1)?)?
         .subcommand(verb(alloc, "rank", 1)?)?
         .subcommand(verb(alloc, "keep", FOLDERS_MOST)?)?;
     Ok(command)

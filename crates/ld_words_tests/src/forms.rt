@@ -25,6 +25,11 @@ fn each_form_has_its_folders(rt: HostRuntime) -> Result<(), Fail> {
         return Err("not the form of `check`".into());
     };
     assert_eq!(rt; folder, "u1");
+    let words = words_in(rt.alloc(), "canon u1")?;
+    let Some(Form::Canon(folder)) = form_of(rt.alloc(), &words)? else {
+        return Err("not the form of `canon`".into());
+    };
+    assert_eq!(rt; folder, "u1");
     let words = words_in(rt.alloc(), "rank u1")?;
     let Some(Form::Rank(folder)) = form_of(rt.alloc(), &words)? else {
         return Err("not the form of `rank`".into());
@@ -53,6 +58,8 @@ fn other_words_have_no_form(rt: HostRuntime) -> Result<(), Fail> {
         "check -x",
         "check u1 u2",
         "check  u1",
+        "canon",
+        "canon u1 u2",
         "rank u1 u2",
         "replay --help",
         "replay u1 -",

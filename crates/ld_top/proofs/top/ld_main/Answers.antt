@@ -12,3 +12,6 @@ returns-in-Some-Rank-clause-at_limit g c = λ sink. none_taken _ _
 
 pub returns-in-Some-Keep-clause-at_limit : goal.returns-in-Some-Keep-clause-at_limit
 returns-in-Some-Keep-clause-at_limit g c = λ sink. none_taken _ _
+
+pub returns-in-Some-Canon-clause-at_limit : goal.returns-in-Some-Canon-clause-at_limit
+returns-in-Some-Canon-clause-at_limit g c = λ sink. none_taken _ _
