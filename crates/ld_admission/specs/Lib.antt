@@ -1,6 +1,7 @@
 pub mod AdmittedView
 pub mod Causes
 pub mod CheckStages
+pub mod CheckSteps
 pub mod Checks
 pub mod Commands
 pub mod Found

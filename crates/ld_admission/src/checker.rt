@@ -1,7 +1,7 @@
 //! The checks of moments and persons.
 #![tactic(auto, using(crate::proofs::FaultChecks::exists_already, crate::proofs::FaultChecks::may_join, crate::proofs::FaultChecks::no_fault, crate::proofs::FaultChecks::seats_taken))]
 
-ghost use Rattle.std.specs.Prelude.{◌≡◌, ◌<◌, ℕ, length, None, Err, IfOk, IfErr, OnOk, false};
+ghost use Rattle.std.specs.Prelude.{◌≡◌, ◌+◌, ◌<◌, ◌≤◌, ℕ, length, None, Err, IfOk, IfErr, OnOk, false};
 ghost use Rattle.ld_roles.specs.Refusals.{enrol_fault};
 ghost use Rattle.ld_firing.specs.RunSystem.{IsSoundRun};
 ghost use Rattle.ld_admission.specs.CheckStages.{Rest, acting, enrolling, in_running};
@@ -30,7 +30,8 @@ pub(crate) struct Checker<'a, 's> {
 impl<'a, 's> Checker<'a, 's> {
     /// The moment of the last command, which each run has.
     fn last_moment<L: Ledger>(&self, steps: &mut Steps<L>) -> Moment
-        ensures { result.0 ≡ last_moment (run_of self.now.state.now) }
+        ensures value { result.0 ≡ last_moment (run_of self.now.state.now) }
+        ensures cost { steps.new ≡ steps.old + 1 }
     {
         match self.state.get(CellName::Now, steps) {
             Some(Value::Moment(moment)) => *moment,
@@ -40,7 +41,8 @@ impl<'a, 's> Checker<'a, 's> {
 
     /// Whether the run has been started.
     pub(crate) fn is_started<L: Ledger>(&self, steps: &mut Steps<L>) -> bool
-        ensures { result ≡ is_started (run_of self.now.state.now) }
+        ensures value { result ≡ is_started (run_of self.now.state.now) }
+        ensures cost { steps.new ≡ steps.old + 1 }
     {
         self.state.get(CellName::Started, steps).is_some()
     }
@@ -51,7 +53,9 @@ impl<'a, 's> Checker<'a, 's> {
         moment: Moment,
         steps: &mut Steps<L>,
     ) -> Result<(), Refusal<'a>>
-        ensures { answer_of (λ _. tt) result ≡ in_time (run_of self.now.state.now) moment.0 }
+        ensures passed { answer_of (λ _. tt) result
+            ≡ in_time (run_of self.now.state.now) moment.0 }
+        ensures cost { steps.new ≡ steps.old + 1 }
     {
         let last = self.last_moment(steps);
         if moment.0 < last.0 {
@@ -62,7 +66,8 @@ impl<'a, 's> Checker<'a, 's> {
 
     /// Passes where the run has been started.
     fn running<L: Ledger>(&self, steps: &mut Steps<L>) -> Result<(), Refusal<'a>>
-        ensures { answer_of (λ _. tt) result ≡ running (run_of self.now.state.now) }
+        ensures passed { answer_of (λ _. tt) result ≡ running (run_of self.now.state.now) }
+        ensures cost { steps.new ≡ steps.old + 1 }
     {
         if !self.is_started(steps) {
             return Err(Refusal::NotStarted);
@@ -74,6 +79,7 @@ impl<'a, 's> Checker<'a, 's> {
     pub(crate) fn not_running<L: Ledger>(&self, steps: &mut Steps<L>) -> Result<(), Refusal<'a>>
         ensures passed { answer_of (λ _. tt) result ≡ not_running (run_of self.now.state.now) }
         ensures closed { IfOk result (λ _. is_started (run_of self.now.state.now) ≡ false) }
+        ensures cost { steps.new ≡ steps.old + 1 }
     {
         if self.is_started(steps) {
             return Err(Refusal::StartedAlready);
@@ -104,6 +110,7 @@ impl<'a, 's> Checker<'a, 's> {
         ensures refused { IfErr result (λ refusal. (next : Rest)
             → in_running (run_of self.now.state.now) moment.0 next
             ≡ Err (refusal_of refusal)) }
+        ensures cost { steps.new ≤ steps.old + 2 }
     {
         self.in_time(moment, steps)?;
         self.running(steps)
@@ -123,6 +130,7 @@ impl<'a, 's> Checker<'a, 's> {
             → acting (run_of self.now.state.now) moment.0 name.now next
             ≡ Err (refusal_of refusal)) }
         ensures within { IfOk result (λ person. person.0 < length self.now.state.now.rows) }
+        ensures cost { steps.new ≤ steps.old + 2 }
     {
         self.in_running(moment, steps)?;
         self.the_person(name)

@@ -1,8 +1,9 @@
 //! The checks of a command.
-ghost use Rattle.std.specs.Prelude.{◌≡◌, IfErr, IfOk, Ok, false};
+ghost use Rattle.std.specs.Prelude.{◌≡◌, ◌+◌, ◌≤◌, IfErr, IfOk, Ok, false};
 ghost use Rattle.ld_state.specs.StateView.{IsStateOf, run_of};
 ghost use Rattle.ld_firing.specs.RunSystem.{IsSoundRun};
 ghost use Rattle.ld_admission.specs.AdmittedView.{AnswersAsked, IsPossible, admitted_of, wants_memory};
+ghost use Rattle.ld_admission.specs.CheckSteps.{check_steps};
 ghost use Rattle.ld_admission.specs.Checks.{admitted};
 ghost use Rattle.ld_admission.specs.RefusalView.{RefusesWith, answer_of};
 
@@ -38,6 +39,7 @@ pub fn admit<'a, L: Ledger>(
         (RefusesWith (admitted unit.now (run_of state.now) moment.0 command.now)) }
     ensures exact { wants_memory command.now ≡ false
         → answer_of admitted_of result ≡ admitted unit.now (run_of state.now) moment.0 command.now }
+    ensures cost { steps.new ≤ steps.old + check_steps command.now }
 {
     let checker = Checker { unit, state };
     checker.check(alloc, moment, command, steps)
@@ -52,8 +54,9 @@ impl<'a, 's> Checker<'a, 's> {
         command: &'a RunCommand,
         steps: &mut Steps<L>,
     ) -> Result<Admitted<'a>, Refusal<'a>>
-        ensures { AnswersAsked self.now.unit.now (run_of self.now.state.now) moment.0
+        ensures answer { AnswersAsked self.now.unit.now (run_of self.now.state.now) moment.0
             command.now result }
+        ensures cost { steps.new ≤ steps.old + check_steps command.now }
     {
         match command {
             RunCommand::Enrol { person } => self.check_enrol(moment, person, steps),

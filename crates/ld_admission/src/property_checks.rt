@@ -1,7 +1,7 @@
 //! The checks of properties.
 #![tactic(auto, using(crate::proofs::NamedParts::cell_there, crate::proofs::NamedParts::has_property, crate::proofs::NamedParts::limits_are))]
 
-ghost use Rattle.std.specs.Prelude.{◌≡◌, ◌<◌, length, true, Some, Ok, IfOk, IfErr, slice_get};
+ghost use Rattle.std.specs.Prelude.{◌≡◌, ◌+◌, ◌<◌, ◌≤◌, length, true, Some, Ok, IfOk, IfErr, slice_get};
 ghost use Rattle.ld_expr.specs.Membership.{is_member_of};
 ghost use Rattle.ld_admission.specs.AdmittedView.{HasPropertyCell};
 ghost use Rattle.ld_admission.specs.Checks.{fitting_value, may_write, own_cell, the_property};
@@ -84,8 +84,9 @@ impl<'a, 's> Checker<'a, 's> {
         property: &Property,
         steps: &mut Steps<L>,
     ) -> Result<(), Refusal<'a>>
-        ensures { answer_of (λ _. tt) result ≡ may_write self.now.unit.now
+        ensures passed { answer_of (λ _. tt) result ≡ may_write self.now.unit.now
             (run_of self.now.state.now) person.0 property.now }
+        ensures cost { steps.new ≤ steps.old + 1 }
     {
         let Some(role) = &property.role else {
             return Ok(());
@@ -98,8 +99,9 @@ impl<'a, 's> Checker<'a, 's> {
 
     /// Whether the person is a member of the role.
     fn is_member_of<L: Ledger>(&self, role: &Id, person: PersonNo, steps: &mut Steps<L>) -> bool
-        ensures { result ≡ is_member_of self.now.unit.now
+        ensures value { result ≡ is_member_of self.now.unit.now
             (seen_in self.now.unit.now (run_of self.now.state.now)) role.now person.0 }
+        ensures cost { steps.new ≤ steps.old + 1 }
     {
         self.unit
             .scope(self.state)

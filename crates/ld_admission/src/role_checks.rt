@@ -1,7 +1,7 @@
 //! The checks of roles.
 #![tactic(auto, using(crate::proofs::FaultChecks::held_by_dropper, crate::proofs::FaultChecks::identifier_is, crate::proofs::FaultChecks::none_short_at_all, crate::proofs::FaultChecks::none_short_by, crate::proofs::FaultChecks::same_assigning, crate::proofs::FaultChecks::same_dropping, crate::proofs::FaultChecks::short_role_at_start, crate::proofs::FaultChecks::short_role_once_dropped, ld_rules::proofs::RoleNumbers::role_below))]
 
-ghost use Rattle.std.specs.Prelude.{◌≡◌, ◌<◌, length, true, None, Err, IfOk, IfErr, OnOk};
+ghost use Rattle.std.specs.Prelude.{◌≡◌, ◌+◌, ◌<◌, ◌≤◌, length, true, None, Err, IfOk, IfErr, OnOk};
 ghost use Rattle.ld_model.specs.Roles.{roles_of};
 ghost use Rattle.ld_roles.specs.Persons.{holds_role};
 ghost use Rattle.ld_roles.specs.Refusals.{assign_fault};
@@ -70,6 +70,7 @@ impl<'a, 's> Checker<'a, 's> {
             ≡ Err (refusal_of refusal)) }
         ensures possible { OnOk result
             (holds_role (run_of self.now.state.now).persons role.0 person.0 ≡ true) }
+        ensures cost { steps.new ≡ steps.old + 1 }
     {
         let started = self.is_started(steps);
         match self.state.roster().may_drop(person, role, started) {

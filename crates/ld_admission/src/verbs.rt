@@ -1,6 +1,7 @@
 //! The checks of each command.
 #![tactic(auto, unfolding(crate::specs::Checks::admitted), using(crate::proofs::CheckParts::admitted_drop, crate::proofs::NamedParts::cell_suits))]
 
+ghost use Rattle.std.specs.Prelude.{◌≡◌, ◌+◌, ◌≤◌};
 ghost use Rattle.ld_lines.specs.declared.command.RunCommand.TheVariants as asked;
 ghost use Rattle.ld_admission.specs.AdmittedView.{Answers, AnswersInMemory};
 ghost use Rattle.ld_state.specs.StateView.{run_of};
@@ -22,8 +23,9 @@ impl<'a, 's> Checker<'a, 's> {
         name: &'a Id,
         steps: &mut Steps<L>,
     ) -> Result<Admitted<'a>, Refusal<'a>>
-        ensures { Answers self.now.unit.now (run_of self.now.state.now) moment.0
+        ensures answer { Answers self.now.unit.now (run_of self.now.state.now) moment.0
             (asked.Enrol name.now) result }
+        ensures cost { steps.new ≡ steps.old + 1 }
     {
         self.in_time(moment, steps)?;
         self.may_enrol(name)?;
@@ -38,8 +40,9 @@ impl<'a, 's> Checker<'a, 's> {
         role: &Id,
         steps: &mut Steps<L>,
     ) -> Result<Admitted<'a>, Refusal<'a>>
-        ensures { Answers self.now.unit.now (run_of self.now.state.now) moment.0
+        ensures answer { Answers self.now.unit.now (run_of self.now.state.now) moment.0
             (asked.Assign name.now role.now) result }
+        ensures cost { steps.new ≡ steps.old + 1 }
     {
         self.in_time(moment, steps)?;
         let person = self.the_person(name)?;
@@ -56,8 +59,9 @@ impl<'a, 's> Checker<'a, 's> {
         role: &Id,
         steps: &mut Steps<L>,
     ) -> Result<Admitted<'a>, Refusal<'a>>
-        ensures { Answers self.now.unit.now (run_of self.now.state.now) moment.0
+        ensures answer { Answers self.now.unit.now (run_of self.now.state.now) moment.0
             (asked.Drop name.now role.now) result }
+        ensures cost { steps.new ≤ steps.old + 2 }
     {
         self.in_time(moment, steps)?;
         let person = self.the_person(name)?;
@@ -72,8 +76,9 @@ impl<'a, 's> Checker<'a, 's> {
         moment: Moment,
         steps: &mut Steps<L>,
     ) -> Result<Admitted<'a>, Refusal<'a>>
-        ensures { Answers self.now.unit.now (run_of self.now.state.now) moment.0
+        ensures answer { Answers self.now.unit.now (run_of self.now.state.now) moment.0
             asked.Start result }
+        ensures cost { steps.new ≤ steps.old + 2 }
     {
         self.in_time(moment, steps)?;
         self.not_running(steps)?;
@@ -90,8 +95,9 @@ impl<'a, 's> Checker<'a, 's> {
         activity: &Id,
         steps: &mut Steps<L>,
     ) -> Result<Admitted<'a>, Refusal<'a>>
-        ensures { Answers self.now.unit.now (run_of self.now.state.now) moment.0
+        ensures answer { Answers self.now.unit.now (run_of self.now.state.now) moment.0
             (asked.Open name.now activity.now) result }
+        ensures cost { steps.new ≤ steps.old + 2 }
     {
         let person = self.acting(moment, name, steps)?;
         let (number, _) = self.the_activity(activity)?;
@@ -107,8 +113,9 @@ impl<'a, 's> Checker<'a, 's> {
         activity: &Id,
         steps: &mut Steps<L>,
     ) -> Result<Admitted<'a>, Refusal<'a>>
-        ensures { Answers self.now.unit.now (run_of self.now.state.now) moment.0
+        ensures answer { Answers self.now.unit.now (run_of self.now.state.now) moment.0
             (asked.Complete name.now activity.now) result }
+        ensures cost { steps.new ≤ steps.old + 2 }
     {
         let person = self.acting(moment, name, steps)?;
         let (number, found) = self.the_activity(activity)?;
@@ -126,8 +133,9 @@ impl<'a, 's> Checker<'a, 's> {
         text: &PlainText,
         steps: &mut Steps<L>,
     ) -> Result<Admitted<'a>, Refusal<'a>>
-        ensures { AnswersInMemory self.now.unit.now (run_of self.now.state.now) moment.0
+        ensures answer { AnswersInMemory self.now.unit.now (run_of self.now.state.now) moment.0
             (asked.Set name.now property.now text.now) result }
+        ensures cost { steps.new ≤ steps.old + 3 }
     {
         let person = self.acting(moment, name, steps)?;
         let (number, found) = self.the_property(property)?;
@@ -144,8 +152,9 @@ impl<'a, 's> Checker<'a, 's> {
         property: &Id,
         steps: &mut Steps<L>,
     ) -> Result<Admitted<'a>, Refusal<'a>>
-        ensures { Answers self.now.unit.now (run_of self.now.state.now) moment.0
+        ensures answer { Answers self.now.unit.now (run_of self.now.state.now) moment.0
             (asked.Clear name.now property.now) result }
+        ensures cost { steps.new ≤ steps.old + 3 }
     {
         let person = self.acting(moment, name, steps)?;
         let (number, found) = self.the_property(property)?;
@@ -161,8 +170,9 @@ impl<'a, 's> Checker<'a, 's> {
         property: &Id,
         steps: &mut Steps<L>,
     ) -> Result<Admitted<'a>, Refusal<'a>>
-        ensures { Answers self.now.unit.now (run_of self.now.state.now) moment.0
+        ensures answer { Answers self.now.unit.now (run_of self.now.state.now) moment.0
             (asked.Get name.now property.now) result }
+        ensures cost { steps.new ≤ steps.old + 2 }
     {
         let person = self.acting(moment, name, steps)?;
         let (number, found) = self.the_property(property)?;
@@ -176,8 +186,9 @@ impl<'a, 's> Checker<'a, 's> {
         name: &Id,
         steps: &mut Steps<L>,
     ) -> Result<Admitted<'a>, Refusal<'a>>
-        ensures { Answers self.now.unit.now (run_of self.now.state.now) moment.0
+        ensures answer { Answers self.now.unit.now (run_of self.now.state.now) moment.0
             (asked.Tree name.now) result }
+        ensures cost { steps.new ≤ steps.old + 2 }
     {
         Ok(Admitted::ShowsTree(self.acting(moment, name, steps)?))
     }
@@ -189,8 +200,9 @@ impl<'a, 's> Checker<'a, 's> {
         name: &Id,
         steps: &mut Steps<L>,
     ) -> Result<Admitted<'a>, Refusal<'a>>
-        ensures { Answers self.now.unit.now (run_of self.now.state.now) moment.0
+        ensures answer { Answers self.now.unit.now (run_of self.now.state.now) moment.0
             (asked.Outbox name.now) result }
+        ensures cost { steps.new ≤ steps.old + 2 }
     {
         Ok(Admitted::ShowsOutbox(self.acting(moment, name, steps)?))
     }
@@ -201,8 +213,9 @@ impl<'a, 's> Checker<'a, 's> {
         moment: Moment,
         steps: &mut Steps<L>,
     ) -> Result<Admitted<'a>, Refusal<'a>>
-        ensures { Answers self.now.unit.now (run_of self.now.state.now) moment.0
+        ensures answer { Answers self.now.unit.now (run_of self.now.state.now) moment.0
             asked.Report result }
+        ensures cost { steps.new ≤ steps.old + 2 }
     {
         self.in_running(moment, steps)?;
         Ok(Admitted::Reports)
@@ -214,8 +227,9 @@ impl<'a, 's> Checker<'a, 's> {
         moment: Moment,
         steps: &mut Steps<L>,
     ) -> Result<Admitted<'a>, Refusal<'a>>
-        ensures { Answers self.now.unit.now (run_of self.now.state.now) moment.0
+        ensures answer { Answers self.now.unit.now (run_of self.now.state.now) moment.0
             asked.Tick result }
+        ensures cost { steps.new ≤ steps.old + 2 }
     {
         self.in_running(moment, steps)?;
         Ok(Admitted::Ticks)
