@@ -1,5 +1,5 @@
 -- What a view of a state shows of its run: the same values, which suit their cells and can be printed.
-use Rattle.std.proofs.Common.{◌≡◌, refl, sym, ap, subst, ◌∙◌, ℕ, ℤ, List, length, Option, Some, None, true, Contains, IfSome}
+use Rattle.std.proofs.Common.{◌≡◌, refl, sym, ap, ap₂, subst, ◌∙◌, ℕ, ℤ, ◌+◌, ◌≤◌, List, length, Option, Some, None, true, Contains, IfSome, arith}
 use Rattle.ld_base.specs.Maybe.{◌>>=◌}
 use Rattle.ld_value.specs.Calendar.{IsMoment}
 use Rattle.ld_value.specs.Datum.{Datum, text_datum, truth_datum, number_datum, moment_datum, span_datum}
@@ -13,12 +13,14 @@ use Rattle.ld_expr.specs.Lookup.{is_some_and}
 use Rattle.ld_expr.specs.Seen.{Seen, moment_of_value}
 use Rattle.ld_state.specs.Layout.{Layout, cells_in, slot_in}
 use Rattle.ld_state.specs.RunCells.{all_cells, cell_kind, suits_cell}
+use Rattle.ld_state.specs.RunState.{seen_in}
 use Rattle.ld_state.specs.StateView.{StateView, IsStateOf, run_of, seen_in_slot, seen_of}
 use Rattle.ld_state.proofs.Elements.{IsIn, contains_from_in, in_stands, none_is_some, some_same, different}
 use Rattle.ld_state.proofs.Laid.{cells_laid}
 use Rattle.ld_state.proofs.SeenSame.{persons_counted, seen_same}
 use Rattle.ld_state.proofs.Standing.{stands_at}
 use Rattle.ld_firing.specs.RunSystem.{IsSoundRun}
+use Rattle.ld_tree.specs.TreeLooks.{tree_looks}
 use Rattle.ld_replies.specs.Printing.{HasMoments}
 
 -- ---- values that can be printed
@@ -93,3 +95,13 @@ module _ (unit : Unit) (s : StateView) (own : IsStateOf unit s) where
     pub value_printable : (name : CellName) (value : Option Datum) → value ≡ (seen_of s).value name → IfSome value HasText
     value_printable name None is = tt
     value_printable name (Some value) is = suits_printable unit name value (value_suits name value (sym is))
+
+-- ---- what a tree costs
+
+-- The looks of a tree of a state are those of a tree of its run.
+pub tree_costs : (unit : Unit) (s : StateView) → IsStateOf unit s → (one : Unit) (view : StateView) → one ≡ unit → view ≡ s
+    → (p before after : ℕ) → after ≤ before + length (tree_looks one (seen_of view) p)
+    → after ≤ before + length (tree_looks unit (seen_in unit (run_of s)) p)
+tree_costs unit s own one view same_unit same_view p before after cost =
+    let looks = ap₂ (λ (u : Unit) (seen : Seen). length (tree_looks u seen p)) same_unit (ap seen_of same_view ∙ seen_same unit s own) in
+    omega (arith, cost, looks)

@@ -3,3 +3,4 @@ pub mod Printing
 pub mod Replies
 pub mod Reports
 pub mod RoleLines
+pub mod ShownSteps

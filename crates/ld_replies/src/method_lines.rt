@@ -1,5 +1,6 @@
 //! The lines of a report that tell what is done of the method, and what is opened.
-ghost use Rattle.std.specs.Prelude.{◌≡◌, ◌∷◌, [], codes, fold, flat_map, is_some, OnOk, option_copied, option_map};
+ghost use Rattle.std.specs.Prelude.{◌≡◌, ◌+◌, ◌≤◌, ◌∷◌, [], codes, fold, flat_map, is_some, length, OnOk, option_copied, option_map};
+ghost use Rattle.std.specs.List.{sum_by};
 ghost use Rattle.std.specs.Option.{ForSome};
 ghost use Rattle.ld_model.specs.declared.cell.CellName.TheVariants.{Started};
 ghost use Rattle.ld_model.specs.declared.cell.Owner.TheVariants.{Run};
@@ -11,6 +12,7 @@ ghost use Rattle.ld_value.specs.Datum.{datum_of};
 ghost use Rattle.ld_replies.specs.Printed.{printed_after, worded};
 ghost use Rattle.ld_replies.specs.Printing.{HasMoments};
 ghost use Rattle.ld_replies.specs.Reports.{done_or_open, moment_word, progress_word, report_of_act, report_of_part, report_of_play};
+ghost use Rattle.ld_replies.specs.ShownSteps.{act_steps, play_steps};
 
 use crate::printed::Lines;
 use ld_base::{Id, NoMemory, Steps};
@@ -33,8 +35,9 @@ impl<'a, V: View> Reporter<'a, V> {
         lines: &mut Lines,
         steps: &mut Steps<L>,
     ) -> Result<(), NoMemory>
-        ensures { OnOk result (lines.new ≡ printed_after lines.old
+        ensures lines { OnOk result (lines.new ≡ printed_after lines.old
             (codes "started" ∷ moment_word ((V.seen self.now.scope.view.now).value Started))) }
+        ensures cost { steps.new ≤ steps.old + 1 }
     {
         lines.begin("started")?;
         add_moment_of(self.look(CellName::Started, steps), lines)?;
@@ -48,9 +51,10 @@ impl<'a, V: View> Reporter<'a, V> {
         lines: &mut Lines,
         steps: &mut Steps<L>,
     ) -> Result<(), NoMemory>
-        ensures { OnOk result (lines.new ≡ fold printed_after lines.old
+        ensures lines { OnOk result (lines.new ≡ fold printed_after lines.old
             (flat_map (report_of_play self.now.scope.unit.now
             (V.seen self.now.scope.view.now)) plays.now)) }
+        ensures cost { steps.new ≤ steps.old + sum_by play_steps plays.now }
     {
         for play in plays {
             self.put_play(play, lines, steps)?;
@@ -64,10 +68,11 @@ impl<'a, V: View> Reporter<'a, V> {
         lines: &mut Lines,
         steps: &mut Steps<L>,
     ) -> Result<(), NoMemory>
-        ensures { OnOk result (lines.new ≡ printed_after lines.old
+        ensures lines { OnOk result (lines.new ≡ printed_after lines.old
             (codes "unit" ∷ self.now.scope.unit.now.identifier ∷ done_or_open (is_done self.now.scope.unit.now
             (V.seen self.now.scope.view.now) Run
             self.now.scope.unit.now.identifier) ∷ [])) }
+        ensures cost { steps.new ≤ steps.old + 1 }
     {
         let done = self.is_done(&self.scope.unit.identifier, steps);
         lines.begin("unit")?;
@@ -83,9 +88,10 @@ impl<'a, V: View> Reporter<'a, V> {
         lines: &mut Lines,
         steps: &mut Steps<L>,
     ) -> Result<(), NoMemory>
-        ensures { OnOk result (lines.new ≡ fold printed_after lines.old
+        ensures lines { OnOk result (lines.new ≡ fold printed_after lines.old
             (report_of_play self.now.scope.unit.now
             (V.seen self.now.scope.view.now) play.now)) }
+        ensures cost { steps.new ≤ steps.old + play_steps play.now }
     {
         let done = self.is_done(&play.identifier, steps);
         lines.begin("play")?;
@@ -102,9 +108,10 @@ impl<'a, V: View> Reporter<'a, V> {
         lines: &mut Lines,
         steps: &mut Steps<L>,
     ) -> Result<(), NoMemory>
-        ensures { OnOk result (lines.new ≡ fold printed_after lines.old
+        ensures lines { OnOk result (lines.new ≡ fold printed_after lines.old
             (flat_map (report_of_act self.now.scope.unit.now
             (V.seen self.now.scope.view.now)) acts.now)) }
+        ensures cost { steps.new ≤ steps.old + sum_by act_steps acts.now }
     {
         for act in acts {
             self.put_act(act, lines, steps)?;
@@ -119,9 +126,10 @@ impl<'a, V: View> Reporter<'a, V> {
         lines: &mut Lines,
         steps: &mut Steps<L>,
     ) -> Result<(), NoMemory>
-        ensures { OnOk result (lines.new ≡ fold printed_after lines.old
+        ensures lines { OnOk result (lines.new ≡ fold printed_after lines.old
             (report_of_act self.now.scope.unit.now
             (V.seen self.now.scope.view.now) act.now)) }
+        ensures cost { steps.new ≤ steps.old + act_steps act.now }
     {
         let opening = self.opening(act, steps);
         let opened = opening.is_some();
@@ -144,10 +152,11 @@ impl<'a, V: View> Reporter<'a, V> {
     ) -> Result<(), NoMemory>
         requires { opened ≡ is_opened self.now.scope.unit.now
             (V.seen self.now.scope.view.now) act.now }
-        ensures { OnOk result (lines.new ≡ fold printed_after lines.old
+        ensures lines { OnOk result (lines.new ≡ fold printed_after lines.old
             (flat_map (λ part. report_of_part self.now.scope.unit.now
             (V.seen self.now.scope.view.now) act.now part ∷ [])
             act.now.role_parts)) }
+        ensures cost { steps.new ≤ steps.old + length act.now.role_parts }
     {
         for part in act.role_parts.as_slice() {
             self.put_part(part, opened, lines, steps)?;
@@ -163,10 +172,11 @@ impl<'a, V: View> Reporter<'a, V> {
         lines: &mut Lines,
         steps: &mut Steps<L>,
     ) -> Result<(), NoMemory>
-        ensures { OnOk result (lines.new ≡ printed_after lines.old
+        ensures lines { OnOk result (lines.new ≡ printed_after lines.old
             (codes "part" ∷ part.now.identifier ∷ progress_word (is_done self.now.scope.unit.now
             (V.seen self.now.scope.view.now) Run
             part.now.identifier) opened ∷ [])) }
+        ensures cost { steps.new ≤ steps.old + 1 }
     {
         let done = self.is_done(&part.identifier, steps);
         lines.begin("part")?;
@@ -177,8 +187,9 @@ impl<'a, V: View> Reporter<'a, V> {
 
     /// Whether what the identifier names is done for the run.
     fn is_done<L: Ledger>(&self, id: &Id, steps: &mut Steps<L>) -> bool
-        ensures { result ≡ is_done self.now.scope.unit.now
+        ensures value { result ≡ is_done self.now.scope.unit.now
             (V.seen self.now.scope.view.now) Run id.now }
+        ensures cost { steps.new ≤ steps.old + 1 }
     {
         self.scope.is_done(Owner::Run, id, steps)
     }
@@ -189,6 +200,7 @@ impl<'a, V: View> Reporter<'a, V> {
             (V.seen self.now.scope.view.now) act.now }
         ensures dated { ForSome (moment_of_value (option_map datum_of (option_copied result)))
             IsMoment }
+        ensures cost { steps.new ≤ steps.old + 1 }
     {
         let thing = thing_number(self.scope.unit, self.scope.names, &act.identifier)?;
         self.look(CellName::ActOpened(thing), steps)
@@ -200,6 +212,7 @@ impl<'a, V: View> Reporter<'a, V> {
             ≡ (V.seen self.now.scope.view.now).value cell }
         ensures dated { ForSome (moment_of_value (option_map datum_of (option_copied result)))
             IsMoment }
+        ensures cost { steps.new ≡ steps.old + 1 }
     {
         self.scope.view.get(cell, steps)
     }

@@ -7,11 +7,13 @@ ghost use Rattle.ld_firing.specs.RunSystem.{IsSoundRun};
 ghost use Rattle.ld_firing.specs.SettledView.{sums_in};
 ghost use Rattle.ld_tree.specs.Lines.{line_text, spaced};
 ghost use Rattle.ld_tree.specs.Tree.{tree_lines};
+ghost use Rattle.ld_tree.specs.TreeLooks.{tree_looks};
 ghost use Rattle.ld_admission.specs.AdmittedView.{HasPropertyCell, admitted_of};
 ghost use Rattle.ld_replies.specs.Printing.{AreNoticesOf, IsPrintable, IsTellable};
 ghost use Rattle.ld_admission.specs.RefusalView.{refusal_of};
 ghost use Rattle.ld_replies.specs.Replies.{counted_lines, printed_value, refusal_text, sums_text, told_line, verb_of};
 ghost use Rattle.ld_replies.specs.Reports.{outbox_lines, report_lines};
+ghost use Rattle.ld_replies.specs.ShownSteps.{report_steps, shown_steps};
 
 use crate::outbox::put_outbox;
 use crate::printed::Lines;
@@ -50,6 +52,8 @@ pub fn push_done<L: Ledger>(
     ensures text { OnOk result (out.new.bytes ≡ out.old.bytes
         ++ (told_line unit.now (run_of state.now) (admitted_of command.now) totals.turns (sums_in totals))) }
     ensures room { KeepsRoom out.old out.new }
+    ensures cost { steps.new
+        ≤ steps.old + shown_steps unit.now (run_of state.now) (admitted_of command.now) }
 {
     out.push(beginning_of(command))?;
     push_sums(totals, out)?;
@@ -152,6 +156,7 @@ fn push_cell<L: Ledger>(
     ensures text { OnOk result (out.new.bytes ≡ out.old.bytes
         ++ (codes " value=" ++ printed_value ((run_of state.now).cells cell))) }
     ensures room { KeepsRoom out.old out.new }
+    ensures cost { steps.new ≤ steps.old + 1 }
 {
     out.push(" value=")?;
     push_value(alloc, state.get(cell, steps), out)?;
@@ -171,6 +176,8 @@ fn push_tree<L: Ledger>(
     ensures text { OnOk result (out.new.bytes ≡ out.old.bytes ++ counted_lines (map line_text
         (tree_lines unit.now (seen_in unit.now (run_of state.now)) person.0))) }
     ensures room { KeepsRoom out.old out.new }
+    ensures cost { steps.new ≤ steps.old + length (tree_looks unit.now
+        (seen_in unit.now (run_of state.now)) person.0) }
 {
     let mut text = String::from_str(alloc, out.as_str())?;
     text.push_str(" lines=")?;
@@ -219,6 +226,7 @@ fn push_report<L: Ledger>(
     ensures text { OnOk result (out.new.bytes ≡ out.old.bytes
         ++ counted_lines (map spaced (report_lines unit.now (run_of state.now)))) }
     ensures room { KeepsRoom out.old out.new }
+    ensures cost { steps.new ≤ steps.old + report_steps unit.now }
 {
     let mut lines = Lines::new(alloc);
     put_report(alloc, unit, state, &mut lines, steps)?;

@@ -1,9 +1,10 @@
 //! The lines of a report.
-ghost use Rattle.std.specs.Prelude.{◌≡◌, ◌∷◌, [], codes, decimal, fold, OnOk};
+ghost use Rattle.std.specs.Prelude.{◌≡◌, ◌+◌, ◌≤◌, ◌∷◌, [], codes, decimal, fold, OnOk};
 ghost use Rattle.ld_state.specs.StateView.{IsStateOf, run_of};
 ghost use Rattle.ld_firing.specs.RunSystem.{IsSoundRun};
 ghost use Rattle.ld_replies.specs.Printed.{printed_after};
 ghost use Rattle.ld_replies.specs.Reports.{report_lines};
+ghost use Rattle.ld_replies.specs.ShownSteps.{report_steps};
 
 use crate::method_lines::Reporter;
 use crate::printed::Lines;
@@ -24,8 +25,9 @@ pub(crate) fn put_report<L: Ledger>(
 ) -> Result<(), NoMemory>
     requires own { IsStateOf unit.now state.now }
     requires sound { IsSoundRun unit.now (run_of state.now) }
-    ensures { OnOk result (lines.new
+    ensures lines { OnOk result (lines.new
         ≡ fold printed_after lines.old (report_lines unit.now (run_of state.now))) }
+    ensures cost { steps.new ≤ steps.old + report_steps unit.now }
 {
     let reporter = Reporter {
         scope: unit.scope(state),

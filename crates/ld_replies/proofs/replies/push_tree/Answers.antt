@@ -5,6 +5,7 @@ use Rattle.ld_state.specs.StateView.{run_of, seen_of}
 use Rattle.ld_tree.specs.Lines.{line_text, lines_text}
 use Rattle.ld_tree.specs.Tree.{tree_lines}
 use Rattle.ld_replies.proofs.Placed.{number_placed_at, place_ends_at}
+use Rattle.ld_replies.proofs.SeenInRuns.{tree_costs}
 use Rattle.ld_state.proofs.SeenSame.{seen_same}
 use Rattle.ld_replies.proofs.replies.push_tree.Goals as goal
 
@@ -50,3 +51,19 @@ returns-clause-text g c =
     let digits : number ≡ decimal (length lines) = c.format.ensures.text ∙ ap decimal count in
     all ∙ replaced ∙ ap₂ (λ (t n : List ℕ). t ++ (n ++ lines_text lines)) begins digits
     ∙ append_assoc out (codes " lines=") (decimal (length lines) ++ lines_text lines)
+
+pub returns-in_err-text-2-clause-cost : goal.returns-in_err-text-2-clause-cost
+returns-in_err-text-2-clause-cost g c =
+    tree_costs c.args.unit.now c.args.state.now c.requires c.scope.result.unit.now c.scope.result.view.now c.scope.ensures.unit c.scope.ensures.view c.args.person.0 c.args.steps.now c.tree_text.new.steps c.tree_text.ensures.cost
+
+pub returns-in_err-replace_range-clause-cost : goal.returns-in_err-replace_range-clause-cost
+returns-in_err-replace_range-clause-cost g c =
+    tree_costs c.args.unit.now c.args.state.now c.requires c.scope.result.unit.now c.scope.result.view.now c.scope.ensures.unit c.scope.ensures.view c.args.person.0 c.args.steps.now c.tree_text.new.steps c.tree_text.ensures.cost
+
+pub returns-in_err-append-clause-cost : goal.returns-in_err-append-clause-cost
+returns-in_err-append-clause-cost g c =
+    tree_costs c.args.unit.now c.args.state.now c.requires c.scope.result.unit.now c.scope.result.view.now c.scope.ensures.unit c.scope.ensures.view c.args.person.0 c.args.steps.now c.tree_text.new.steps c.tree_text.ensures.cost
+
+pub returns-clause-cost : goal.returns-clause-cost
+returns-clause-cost g c =
+    tree_costs c.args.unit.now c.args.state.now c.requires c.scope.result.unit.now c.scope.result.view.now c.scope.ensures.unit c.scope.ensures.view c.args.person.0 c.args.steps.now c.tree_text.new.steps c.tree_text.ensures.cost
