@@ -17,6 +17,7 @@ processor of each, and how many times as long `ld` takes. The loads, of which LE
     g  200,000 lines of which one in three asks for a small tree, one names nobody, and one is no command
     h  the unit of a: 99 persons join a started run, and are given the role
     i  the like with 50 persons, and 100 completions that are refused, since the activity is not open
+    j  300 properties of which all runs share each person's value, 200 persons, and 1,000 lines that only read
 
 With --keep, the folders and the inputs are left in FOLDER, each below its letter.
 """
@@ -232,7 +233,17 @@ def load_i():
     return documents(unit, activities, [all_of(300)], [integer("score")], scoring(290)), words
 
 
-LOADS = {"a": load_a, "b": load_b, "c": load_c, "d": load_d, "e": load_e, "f": load_f, "g": load_g, "h": load_h, "i": load_i}
+def load_j():
+    """Values of 200 persons that all runs share, which nobody writes while they are read."""
+    persons = persons_of(200)
+    properties = [integer(f"v{number}", "globpers", uri=f"urn:v{number}") for number in range(300)]
+    asked = [["get", "r", persons[number % 200], f"v{number % 300}"] for number in range(600)]
+    words = [*started_run(persons), *(["tick", "r"] if number % 2 else asked[number % 600] for number in range(1_000))]
+    return documents(learner_unit("B", "a0"), by_choice(1), properties=properties), words
+
+
+LOADS = {"a": load_a, "b": load_b, "c": load_c, "d": load_d, "e": load_e, "f": load_f, "g": load_g, "h": load_h, "i": load_i,
+         "j": load_j}
 
 
 def write_load(place, load):

@@ -6,7 +6,8 @@ ghost use Rattle.ld_firing.specs.SettledView.{settlement_of};
 ghost use Rattle.ld_firing.specs.Telling.{Tells};
 ghost use Rattle.ld_settling.specs.RunLinking.{RunLinksFollow};
 ghost use Rattle.ld_value.specs.Calendar.{IsMoment};
-ghost use Rattle.ld_sharing.specs.Fitting.{TakesFitting};
+ghost use Rattle.ld_sharing.specs.Current.{IsCurrentAsOf};
+ghost use Rattle.ld_sharing.specs.Fitting.{HasFittingGlobals, TakesFitting};
 ghost use Rattle.ld_sharing.specs.Globals.{taking_in};
 ghost use Rattle.ld_sharing.specs.StoreView.{Serves, values_of};
 ghost use Rattle.ld_admission.specs.Checks.{is_started};
@@ -44,6 +45,7 @@ pub(crate) fn do_admitted<L: Ledger>(
     state: &mut State,
     links: &mut RunLinks,
     globals: &Globals,
+    stamp: u64,
     scratch: &mut Scratch,
     moment: Moment,
     command: &Admitted<'_>,
@@ -52,6 +54,7 @@ pub(crate) fn do_admitted<L: Ledger>(
     requires own { IsStateOf unit.now state.old }
     requires running { IsRunning unit.now (run_of state.old) links.old }
     requires serves { Serves globals.now unit.now }
+    requires current { IsCurrentAsOf unit.now (run_of state.old) stamp globals.now }
     requires may { MayBeDone unit.now (run_of state.old) moment.0 (admitted_of command.now) }
     requires persons { HasSavedPersons state.old }
     ensures done { IfOk result (λ totals. done_by unit.now (run_of state.old)
@@ -69,7 +72,9 @@ pub(crate) fn do_admitted<L: Ledger>(
     ensures follows { renews_sites (admitted_of command.now) ≡ false
         → RunLinksFollow links.old links.new }
 {
-    let first = match settle_first(alloc, unit, state, links, globals, scratch, moment, steps) {
+    let first = match settle_first(
+        alloc, unit, state, links, globals, stamp, scratch, moment, steps,
+    ) {
         Ok(settled) => settled,
         Err(refusal) => return Err(refusal),
     };
@@ -88,14 +93,15 @@ pub(crate) fn do_admitted<L: Ledger>(
     }
 }
 
-/// Keeps the moment as the run's last one, takes in the store's values, and settles a run that is
-/// started. What was possible stays possible.
+/// Keeps the moment as the run's last one, takes in the store's values that were written since the
+/// stamp, and settles a run that is started. What was possible stays possible.
 fn settle_first<L: Ledger>(
     alloc: Global,
     unit: &PreparedUnit,
     state: &mut State,
     links: &mut RunLinks,
     globals: &Globals,
+    stamp: u64,
     scratch: &mut Scratch,
     moment: Moment,
     steps: &mut Steps<L>,
@@ -103,6 +109,7 @@ fn settle_first<L: Ledger>(
     requires own { IsStateOf unit.now state.old }
     requires running { IsRunning unit.now (run_of state.old) links.old }
     requires serves { Serves globals.now unit.now }
+    requires current { IsCurrentAsOf unit.now (run_of state.old) stamp globals.now }
     requires moment { IsMoment moment.0 }
     ensures settled { IfOk result (λ totals. settled (is_started (run_of state.old)) unit.now
         (taking_in unit.now (values_of globals.now) (at_moment (run_of state.old) moment.0))
@@ -120,7 +127,7 @@ fn settle_first<L: Ledger>(
 {
     scratch.changed.clear();
     let refreshed = &mut scratch.changed;
-    if let Err(_) = refresh(alloc, unit, state, globals, moment, refreshed, steps) {
+    if let Err(_) = refresh(alloc, unit, state, globals, stamp, moment, refreshed, steps) {
         return Err(Refusal::NoMemory);
     }
     let started = is_started(unit, state, steps);
@@ -179,19 +186,23 @@ fn settle_changed<L: Ledger>(
     settle_if(alloc, settles, how, unit, state, links, scratch, steps)
 }
 
-/// Keeps the moment as the run's last one, and takes in the store's values.
+/// Keeps the moment as the run's last one, and takes in the store's values that were written since
+/// the stamp.
 fn refresh<L: Ledger>(
     alloc: Global,
     unit: &PreparedUnit,
     state: &mut State,
     globals: &Globals,
+    stamp: u64,
     moment: Moment,
     changed: &mut Vec<u32>,
     steps: &mut Steps<L>,
 ) -> Result<(), NoMemory>
     requires own { IsStateOf unit.now state.old }
     requires sound { IsSoundRun unit.now (run_of state.old) }
+    requires fitting { HasFittingGlobals unit.now (run_of state.old) }
     requires serves { Serves globals.now unit.now }
+    requires current { IsCurrentAsOf unit.now (run_of state.old) stamp globals.now }
     requires moment { IsMoment moment.0 }
     ensures run { OnOk result (run_of state.new
         ≡ taking_in unit.now (values_of globals.now) (at_moment (run_of state.old) moment.0)) }
@@ -204,7 +215,7 @@ fn refresh<L: Ledger>(
         changed.old.items changed.new.items) }
 {
     set_moment(unit, state, moment, changed)?;
-    take_in(alloc, unit, state, globals, changed, steps)
+    take_in(alloc, unit, state, globals, stamp, changed, steps)
 }
 
 /// Keeps the moment as the run's last one.

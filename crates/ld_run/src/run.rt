@@ -1,10 +1,12 @@
 //! A run of a unit.
 ghost use Rattle.std.specs.Prelude.{◌≡◌, ◌≤◌, Err, IfOk, None, false};
 ghost use Rattle.ld_base.specs.Roomy.{room_of};
+ghost use Rattle.ld_globals.specs.Store.{KeepsWrites};
 ghost use Rattle.ld_roles.specs.declared.limit.TheConstants.{SEATS};
 ghost use Rattle.ld_state.specs.RunState.{made_at};
 ghost use Rattle.ld_state.specs.StateView.{IsStateOf, run_of};
 ghost use Rattle.ld_value.specs.Calendar.{IsMoment};
+ghost use Rattle.ld_sharing.specs.Current.{IsCurrentAsOf};
 ghost use Rattle.ld_sharing.specs.StoreView.{Serves, values_of};
 ghost use Rattle.ld_admission.specs.AdmittedView.{wants_memory};
 ghost use Rattle.ld_admission.specs.Checks.{admitted};
@@ -33,13 +35,17 @@ use std::marker::Model;
 use std::rc::Rc;
 use std::sync::ledger::Ledger;
 
-/// A run of a unit. Contracts see it as the unit, the state of the run and the links of its sites.
-/// (docs/MEANING.md, "A command")
+/// A run of a unit. Contracts see it as the unit, the state of the run, the links of its sites, and
+/// the stamp of the store up to which it has taken in the store's values. (docs/MEANING.md, "A
+/// command")
 pub struct Run {
     unit: Rc<PreparedUnit>,
     state: State,
     /// Those of its sites, once it is started.
     links: RunLinks,
+    /// The store's stamp after the last command that was done, or when the run was made: up to it
+    /// the run has taken in what the store holds.
+    stamp: u64,
 }
 
 // By hand, so that a function which lets one go calls this and is not proved over each field again.
@@ -49,6 +55,7 @@ impl Drop for Run {
             unit: _,
             state: _,
             links: _,
+            stamp: _,
         } = self;
     }
 }
@@ -67,7 +74,12 @@ impl Model for Run {
     ghost use Rattle.ld_run.specs.Reached.{IsReached as HasCome};
     ghost use Rattle.ld_run.specs.Running.{IsRunning};
 
-    ghost view = { λ s. record { unit = s.unit.value; state = s.state; links = s.links } };
+    ghost view = { λ s. record {
+      unit = s.unit.value;
+      state = s.state;
+      links = s.links;
+      stamp = s.stamp;
+    } };
 
     ghost invariant = { λ s. IsStateOf s.unit.value s.state
         × IsRunning s.unit.value (state_of s.state) s.links × (s.state.kept ≡ None)
@@ -91,15 +103,24 @@ impl Run {
             ≡ made_at SEATS unit.value (values_of globals.now) moment.0) }
         ensures reached { IfOk result (λ run. IsReached run.unit (run_of run.state)) }
         ensures linked { IfOk result (λ run. AreLinked run.unit (run_of run.state) run.links) }
+        ensures current { IfOk result (λ run.
+            IsCurrentAsOf run.unit (run_of run.state) run.stamp globals.now) }
     {
         let links = RunLinks::new(alloc);
         let state = begin(alloc, &unit, globals, moment, steps)?;
-        Ok(Run { unit, state, links })
+        let stamp = globals.stamp();
+        Ok(Run {
+            unit,
+            state,
+            links,
+            stamp,
+        })
     }
 
     /// Does the command at the moment, or refuses it: the reply says which, and `out` is emptied and
-    /// then holds the reply block. The run takes in the store's values of its global properties, and
-    /// the store takes them back. Lists that it makes on its way stand in the room that is lent.
+    /// then holds the reply block. The run takes in the store's values of its global properties that
+    /// were written since its stamp, and the store takes its values back. Only a command that is done
+    /// moves the stamp. Lists that it makes on its way stand in the room that is lent.
     ///
     /// Where memory runs out the reply says so, and the command counts as not given. What a check
     /// refuses is answered by that refusal, with or without memory; the value of a `set` alone may
@@ -115,6 +136,8 @@ impl Run {
         steps: &mut Steps<L>,
     ) -> Reply
         requires serves { Serves globals.old self.old.unit }
+        requires current { IsCurrentAsOf self.old.unit (run_of self.old.state) self.old.stamp
+            globals.old }
         requires moment { IsMoment moment.0 }
         requires room { 128 ≤ room_of out.old }
         ensures unit { self.new.unit ≡ self.old.unit }
@@ -125,6 +148,9 @@ impl Run {
             → admitted self.old.unit (run_of self.old.state) moment.0 command.now ≡ Err refusal
             → wants_memory command.now ≡ false → result ≡ reply_to_refusal refusal }
         ensures declared { globals.new.declared ≡ globals.old.declared }
+        ensures kept { KeepsWrites globals.old globals.new }
+        ensures current { IsCurrentAsOf self.new.unit (run_of self.new.state) self.new.stamp
+            globals.new }
         ensures reached { IsReached self.new.unit (run_of self.new.state) }
         ensures linked { AreLinked self.new.unit (run_of self.new.state) self.new.links }
         ensures room { 128 ≤ room_of out.new }
@@ -143,6 +169,7 @@ impl Run {
         ensures state { self.new.state ≡ record self.old.state { spare = undo_log.old } }
         ensures log { undo_log.new ≡ self.old.state.spare }
         ensures links { self.new.links ≡ self.old.links }
+        ensures stamp { self.new.stamp ≡ self.old.stamp }
     {
         self.state.exchange(undo_log);
     }
@@ -159,6 +186,8 @@ impl Run {
         steps: &mut Steps<L>,
     ) -> Reply
         requires serves { Serves globals.old self.old.unit }
+        requires current { IsCurrentAsOf self.old.unit (run_of self.old.state) self.old.stamp
+            globals.old }
         requires moment { IsMoment moment.0 }
         requires room { 128 ≤ room_of out.old }
         ensures unit { self.new.unit ≡ self.old.unit }
@@ -169,6 +198,9 @@ impl Run {
             → admitted self.old.unit (run_of self.old.state) moment.0 command.now ≡ Err refusal
             → wants_memory command.now ≡ false → result ≡ reply_to_refusal refusal }
         ensures declared { globals.new.declared ≡ globals.old.declared }
+        ensures kept { KeepsWrites globals.old globals.new }
+        ensures current { IsCurrentAsOf self.new.unit (run_of self.new.state) self.new.stamp
+            globals.new }
         ensures reached { IsReached self.new.unit (run_of self.new.state) }
         ensures linked { AreLinked self.new.unit (run_of self.new.state) self.new.links }
         ensures room { 128 ≤ room_of out.new }
@@ -179,13 +211,17 @@ impl Run {
             &mut self.state,
             &mut self.links,
             globals,
+            self.stamp,
             scratch,
             moment,
             command,
             out,
             steps,
         ) {
-            Ok(totals) => return Reply::Done(totals),
+            Ok(totals) => {
+                self.stamp = globals.stamp();
+                return Reply::Done(totals);
+            }
             Err(refusal) => refusal,
         };
         tell_refusal(refusal, out);

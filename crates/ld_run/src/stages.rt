@@ -1,10 +1,12 @@
 //! What a command does to its run and to the store, in stages.
 ghost use Rattle.std.specs.Prelude.{◌≡◌, ◌++◌, ◌∷◌, [], false, Err, IfErr, IfOk, None, Ok, OnErr, OnOk};
 ghost use Rattle.ld_base.specs.Roomy.{KeepsRoom};
+ghost use Rattle.ld_globals.specs.Store.{KeepsWrites};
 ghost use Rattle.ld_state.specs.GlobalValues.{GlobalValues};
 ghost use Rattle.ld_state.specs.StateView.{HasSavedPersons, IsStateOf, run_of};
 ghost use Rattle.ld_settling.specs.RunLinking.{RunLinksFollow};
 ghost use Rattle.ld_value.specs.Calendar.{IsMoment};
+ghost use Rattle.ld_sharing.specs.Current.{IsCurrentAsOf};
 ghost use Rattle.ld_sharing.specs.Globals.{giving_back};
 ghost use Rattle.ld_sharing.specs.StoreView.{Serves, values_of};
 ghost use Rattle.ld_sharing.specs.Writes.{AreWritesOf};
@@ -38,14 +40,15 @@ use std::alloc::Global;
 use std::sync::ledger::Ledger;
 
 /// Does the command at the moment: `out` is emptied and then holds the reply block. The run takes
-/// in the store's values, and the store takes the run's. A refusal leaves the run and the store's
-/// values as they were.
+/// in the store's values that were written since the stamp, and the store takes the run's. A refusal
+/// leaves the run and the store's values as they were.
 pub(crate) fn step<'a, L: Ledger>(
     alloc: Global,
     unit: &'a PreparedUnit,
     state: &mut State,
     links: &mut RunLinks,
     globals: &mut Globals,
+    stamp: u64,
     scratch: &mut Scratch,
     moment: Moment,
     command: &'a RunCommand,
@@ -55,6 +58,7 @@ pub(crate) fn step<'a, L: Ledger>(
     requires own { IsStateOf unit.now state.old }
     requires running { IsRunning unit.now (run_of state.old) links.old }
     requires serves { Serves globals.old unit.now }
+    requires current { IsCurrentAsOf unit.now (run_of state.old) stamp globals.old }
     requires moment { IsMoment moment.0 }
     requires no_savepoint { state.old.kept ≡ None }
     ensures done { IfOk result (λ totals. (d : DoneCommand) × (run_step unit.now (run_of state.old)
@@ -68,7 +72,10 @@ pub(crate) fn step<'a, L: Ledger>(
         → wants_memory command.now ≡ false → IsRefusedWith refusal result }
     ensures back { OnErr result (run_of state.new ≡ run_of state.old) }
     ensures untouched { OnErr result (values_of globals.new ≡ values_of globals.old) }
+    ensures given { OnOk result (values_of globals.new
+        ≡ giving_back unit.now (run_of state.new) (values_of globals.old)) }
     ensures declared { globals.new.declared ≡ globals.old.declared }
+    ensures stamps { KeepsWrites globals.old globals.new }
     ensures own { IsStateOf unit.now state.new }
     ensures running { IsRunning unit.now (run_of state.new) links.new }
     ensures printable { IfErr result (λ refusal. IsPrintable (refusal_of refusal)) }
@@ -77,7 +84,7 @@ pub(crate) fn step<'a, L: Ledger>(
 {
     match admit(alloc, unit, state, moment, command, steps) {
         Ok(admitted) => try_admitted(
-            alloc, unit, state, links, globals, scratch, moment, &admitted, out, steps,
+            alloc, unit, state, links, globals, stamp, scratch, moment, &admitted, out, steps,
         ),
         Err(refusal) => Err(refusal),
     }
@@ -91,6 +98,7 @@ fn try_admitted<'a, L: Ledger>(
     state: &mut State,
     links: &mut RunLinks,
     globals: &mut Globals,
+    stamp: u64,
     scratch: &mut Scratch,
     moment: Moment,
     command: &Admitted<'_>,
@@ -100,6 +108,7 @@ fn try_admitted<'a, L: Ledger>(
     requires own { IsStateOf unit.now state.old }
     requires running { IsRunning unit.now (run_of state.old) links.old }
     requires serves { Serves globals.old unit.now }
+    requires current { IsCurrentAsOf unit.now (run_of state.old) stamp globals.old }
     requires may { MayBeDone unit.now (run_of state.old) moment.0 (admitted_of command.now) }
     requires no_savepoint { state.old.kept ≡ None }
     ensures done { IfOk result (λ totals. (d : DoneCommand) × (done_by unit.now (run_of state.old)
@@ -111,7 +120,10 @@ fn try_admitted<'a, L: Ledger>(
         (values_of globals.old) moment.0 (admitted_of command.now))) }
     ensures back { OnErr result (run_of state.new ≡ run_of state.old) }
     ensures untouched { OnErr result (values_of globals.new ≡ values_of globals.old) }
+    ensures given { OnOk result (values_of globals.new
+        ≡ giving_back unit.now (run_of state.new) (values_of globals.old)) }
     ensures declared { globals.new.declared ≡ globals.old.declared }
+    ensures stamps { KeepsWrites globals.old globals.new }
     ensures own { IsStateOf unit.now state.new }
     ensures running { IsRunning unit.now (run_of state.new) links.new }
     ensures printable { IfErr result (λ refusal. IsPrintable (refusal_of refusal)) }
@@ -121,7 +133,7 @@ fn try_admitted<'a, L: Ledger>(
     state.mark();
     links.begin();
     match do_and_tell(
-        alloc, unit, state, links, globals, scratch, moment, command, out, steps,
+        alloc, unit, state, links, globals, stamp, scratch, moment, command, out, steps,
     ) {
         Ok((totals, writes)) => {
             state.keep();
@@ -144,6 +156,7 @@ fn do_and_tell<'u, L: Ledger>(
     state: &mut State,
     links: &mut RunLinks,
     globals: &mut Globals,
+    stamp: u64,
     scratch: &mut Scratch,
     moment: Moment,
     command: &Admitted<'_>,
@@ -153,6 +166,7 @@ fn do_and_tell<'u, L: Ledger>(
     requires own { IsStateOf unit.now state.old }
     requires running { IsRunning unit.now (run_of state.old) links.old }
     requires serves { Serves globals.old unit.now }
+    requires current { IsCurrentAsOf unit.now (run_of state.old) stamp globals.old }
     requires may { MayBeDone unit.now (run_of state.old) moment.0 (admitted_of command.now) }
     requires persons { HasSavedPersons state.old }
     ensures done { IfOk result (λ done. (d : DoneCommand) × (done_by unit.now (run_of state.old)
@@ -167,6 +181,7 @@ fn do_and_tell<'u, L: Ledger>(
         (values_of globals.old) moment.0 (admitted_of command.now))) }
     ensures values { values_of globals.new ≡ values_of globals.old }
     ensures declared { globals.new.declared ≡ globals.old.declared }
+    ensures stamps { KeepsWrites globals.old globals.new }
     ensures running { OnOk result (IsRunning unit.now (run_of state.new) links.new) }
     ensures printable { IfErr result (λ refusal. IsPrintable (refusal_of refusal)) }
     ensures own { IsStateOf unit.now state.new }
@@ -176,7 +191,7 @@ fn do_and_tell<'u, L: Ledger>(
         → RunLinksFollow links.old links.new }
 {
     let totals = match do_admitted(
-        alloc, unit, state, links, globals, scratch, moment, command, steps,
+        alloc, unit, state, links, globals, stamp, scratch, moment, command, steps,
     ) {
         Ok(totals) => totals,
         Err(refusal) => return Err(refusal),

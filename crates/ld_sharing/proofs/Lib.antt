@@ -1,12 +1,16 @@
+pub mod Currents
 pub mod GivingFirsts
 pub mod GivingKeys
 pub mod GivingLists
 pub mod GivingStores
 pub mod GivingWrites
 pub mod InitialsFit
+pub mod KeyCells
+pub mod KeysSaid
 pub mod LocalUris
 pub mod StoredParts
 pub mod TakingCells
 pub mod TakingKeys
 pub mod TakingLoops
 pub mod UrisDiffer
+pub mod WrittenCount

@@ -1,17 +1,15 @@
--- What becomes of a run that takes some cells' values from the store, and then others.
-use Rattle.std.proofs.Common.{◌≡◌, refl, sym, ap, subst, ◌∙◌, Option, None, Some, Bool, true, false, ◌||◌, cond, unwrap_or, IsSome, ◌⊎◌, inl, inr, if◌then◌else◌}
+-- What becomes of a run that takes some cells' values from the store.
+use Rattle.std.proofs.Common.{◌≡◌, refl, sym, ap, subst, ◌∙◌, Option, None, Some, Bool, true, false, cond, unwrap_or, IsSome, if◌then◌else◌}
 use mathlib.Core.Path.{fun_ext}
-use Rattle.std.proofs.lemmas.Bool.{or_cases}
 use Rattle.ld_value.specs.Datum.{Datum}
 use Rattle.ld_model.specs.Cells.{CellMap, same_cell}
 use Rattle.ld_model.specs.declared.cell.CellName.{CellName}
 use Rattle.ld_model.specs.declared.unit.Unit.{Unit}
-use Rattle.ld_roles.specs.Roster.{Persons}
 use Rattle.ld_state.specs.GlobalValues.{GlobalValues}
 use Rattle.ld_state.specs.RunState.{RunState, with_cell}
 use Rattle.ld_state.proofs.Elements.{some_same}
 use Rattle.ld_state.proofs.SameCells.{one_cell}
-use Rattle.ld_sharing.specs.Fitting.{TakesFitting, fits_cell}
+use Rattle.ld_sharing.specs.Fitting.{HasFittingGlobals, TakesFitting, fits_cell}
 use Rattle.ld_sharing.specs.Globals.{store_says, taking_in}
 use Rattle.ld_sharing.specs.Taken.{HasTaken, taking_where}
 
@@ -30,16 +28,12 @@ picked_alike : (a b : Bool) (said : Option (Option Datum)) (value : Option Datum
 picked_alike a b None value same = not_said a value ∙ sym (not_said b value)
 picked_alike a b (Some x) value same = ap (λ taken. picked taken (Some x) value) (sym (same refl))
 
-picked_twice : (a b : Bool) (said : Option (Option Datum)) (value : Option Datum)
-    → picked b said (picked a said value) ≡ picked (a || b) said value
-picked_twice true true None value = refl
-picked_twice true false None value = refl
-picked_twice false true None value = refl
-picked_twice false false None value = refl
-picked_twice true true (Some x) value = refl
-picked_twice true false (Some x) value = refl
-picked_twice false true (Some x) value = refl
-picked_twice false false (Some x) value = refl
+picked_again : (taken : Bool) (said : Option (Option Datum)) (value : Option Datum)
+    → unwrap_or said (picked taken said value) ≡ unwrap_or said value
+picked_again true None value = refl
+picked_again false None value = refl
+picked_again true (Some x) value = refl
+picked_again false (Some x) value = refl
 
 -- ---- runs
 
@@ -73,37 +67,60 @@ module _ (unit : Unit) (store : GlobalValues) (test : CellName → Bool) where
         taken.fitting c value (sym (same c (subst IsSome (sym said) refl)) ∙ takes) said;
   }
 
-  -- All cells' values.
-  pub taken_all : (s t : RunState) → HasTaken unit store test s t
-      → ((c : CellName) → IsSome (store_says unit store s.persons c) → test c ≡ true)
-      → (t ≡ taking_in unit store s) × TakesFitting unit store s.persons
-  taken_all s t taken all = (
-    taken.run ∙ same_run s (taking_where test unit store s).cells (taking_in unit store s).cells
-        (λ c. picked_alike (test c) true (store_says unit store s.persons c) (s.cells c) (λ some. sym (all c some))),
-    λ c value said. taken.fitting c value (all c (subst IsSome (sym said) refl)) said,
-  )
+  module _ (s t : RunState) (taken : HasTaken unit store test s t) where
+    cell_after : (cell : CellName) → t.cells cell ≡ picked (test cell) (store_says unit store s.persons cell) (s.cells cell)
+    cell_after cell = ap (λ (run : RunState). run.cells cell) taken.run
 
-  -- First some cells' values, and then others'.
-  pub taken_both : (first second : CellName → Bool) (s t u : RunState) → HasTaken unit store first s t
-      → HasTaken unit store second t u → ((c : CellName) → test c ≡ (first c || second c))
-      → HasTaken unit store test s u
-  taken_both first second s t u one two same = record {
-    run = two.run ∙ ap (taking_where second unit store) one.run
-        ∙ same_run s (taking_where second unit store (taking_where first unit store s)).cells (taking_where test unit store s).cells
-        (λ c. picked_twice (first c) (second c) (store_says unit store s.persons c) (s.cells c)
-        ∙ ap (λ taken. picked taken (store_says unit store s.persons c) (s.cells c)) (sym (same c)));
-    fitting = λ c value takes said.
-        fits c value said (or_cases (first c) (second c) (sym (same c) ∙ takes));
-  }
+    pub same_persons : t.persons ≡ s.persons
+    same_persons = ap (λ (run : RunState). run.persons) taken.run
+
+    -- A cell that passes the test has the store's value.
+    pub taken_value : (cell : CellName) (value : Option Datum) → store_says unit store s.persons cell ≡ Some value
+        → test cell ≡ true → t.cells cell ≡ value
+    taken_value cell value said takes =
+        cell_after cell
+        ∙ ap (λ b. picked b (store_says unit store s.persons cell) (s.cells cell)) takes
+        ∙ ap (λ (told : Option (Option Datum)). unwrap_or told (s.cells cell)) said
+
+    -- A cell that had the store's value has it.
+    pub still_value : (cell : CellName) (value : Option Datum) → store_says unit store s.persons cell ≡ Some value
+        → s.cells cell ≡ value → t.cells cell ≡ value
+    still_value cell value said has = cell_after cell ∙ by (test cell)
+      where
+        by : (b : Bool) → picked b (store_says unit store s.persons cell) (s.cells cell) ≡ value
+        by true = ap (λ (told : Option (Option Datum)). unwrap_or told (s.cells cell)) said
+        by false = has
+
+    -- What is taken after that is the same.
+    pub taking_after : taking_in unit store t ≡ taking_in unit store s
+    taking_after =
+        ap (taking_in unit store) taken.run
+        ∙ same_run s (taking_in unit store (taking_where test unit store s)).cells (taking_in unit store s).cells
+        (λ c. picked_again (test c) (store_says unit store s.persons c) (s.cells c))
+
+    pub fits_after : HasFittingGlobals unit s → HasFittingGlobals unit t
+    fits_after fits cell =
+        ap (fits_cell unit cell) (cell_after cell) ∙ by (test cell) refl (store_says unit store s.persons cell) refl
+      where
+        by : (b : Bool) → test cell ≡ b → (said : Option (Option Datum)) → store_says unit store s.persons cell ≡ said
+            → fits_cell unit cell (picked b said (s.cells cell)) ≡ true
+        by true takes None said = fits cell
+        by true takes (Some value) said = taken.fitting cell value takes said
+        by false leaves said is = fits cell
+
+-- A run that has the store's value in each cell of a global property.
+module _ (unit : Unit) (store : GlobalValues) (t : RunState)
+    (has : (cell : CellName) (value : Option Datum) → store_says unit store t.persons cell ≡ Some value → t.cells cell ≡ value) where
+  pub takes_nothing : t ≡ taking_in unit store t
+  takes_nothing = same_run t t.cells (taking_in unit store t).cells (λ c. by c (store_says unit store t.persons c) refl)
     where
-      same_persons : t.persons ≡ s.persons
-      same_persons = ap (λ (run : RunState). run.persons) one.run
+      by : (c : CellName) (said : Option (Option Datum)) → store_says unit store t.persons c ≡ said
+          → t.cells c ≡ unwrap_or said (t.cells c)
+      by c None is = refl
+      by c (Some value) is = has c value is
 
-      fits : (c : CellName) (value : Option Datum) → store_says unit store s.persons c ≡ Some value
-          → (first c ≡ true) ⊎ (second c ≡ true) → fits_cell unit c value ≡ true
-      fits c value said (inl takes) = one.fitting c value takes said
-      fits c value said (inr takes) =
-          two.fitting c value takes (ap (λ (persons : Persons). store_says unit store persons c) same_persons ∙ said)
+  pub fits_all : HasFittingGlobals unit t → TakesFitting unit store t.persons
+  fits_all fits cell value said = ap (fits_cell unit cell) (sym (has cell value said)) ∙ fits cell
 
 -- ---- one cell
 

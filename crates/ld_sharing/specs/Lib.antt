@@ -1,3 +1,4 @@
+pub mod Current
 pub mod Fitting
 pub mod GivenValues
 pub mod Globals

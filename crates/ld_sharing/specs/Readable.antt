@@ -8,8 +8,8 @@ use Rattle.ld_model.specs.declared.cell.Owner.{Owner}
 use Rattle.ld_model.specs.declared.cell.Owner.TheVariants.{Run, Person}
 use Rattle.ld_model.specs.declared.property.Property.{Property}
 use Rattle.ld_model.specs.declared.unit.Unit.{Unit}
-use Rattle.ld_expr.specs.Owners.{is_global}
-use Rattle.ld_roles.specs.Roster.{Persons}
+use Rattle.ld_expr.specs.Owners.{is_global, of_person}
+use Rattle.ld_roles.specs.Roster.{Persons, person_number}
 use Rattle.ld_state.specs.Beginnings.{stored_for}
 use Rattle.ld_state.specs.GlobalValues.{GlobalValues}
 use Rattle.ld_state.specs.RunCells.{stored_value}
@@ -47,6 +47,11 @@ IsOwnerAmong persons (Person p) = p.0 < persons
 abbrev pub name_of : Persons → Owner → Option (List ℕ)
 name_of persons Run = None
 name_of persons (Person p) = option_map (λ person. person.name) (slice_get persons p.0)
+
+-- The run where no name is given, or the person of the name, if there is one.
+abbrev pub owner_named : Persons → Option (List ℕ) → Option Owner
+owner_named persons None = Some Run
+owner_named persons (Some name) = option_map of_person (person_number persons name)
 
 -- What the store holds of the property of this number, for the person of this name, is the value.
 abbrev pub IsStoredOf : Unit → GlobalValues → Option (List ℕ) → ℕ → Option Datum → Type 0

@@ -1,15 +1,16 @@
 -- What a run has taken from the store on the way.
-use Rattle.std.specs.Prelude.{◌≡◌, ℕ, Option, Some, Bool, true, false, ◌&&◌, nat_eq, nat_lt, unwrap_or, if◌then◌else◌}
+use Rattle.std.specs.Prelude.{◌≡◌, Option, Some, Bool, true, unwrap_or, if◌then◌else◌}
+use Rattle.ld_globals.specs.Store.{Key}
 use Rattle.ld_value.specs.Datum.{Datum}
+use Rattle.ld_model.specs.Cells.{same_cell}
 use Rattle.ld_model.specs.declared.cell.CellName.{CellName}
-use Rattle.ld_model.specs.declared.cell.CellName.TheVariants.{Prop}
-use Rattle.ld_model.specs.declared.cell.Owner.{Owner}
-use Rattle.ld_model.specs.declared.cell.Owner.TheVariants.{Run, Person}
 use Rattle.ld_model.specs.declared.unit.Unit.{Unit}
+use Rattle.ld_expr.specs.Lookup.{is_some_and}
+use Rattle.ld_roles.specs.Roster.{Persons}
 use Rattle.ld_state.specs.GlobalValues.{GlobalValues}
 use Rattle.ld_state.specs.RunState.{RunState}
 use Rattle.ld_sharing.specs.Fitting.{fits_cell}
-use Rattle.ld_sharing.specs.Globals.{store_says}
+use Rattle.ld_sharing.specs.Globals.{cell_of_key, store_says}
 
 -- The state, in which each cell of a global property that passes the test has the store's value.
 abbrev pub taking_where : (CellName → Bool) → Unit → GlobalValues → RunState → RunState
@@ -26,22 +27,6 @@ pub record HasTaken (unit : Unit) (store : GlobalValues) (test : CellName → Bo
       (cell : CellName) (value : Option Datum) → test cell ≡ true
       → store_says unit store old.persons cell ≡ Some value → fits_cell unit cell value ≡ true
 
--- The cell is one of the property of this number.
-abbrev pub is_value_of : ℕ → CellName → Bool
-is_value_of n (Prop p owner) = nat_eq p.0 n
-is_value_of n _ = false
-
--- The cell is one of a property among the first n.
-abbrev pub is_value_before : ℕ → CellName → Bool
-is_value_before n (Prop p owner) = nat_lt p.0 n
-is_value_before n _ = false
-
--- The owner is one of the first k persons.
-abbrev pub is_person_before : ℕ → Owner → Bool
-is_person_before k Run = false
-is_person_before k (Person p) = nat_lt p.0 k
-
--- The cell is one of these persons' of the property of this number.
-abbrev pub is_own_value_before : ℕ → ℕ → CellName → Bool
-is_own_value_before n k (Prop p owner) = nat_eq p.0 n && is_person_before k owner
-is_own_value_before n k _ = false
+-- The cell is the run's cell for the key.
+abbrev pub is_cell_of_key : Unit → Persons → Key → CellName → Bool
+is_cell_of_key unit persons key cell = is_some_and (same_cell cell) (cell_of_key unit persons key.uri key.person)

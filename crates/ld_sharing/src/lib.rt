@@ -1,6 +1,7 @@
 //! What a run takes from the store of global values, and what it gives back.
 #![tactic(auto)]
 
+mod finding;
 pub mod giving;
 mod reading;
 pub mod stored;

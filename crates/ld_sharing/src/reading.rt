@@ -1,5 +1,5 @@
 //! Reading values of the store.
-ghost use Rattle.std.specs.Prelude.{◌≡◌, ◌↔◌, IfOk, IsTrue};
+ghost use Rattle.std.specs.Prelude.{◌≡◌, ◌+◌, ◌↔◌, IfOk, IsTrue};
 ghost use Rattle.std.specs.Option.{option_eq};
 ghost use Rattle.ld_cells.specs.Stored.{held};
 ghost use Rattle.ld_globals.specs.Answers.{key_given, meaning};
@@ -23,6 +23,7 @@ pub(crate) fn read_key<'a, L: Ledger>(
     requires readable { IsReadable globals.now (key_given uri.now person) }
     ensures value { meaning result ≡ value_at globals.now (key_given uri.now person.entry) }
     ensures writable { IsWritable globals.now (key_given uri.now person.entry) (meaning result) }
+    ensures cost { steps.new ≡ steps.old + 1 }
 {
     let Ok(value) = globals.get(uri, person, steps) else {
         unreachable!();

@@ -1,5 +1,5 @@
 //! A run takes in the store's value of one cell.
-ghost use Rattle.std.specs.Prelude.{◌≡◌, length, option_copied, None, Ok, IfOk, IfSome, OnOk};
+ghost use Rattle.std.specs.Prelude.{◌≡◌, ◌+◌, length, option_copied, None, Ok, IfOk, IfSome, OnOk};
 ghost use Rattle.ld_cells.specs.Stored.{held};
 ghost use Rattle.ld_globals.specs.Answers.{key_given};
 ghost use Rattle.ld_globals.specs.Store.{IsWritable, value_at};
@@ -47,6 +47,7 @@ pub(crate) fn take_value<L: Ledger>(
     ensures rows { state.new.rows ≡ state.old.rows }
     ensures outbox { state.new.outbox ≡ state.old.outbox }
     ensures kept { state.new.kept ≡ state.old.kept }
+    ensures cost { steps.new ≡ steps.old + 2 }
 {
     let cell = CellName::Prop(property, owner);
     let name = name_of(state, owner);
@@ -84,6 +85,7 @@ fn other_value<L: Ledger>(
         ≡ value_at globals.now (key_given uri.now person.entry))) }
     ensures writable { OnOk result (IsWritable globals.now (key_given uri.now person.entry)
         (value_at globals.now (key_given uri.now person.entry))) }
+    ensures cost { steps.new ≡ steps.old + 2 }
 {
     let value = read_key(globals, uri, person, steps);
     if are_one(state.get(cell, steps), value) {

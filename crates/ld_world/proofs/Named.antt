@@ -6,13 +6,11 @@ use Rattle.std.proofs.lemmas.List.{map-append}
 use Rattle.std.specs.List.{AllByRecursion, IsDistinct, list_any}
 use Rattle.std.specs.Map.{keys_of, lookup, set_value}
 use Rattle.std.specs.Str.{bytes_eq}
-use Rattle.ld_globals.specs.Store.{Store}
 use Rattle.ld_run.specs.RunView.{RunView}
-use Rattle.ld_sharing.specs.StoreView.{Serves}
 use Rattle.ld_state.specs.RunState.{RunState}
 use Rattle.ld_state.specs.StateView.{run_of}
 use Rattle.ld_world.specs.World.{in_state, run_named}
-use Rattle.ld_world.specs.WorldView.{ServesRuns, run_named_so}
+use Rattle.ld_world.specs.WorldView.{run_named_so}
 
 -- ---- lists
 
@@ -83,24 +81,29 @@ is_there name runs = ap is_some (found_run name runs) ∙ by (lookup (bytes_eq n
     by None = refl
     by (Some run) = refl
 
--- The store serves the unit of the run of this name.
-pub found_serves : (store : Store) (name : List ℕ) (runs : List (List ℕ × RunView)) (run : RunView) → ServesRuns store runs → lookup (bytes_eq name) runs ≡ Some run → Serves store run.unit
-found_serves store name [] run all found = absurd (cc)
-found_serves store name (entry ∷ runs) run all found = by (bytes_eq name entry.0) (found_serves store name runs run all.1) found
-  where
-    by : (b : Bool) → (lookup (bytes_eq name) runs ≡ Some run → Serves store run.unit) → cond b (Some entry.1) (lookup (bytes_eq name) runs) ≡ Some run → Serves store run.unit
-    by true rest here = let same : entry.1 ≡ run = cc in subst (λ r. Serves store r.unit) same all.0
-    by false rest later = rest later
+-- What is true of each run.
+module _ (P : RunView → Type 0) (name : List ℕ) where
+  -- It is true of the run of this name.
+  pub found_one : (runs : List (List ℕ × RunView)) (run : RunView) → AllByRecursion (λ entry. P entry.1) runs
+      → lookup (bytes_eq name) runs ≡ Some run → P run
+  found_one [] run all found = absurd (cc)
+  found_one (entry ∷ runs) run all found = by (bytes_eq name entry.0) (found_one runs run all.1) found
+    where
+      by : (b : Bool) → (lookup (bytes_eq name) runs ≡ Some run → P run)
+          → cond b (Some entry.1) (lookup (bytes_eq name) runs) ≡ Some run → P run
+      by true rest here = let same : entry.1 ≡ run = cc in subst P same all.0
+      by false rest later = rest later
 
--- So it does after one of them is at another state.
-pub set_serves : (store : Store) (name : List ℕ) (runs : List (List ℕ × RunView)) (run : RunView) → ServesRuns store runs → Serves store run.unit
-    → ServesRuns store (set_value (bytes_eq name) runs run)
-set_serves store name [] run all one = tt
-set_serves store name (entry ∷ runs) run all one = by (bytes_eq name entry.0) (set_serves store name runs run all.1 one)
-  where
-    by : (b : Bool) → ServesRuns store (set_value (bytes_eq name) runs run) → ServesRuns store (cond b ((entry.0, run) ∷ runs) (entry ∷ set_value (bytes_eq name) runs run))
-    by true rest = (one, all.1)
-    by false rest = (all.0, rest)
+  -- So it is after that run is at another state of which it is true.
+  pub set_one : (runs : List (List ℕ × RunView)) (run : RunView) → AllByRecursion (λ entry. P entry.1) runs → P run
+      → AllByRecursion (λ entry. P entry.1) (set_value (bytes_eq name) runs run)
+  set_one [] run all one = tt
+  set_one (entry ∷ runs) run all one = by (bytes_eq name entry.0) (set_one runs run all.1 one)
+    where
+      by : (b : Bool) → AllByRecursion (λ other. P other.1) (set_value (bytes_eq name) runs run)
+          → AllByRecursion (λ other. P other.1) (cond b ((entry.0, run) ∷ runs) (entry ∷ set_value (bytes_eq name) runs run))
+      by true rest = (one, all.1)
+      by false rest = (all.0, rest)
 
 -- What is found, set once more, changes nothing.
 pub set_same : (name : List ℕ) (runs : List (List ℕ × RunView)) (run : RunView) → lookup (bytes_eq name) runs ≡ Some run → set_value (bytes_eq name) runs run ≡ runs

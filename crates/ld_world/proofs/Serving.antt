@@ -13,14 +13,17 @@ use Rattle.ld_model.specs.declared.unit.Unit.{Unit}
 use Rattle.ld_value.specs.Datum.{Datum}
 use Rattle.ld_globals.specs.Declarations.{Declaration, fits_declared}
 use Rattle.ld_globals.specs.Kept.{IsWhole, pairs_of}
-use Rattle.ld_globals.specs.Store.{Agrees, Store, declare_in, declared_at, declared_in}
+use Rattle.ld_globals.specs.Store.{Agrees, KeepsWrites, Store, declare_in, declared_at, declared_in}
 use Rattle.ld_globals.specs.declared.declared.Declared.{Declared}
+use Rattle.ld_sharing.specs.Current.{IsCurrentAsOf}
 use Rattle.ld_sharing.specs.StoreView.{IsDeclared, Serves, declaration_by}
 use Rattle.ld_refs.specs.Checks.{IsValid}
+use Rattle.ld_sharing.proofs.Currents.{stays_current}
 use Rattle.ld_sharing.proofs.InitialsFit.{initials_fit}
 use Rattle.ld_sharing.proofs.UrisDiffer.{uris_distinct}
 use Rattle.ld_run.specs.RunView.{RunView}
-use Rattle.ld_world.specs.WorldView.{IsStoreOf, ServesAll, ServesRuns}
+use Rattle.ld_state.specs.StateView.{run_of}
+use Rattle.ld_world.specs.WorldView.{AreCurrent, IsStoreOf, ServesAll, ServesRuns}
 use Rattle.ld_world.specs.Declaring.{pairs_by, pairs_with}
 use Rattle.ld_world.proofs.Declared.{with_all}
 
@@ -167,3 +170,14 @@ still_serves_runs store pairs runs serves =
 
 pub store_alike : (old new : Store) (units : List Unit) → new.declared ≡ old.declared → IsStoreOf units old → IsStoreOf units new
 store_alike old new units same is_of = λ uri. ap (λ declared. declared_in declared uri) same ∙ is_of uri
+
+-- ---- runs while others write
+
+-- Runs that are current stay so.
+pub all_stay_current : (old new : Store) (runs : List (List ℕ × RunView)) → KeepsWrites old new → ServesRuns old runs
+    → AreCurrent old runs → AreCurrent new runs
+all_stay_current old new runs kept serves current =
+    all_meet (λ (entry : List ℕ × RunView). Serves old entry.1.unit)
+    (λ (entry : List ℕ × RunView). IsCurrentAsOf entry.1.unit (run_of entry.1.state) entry.1.stamp old)
+    (λ (entry : List ℕ × RunView). IsCurrentAsOf entry.1.unit (run_of entry.1.state) entry.1.stamp new)
+    (λ entry own was. stays_current entry.1.unit (run_of entry.1.state) entry.1.stamp old new own kept was) runs serves current

@@ -1,5 +1,5 @@
 -- The values of the store once one key is set.
-use Rattle.std.proofs.Common.{◌≡◌, ℕ, List, [], ◌∷◌, Option, None, Some, Bool, true, false, cond, if◌then◌else◌, refl, sym, ap, ◌∙◌, true≢false}
+use Rattle.std.proofs.Common.{◌≡◌, ℕ, List, [], ◌∷◌, Option, None, Some, Bool, true, false, cond, if◌then◌else◌, refl, sym, ap, subst, ◌∙◌, true≢false}
 use Rattle.std.proofs.lemmas.Bool.{and_parts}
 use Rattle.std.proofs.lemmas.Slice.Eq.{bytes_eq-Decides}
 use Rattle.std.specs.Map.{lookup}
@@ -7,7 +7,8 @@ use Rattle.std.specs.Option.{option_eq}
 use Rattle.std.specs.Str.{bytes_eq}
 use Rattle.indexmap.specs.IndexMap.{insert_entry}
 use Rattle.ld_value.specs.Datum.{Datum, same_datum}
-use Rattle.ld_globals.specs.Store.{Key, Store, Write, declared_at, key_at, last_write, next_stamp, put_in, same_key, value_after, value_at}
+use Rattle.ld_globals.specs.Store.{Key, KeepsWrites, Store, Write, declared_at, key_at, last_write, next_stamp, put_in, same_key, value_after, value_at}
+use Rattle.ld_globals.proofs.Keeping.{keeps-same}
 use Rattle.ld_sharing.specs.StoreView.{values_of}
 use Rattle.ld_world.specs.World.{put_value}
 use Rattle.ld_world.proofs.Alike.{one_value}
@@ -83,3 +84,9 @@ put_value_at store key q value = by (option_eq same_datum (value_at store key) (
 pub put_values : (store : Store) (uri : List ℕ) (person : Option (List ℕ)) (value : Datum)
     → values_of (put_in store (key_at uri person) (Some value)) ≡ put_value (values_of store) uri person value
 put_values store uri person value = λ i u p. put_value_at store (key_at uri person) (key_at u p) value i
+
+-- ---- who kept a stamp
+
+-- A store that stays as it was loses nothing.
+pub keeps_unchanged : (old new : Store) → new ≡ old → KeepsWrites old new
+keeps_unchanged old new same = subst (KeepsWrites old) (sym same) (keeps-same old)

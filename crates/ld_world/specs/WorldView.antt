@@ -7,6 +7,7 @@ use Rattle.ld_globals.specs.Store.{Store, declared_at}
 use Rattle.ld_roles.specs.declared.limit.TheConstants.{SEATS}
 use Rattle.ld_state.specs.GlobalValues.{declared_by}
 use Rattle.ld_state.specs.StateView.{run_of}
+use Rattle.ld_sharing.specs.Current.{IsCurrentAsOf}
 use Rattle.ld_sharing.specs.StoreView.{Serves, declaration_by, values_of}
 use Rattle.ld_run.specs.RunView.{RunView}
 use Rattle.ld_world.specs.World.{RunOf, WorldState}
@@ -47,3 +48,8 @@ ServesAll store units = AllByRecursion (Serves store) units
 -- The store serves the unit of each run.
 abbrev pub ServesRuns : Store → List (List ℕ × RunView) → Type 0
 ServesRuns store runs = AllByRecursion (λ entry. Serves store entry.1.unit) runs
+
+-- Each run has the store's values as of its stamp.
+abbrev pub AreCurrent : Store → List (List ℕ × RunView) → Type 0
+AreCurrent store runs =
+    AllByRecursion (λ entry. IsCurrentAsOf entry.1.unit (run_of entry.1.state) entry.1.stamp store) runs

@@ -1,6 +1,6 @@
 //! Declaring the uris of a unit's properties in the store.
 ghost use Rattle.std.specs.Prelude.{◌≡◌, List, [], None, IfErr, IfOk, OnErr, OnOk};
-ghost use Rattle.ld_globals.specs.Store.{Key, declare_in, declared_at, last_write};
+ghost use Rattle.ld_globals.specs.Store.{Key, KeepsWrites, declare_in, declared_at, last_write};
 ghost use Rattle.ld_json.specs.Fault.{Says, SaysFirst};
 ghost use Rattle.ld_model.specs.declared.unit.Unit.{Unit};
 ghost use Rattle.ld_sharing.specs.StoreView.{Serves};
@@ -25,6 +25,7 @@ pub(crate) fn declare_uris(
 ) -> Result<(), ReadFault>
     ensures ok { OnOk result (globals.new ≡ declare_in globals.old (pairs_by unit.now.properties)) }
     ensures serves { OnOk result (Serves globals.new unit.now) }
+    ensures kept { OnOk result (KeepsWrites globals.old globals.new) }
     ensures unwritten { OnOk result ((key : Key) → declared_at globals.old key.uri ≡ None
         → last_write globals.old key ≡ None) }
     ensures faultless { (units : List Unit) → IsStoreOf units globals.old

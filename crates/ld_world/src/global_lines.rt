@@ -1,6 +1,7 @@
 //! Lines that ask the store of global values for something.
 ghost use Rattle.std.specs.Prelude.{◌≡◌, ◌≢◌, ◌≤◌, ◌++◌, ◌∷◌, [], List, ℕ, Some, codes, option_copied, option_map, IfOk, IfSome, OnErr, OnOk};
 ghost use Rattle.ld_base.specs.Roomy.{KeepsRoom, room_of};
+ghost use Rattle.ld_globals.specs.Store.{KeepsWrites};
 ghost use Rattle.ld_lines.specs.declared.line.Line.TheVariants as line;
 ghost use Rattle.ld_model.specs.declared.unit.Unit.{Unit};
 ghost use Rattle.ld_replies.specs.Replies.{printed_value, refusal_text};
@@ -39,6 +40,7 @@ pub(crate) fn set_global(
         (Some (line.GlobalSet moment uri.now (option_copied person.entry) text.now))
         reply out.new.bytes (world_with units globals.new runs)) }
     ensures declared { globals.new.declared ≡ globals.old.declared }
+    ensures kept { KeepsWrites globals.old globals.new }
     ensures err { OnErr result (globals.new ≡ globals.old) }
     ensures room { 128 ≤ room_of out.new }
 {

@@ -5,7 +5,7 @@ ghost use Rattle.ld_lines.specs.declared.line.Line.TheVariants as line;
 ghost use Rattle.ld_model.specs.declared.unit.Unit.{Unit};
 ghost use Rattle.ld_value.specs.Calendar.{IsMoment};
 ghost use Rattle.ld_world.specs.Answers.{RepliesTo};
-ghost use Rattle.ld_world.specs.WorldView.{ServesAll, ServesRuns, world_with};
+ghost use Rattle.ld_world.specs.WorldView.{AreCurrent, ServesAll, ServesRuns, world_with};
 
 use crate::publishing::find_unit;
 use crate::refusing::refuse_line;
@@ -37,12 +37,14 @@ pub(crate) fn make_run<L: Ledger>(
     requires moment { IsMoment moment.0 }
     requires units { ServesAll globals.now (map (λ unit. unit.value) units.now) }
     requires runs { ServesRuns globals.now runs.old.entries }
+    requires current { AreCurrent globals.now runs.old.entries }
     ensures ok { IfOk result (λ reply. RepliesTo
         (world_with (map (λ unit. unit.value) units.now) globals.now runs.old.entries)
         (Some (line.Create moment name unit.now)) reply out.new.bytes
         (world_with (map (λ unit. unit.value) units.now) globals.now runs.new.entries)) }
     ensures err { OnErr result (runs.new.entries ≡ runs.old.entries) }
     ensures runs { ServesRuns globals.now runs.new.entries }
+    ensures current { AreCurrent globals.now runs.new.entries }
     ensures room { KeepsRoom out.old out.new }
 {
     let Some(unit) = find_unit(units, unit) else {
@@ -72,6 +74,7 @@ pub(crate) fn ask_run<L: Ledger>(
 ) -> Result<Reply, NoMemory>
     requires moment { IsMoment moment.0 }
     requires runs { ServesRuns globals.old runs.old.entries }
+    requires current { AreCurrent globals.old runs.old.entries }
     requires room { 128 ≤ room_of out.old }
     ensures ok { (units : List Unit) → IfOk result (λ reply. RepliesTo
         (world_with units globals.old runs.old.entries)
@@ -81,6 +84,7 @@ pub(crate) fn ask_run<L: Ledger>(
     ensures err { OnErr result (globals.new ≡ globals.old) }
     ensures same { OnErr result (runs.new.entries ≡ runs.old.entries) }
     ensures runs { ServesRuns globals.new runs.new.entries }
+    ensures current { AreCurrent globals.new runs.new.entries }
     ensures room { 128 ≤ room_of out.new }
 {
     let Some(run) = runs.get_mut(name) else {

@@ -75,11 +75,12 @@ impl Model for World {
       runs = s.runs.entries;
     } };
 
-    ghost use Rattle.ld_world.specs.WorldView.{IsStoreOf, ServesAll, ServesRuns};
+    ghost use Rattle.ld_world.specs.WorldView.{AreCurrent, IsStoreOf, ServesAll, ServesRuns};
 
     ghost invariant = { λ s. IsStoreOf (map (λ unit. unit.value) s.units.items) s.globals
         × ServesAll s.globals (map (λ unit. unit.value) s.units.items)
-        × ServesRuns s.globals s.runs.entries };
+        × ServesRuns s.globals s.runs.entries
+        × AreCurrent s.globals s.runs.entries };
 }
 
 impl World {

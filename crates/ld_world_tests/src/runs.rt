@@ -1,7 +1,9 @@
 //! One run and its commands.
 ghost use Rattle.std.specs.Prelude.{◌≡◌, ◌≤◌};
 ghost use Rattle.ld_base.specs.Roomy.{room_of};
+ghost use Rattle.ld_sharing.specs.Current.{IsCurrentAsOf};
 ghost use Rattle.ld_sharing.specs.StoreView.{Serves};
+ghost use Rattle.ld_state.specs.StateView.{run_of};
 
 use crate::begun::{Subject, test};
 use crate::units::{check, id};
@@ -42,6 +44,7 @@ fn command<L: Ledger>(
     steps: &mut Steps<L>,
 ) -> Result<(), Fail>
     requires serves { Serves globals.old run.old.unit }
+    requires current { IsCurrentAsOf run.old.unit (run_of run.old.state) run.old.stamp globals.old }
 {
     let mut out = Text::with_room(alloc, 128)?;
     let person = id(alloc, "ann")?;
@@ -68,9 +71,11 @@ fn apply<L: Ledger>(
     steps: &mut Steps<L>,
 )
     requires serves { Serves globals.old run.old.unit }
+    requires current { IsCurrentAsOf run.old.unit (run_of run.old.state) run.old.stamp globals.old }
     requires room { 128 ≤ room_of out.old }
     ensures unit { run.new.unit ≡ run.old.unit }
     ensures declared { globals.new.declared ≡ globals.old.declared }
+    ensures current { IsCurrentAsOf run.new.unit (run_of run.new.state) run.new.stamp globals.new }
     ensures room { 128 ≤ room_of out.new }
 {
     let mut room = CommandRoom::new(alloc);

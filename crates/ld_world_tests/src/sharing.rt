@@ -1,7 +1,9 @@
 //! A run and the store take each other's values.
 ghost use Rattle.std.specs.Prelude.{OnOk};
 ghost use Rattle.ld_firing.specs.RunSystem.{IsSoundRun};
+ghost use Rattle.ld_globals.specs.Store.{KeepsWrites};
 ghost use Rattle.ld_model.specs.declared.unit.Unit.{Unit};
+ghost use Rattle.ld_sharing.specs.Current.{IsCurrentAsOf};
 ghost use Rattle.ld_sharing.specs.Fitting.{HasFittingGlobals};
 ghost use Rattle.ld_sharing.specs.StoreView.{Serves};
 ghost use Rattle.ld_state.specs.StateView.{IsStateOf, run_of};
@@ -86,11 +88,14 @@ fn take<L: Ledger>(
 ) -> Result<(), Fail>
     requires own { IsStateOf unit.now state.old }
     requires sound { IsSoundRun unit.now (run_of state.old) }
+    requires fitting { HasFittingGlobals unit.now (run_of state.old) }
     requires serves { Serves globals.old unit.now }
+    requires current { IsCurrentAsOf unit.now (run_of state.old) globals.old.stamp globals.old }
 {
+    let stamp = globals.stamp();
     set(globals, gate, "false")?;
     let mut changed = Vec::new(alloc);
-    take_in(alloc, unit, state, globals, &mut changed, steps)?;
+    take_in(alloc, unit, state, globals, stamp, &mut changed, steps)?;
     check(changed.len() == 1, "one cell changes")?;
     check(is_gate(state, false, steps), "the run takes the value")
 }
@@ -99,6 +104,7 @@ fn take<L: Ledger>(
 fn set(globals: &mut Globals, gate: &Text, text: &str) -> Result<(), Fail>
     ensures serves { (unit : Unit) → Serves globals.old unit
         → OnOk result (Serves globals.new unit) }
+    ensures kept { OnOk result (KeepsWrites globals.old globals.new) }
 {
     Ok(globals.set(gate, None, text)?)
 }
@@ -126,6 +132,8 @@ fn give<L: Ledger>(
     requires fitting { HasFittingGlobals unit.now (run_of state.now) }
     requires serves { Serves globals.old unit.now }
     ensures serves { OnOk result (Serves globals.new unit.now) }
+    ensures current { OnOk result
+        (IsCurrentAsOf unit.now (run_of state.now) globals.new.stamp globals.new) }
 {
     let writes = prepare(alloc, unit, state, globals, steps)?;
     let one = writes.len() == 1;

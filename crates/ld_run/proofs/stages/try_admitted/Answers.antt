@@ -1,8 +1,11 @@
 use Rattle.std.proofs.Common.{◌≡◌, ◌∙◌, ap, subst, sym, true}
 use Rattle.ld_firing.specs.RunSystem.{IsSoundRun}
 use Rattle.ld_settling.specs.RunLinking.{AreCleanLinks}
+use Rattle.ld_sharing.specs.Current.{IsCurrentAsOf}
 use Rattle.ld_sharing.specs.Globals.{giving_back}
 use Rattle.ld_sharing.specs.StoreView.{values_of}
+use Rattle.ld_sharing.proofs.GivingStores.{keeps_on}
+use Rattle.ld_state.specs.RunState.{RunState}
 use Rattle.ld_state.specs.StateView.{StateView, run_of}
 use Rattle.ld_admission.specs.AdmittedView.{admitted_of}
 use Rattle.ld_admission.specs.Checks.{is_started}
@@ -27,6 +30,11 @@ pub do_and_tell-requires-clause-may : goal.do_and_tell-requires-clause-may
 do_and_tell-requires-clause-may g c =
     subst (λ (s : StateView). MayBeDone c.args.unit.now (run_of s) c.args.moment.0 (admitted_of c.args.command.now)) (sym c.mark.ensures)
     c.requires.may
+
+pub do_and_tell-requires-clause-current : goal.do_and_tell-requires-clause-current
+do_and_tell-requires-clause-current g c =
+    subst (λ (s : StateView). IsCurrentAsOf c.args.unit.now (run_of s) c.args.stamp c.args.globals.now) (sym c.mark.ensures)
+    c.requires.current
 
 -- A refusal: the run is as it was at the savepoint.
 pub returns-in-Err-clause-refused : goal.returns-in-Err-clause-refused
@@ -87,6 +95,19 @@ returns-in-Ok-clause-done g c =
       text,
       totals_are,
     )
+
+pub returns-in-Ok-clause-given : goal.returns-in-Ok-clause-given
+returns-in-Ok-clause-given g c =
+    let unit = c.args.unit.now in
+    let store = values_of c.args.globals.now in
+    let left = run_of c.do_and_tell.new.state in
+    c.give_back.ensures.values unit left c.in-Ok.ensures.writes ∙ ap (giving_back unit left) c.do_and_tell.ensures.values
+    ∙ ap (λ (t : RunState). giving_back unit t store) (sym (ap run_of c.keep.ensures.rest))
+
+pub returns-in-Ok-clause-stamps : goal.returns-in-Ok-clause-stamps
+returns-in-Ok-clause-stamps g c =
+    keeps_on c.args.globals.now c.do_and_tell.new.globals c.give_back.new.globals c.do_and_tell.ensures.declared
+    c.do_and_tell.ensures.stamps c.give_back.ensures.kept
 
 pub returns-in-Ok-clause-running : goal.returns-in-Ok-clause-running
 returns-in-Ok-clause-running g c =

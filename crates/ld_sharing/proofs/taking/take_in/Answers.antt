@@ -1,48 +1,81 @@
-use Rattle.std.proofs.Common.{◌∙◌, ap, arith, length, refl, subst}
-use Rattle.ld_state.specs.StateView.{run_of}
-use Rattle.ld_model.specs.declared.unit.Unit.{Unit}
+use Rattle.std.proofs.Common.{◌≡◌, ◌∷◌, ◌∙◌, ap, arith, length, refl, subst, sym}
+use Rattle.ld_globals.specs.Answers.{key_given}
+use Rattle.ld_roles.specs.Kept.{persons_of}
+use Rattle.ld_firing.specs.RunSystem.{HaveNamesOfTheirOwn}
 use Rattle.ld_firing.proofs.Told.{tells_nothing, tells_then}
+use Rattle.ld_state.specs.StateView.{run_of}
+use Rattle.ld_sharing.specs.Fitting.{TakesFitting}
 use Rattle.ld_sharing.specs.StoreView.{values_of}
-use Rattle.ld_sharing.specs.Taken.{HasTaken, is_value_of}
-use Rattle.ld_sharing.proofs.TakingLoops.{all_properties, next_property, no_property}
+use Rattle.ld_sharing.specs.Taken.{is_cell_of_key}
+use Rattle.ld_sharing.proofs.TakingCells.{fits_after, fits_all, takes_nothing, taking_after}
+use Rattle.ld_sharing.proofs.TakingLoops.{HasAllBut, all_but_next, all_but_written, has_all}
+use Rattle.ld_sharing.proofs.WrittenCount.{counted}
 use Rattle.ld_sharing.proofs.taking.take_in.Goals as goal
 
-pub loop-index-init : goal.loop-index-init
-loop-index-init g c =
-    let s = run_of c.args.state.now in (
-      no_property c.args.unit.now (values_of c.args.globals.now) s,
-      c.requires.own,
-      refl,
-      refl,
-      refl,
-      tells_nothing c.args.unit.now s c.args.changed.now.items,
-    )
-
-pub loop-index-preserved : goal.loop-index-preserved
-loop-index-preserved g c =
-    let before = c.loop-index.invariant in
-    let one = c.in_ok-take_property.ensures in
+pub loop-uri-init : goal.loop-uri-init
+loop-uri-init g c =
     let unit = c.args.unit.now in
-    let store = values_of c.args.globals.now in
-    let t = run_of c.loop-index.state in
-    let u = run_of c.take_property.new.state in (
-      next_property unit store (run_of c.args.state.now) c.loop-index.index t u before.0
-          (subst (λ n. HasTaken unit store (is_value_of n) t u) c.in_ok-number.ensures.number one.taken),
-      one.own,
-      one.rows ∙ before.2,
-      one.outbox ∙ before.3,
-      one.kept ∙ before.4,
-      tells_then before.5 one.told,
-    )
+    let store = c.args.globals.now in
+    let s = run_of c.args.state.now in
+    let since = c.changed_since-uri-items in
+    let same = c.into_iter-uri-iterator.ensures.into_iter_gives in
+    let most = counted store c.args.stamp since.result since.ensures.once since.ensures.exactly in
+    record {
+      left = subst (λ keys. HasAllBut keys unit store s) (sym same)
+          (all_but_written unit s c.args.stamp store since.result since.ensures.exactly c.requires.current);
+      same = refl;
+      fitting = c.requires.fitting;
+      told = tells_nothing unit s c.args.changed.now.items;
+      own = c.requires.own;
+      rows = refl;
+      outbox = refl;
+      kept = refl;
+      cost = omega (arith, since.ensures.cost, most, ap length same);
+    }
 
+pub loop-uri-preserved : goal.loop-uri-preserved
+loop-uri-preserved g c =
+    let unit = c.args.unit.now in
+    let store = c.args.globals.now in
+    let t = run_of c.loop-uri.state in
+    let u = run_of c.take_key.new.state in
+    let key = key_given c.in-Some.uri.now c.in-Some.person in
+    let test = is_cell_of_key unit t.persons key in
+    let before = c.loop-uri.invariant in
+    let one = c.in_ok-take_key.ensures in
+    let rest = c.next.new.self in
+    let next : c.loop-uri.uri-iterator ≡ key ∷ rest = c.in-Some.ensures.steps in
+    record {
+      left = all_but_next unit c.requires.sound.valid store c.requires.serves key rest t u
+          (subst (λ keys. HasAllBut keys unit store t) next before.left) one.taken;
+      same = taking_after unit (values_of store) test t u one.taken ∙ before.same;
+      fitting = fits_after unit (values_of store) test t u one.taken before.fitting;
+      told = tells_then before.told one.told;
+      own = one.own;
+      rows = one.rows ∙ before.rows;
+      outbox = one.outbox ∙ before.outbox;
+      kept = one.kept ∙ before.kept;
+      cost = omega (arith, before.cost, one.cost, ap length next);
+    }
+
+-- Where no key is left, the run has the store's values.
 pub returns-clause-run : goal.returns-clause-run
 returns-clause-run g c =
-    (all_properties c.args.unit.now (values_of c.args.globals.now) (run_of c.args.state.now) c.loop-index.index (run_of c.loop-index.state)
-    (omega (arith, c.loop-index-test.false, c.len-index-end.ensures, ap (λ (unit : Unit). length unit.properties) c.unit.ensures.unit))
-    c.loop-index.invariant.0).0
+    let unit = c.args.unit.now in
+    let store = c.args.globals.now in
+    let t = run_of c.loop-uri.state in
+    let before = c.loop-uri.invariant in
+    let all = subst (λ keys. HasAllBut keys unit store t) c.in-None.ensures.steps.0 before.left in
+    let names = subst (λ rows. HaveNamesOfTheirOwn (persons_of rows)) (sym before.rows) c.requires.sound.names in
+    takes_nothing unit (values_of store) t (has_all unit c.requires.sound.valid store c.requires.serves t names all) ∙ before.same
 
 pub returns-clause-fitting : goal.returns-clause-fitting
 returns-clause-fitting g c =
-    (all_properties c.args.unit.now (values_of c.args.globals.now) (run_of c.args.state.now) c.loop-index.index (run_of c.loop-index.state)
-    (omega (arith, c.loop-index-test.false, c.len-index-end.ensures, ap (λ (unit : Unit). length unit.properties) c.unit.ensures.unit))
-    c.loop-index.invariant.0).1
+    let unit = c.args.unit.now in
+    let store = c.args.globals.now in
+    let t = run_of c.loop-uri.state in
+    let before = c.loop-uri.invariant in
+    let all = subst (λ keys. HasAllBut keys unit store t) c.in-None.ensures.steps.0 before.left in
+    let names = subst (λ rows. HaveNamesOfTheirOwn (persons_of rows)) (sym before.rows) c.requires.sound.names in
+    subst (λ rows. TakesFitting unit (values_of store) (persons_of rows)) before.rows
+    (fits_all unit (values_of store) t (has_all unit c.requires.sound.valid store c.requires.serves t names all) before.fitting)

@@ -5,7 +5,7 @@ use Rattle.ld_world.specs.Answers.{RepliesTo}
 use Rattle.ld_world.specs.WorldView.{world_with}
 use Rattle.ld_world.proofs.Answering.{if_ok}
 use Rattle.ld_world.proofs.AnsweringGlobals.{set_line, set_refused}
-use Rattle.ld_world.proofs.Setting.{put_declares}
+use Rattle.ld_world.proofs.Setting.{keeps_unchanged, put_declares}
 use Rattle.ld_world.proofs.global_lines.set_global.Goals as goal
 
 pub returns-in-Ok-clause-ok : goal.returns-in-Ok-clause-ok
@@ -35,3 +35,6 @@ returns-clause-ok c = λ units runs moment is_of.
     (if_ok c.refuse_to_set.result c.refuse_to_set.ensures.refused (λ reply told.
     set_refused units store runs is_of moment c.args.uri.now person c.args.text.now reply out c.in-Err.fault
     (subst (λ u. IsRefused (set_answer store (key_at u person) c.args.text.now) c.in-Err.fault) uri refused) told.0 (told.1, told.2)))
+
+pub returns-clause-kept : goal.returns-clause-kept
+returns-clause-kept c = keeps_unchanged c.args.globals.now c.set.new.self c.in-Err.ensures.err

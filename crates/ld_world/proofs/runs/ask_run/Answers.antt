@@ -1,11 +1,14 @@
 use Rattle.std.proofs.Common.{Some, sym, subst}
 use Rattle.ld_lines.specs.declared.line.Line.TheVariants as line
 use Rattle.ld_admission.specs.Refusals.{UnknownRun}
+use Rattle.ld_run.specs.RunView.{RunView}
+use Rattle.ld_sharing.specs.Current.{IsCurrentAsOf}
 use Rattle.ld_sharing.specs.StoreView.{Serves}
+use Rattle.ld_state.specs.StateView.{run_of}
 use Rattle.ld_world.specs.WorldView.{world_with}
 use Rattle.ld_world.proofs.Answering.{asked_run, if_ok, refused_line, unknown_run}
-use Rattle.ld_world.proofs.Named.{found_serves, no_run, set_serves}
-use Rattle.ld_world.proofs.Serving.{runs_alike}
+use Rattle.ld_world.proofs.Named.{found_one, no_run, set_one}
+use Rattle.ld_world.proofs.Serving.{all_stay_current, runs_alike}
 use Rattle.ld_world.proofs.runs.ask_run.Goals as goal
 
 pub returns-in_default-clause-ok : goal.returns-in_default-clause-ok
@@ -18,7 +21,12 @@ returns-in_default-clause-ok g c = λ units.
 
 pub apply-requires-clause-serves : goal.apply-requires-clause-serves
 apply-requires-clause-serves g c =
-    found_serves c.args.globals.now c.args.name.now c.args.runs.now.entries c.in-Some.run'.now c.requires.runs (sym c.in-Some.ensures.value)
+    found_one (λ run. Serves c.args.globals.now run.unit) c.args.name.now c.args.runs.now.entries c.in-Some.run'.now c.requires.runs (sym c.in-Some.ensures.value)
+
+pub apply-requires-clause-current : goal.apply-requires-clause-current
+apply-requires-clause-current g c =
+    found_one (λ run. IsCurrentAsOf run.unit (run_of run.state) run.stamp c.args.globals.now) c.args.name.now c.args.runs.now.entries
+    c.in-Some.run'.now c.requires.current (sym c.in-Some.ensures.value)
 
 pub returns-clause-ok : goal.returns-clause-ok
 returns-clause-ok g c = λ units.
@@ -31,5 +39,16 @@ pub returns-clause-runs : goal.returns-clause-runs
 returns-clause-runs g c =
     let runs = c.args.runs.now.entries in
     let old = c.args.globals.now in
-    let serves = found_serves old c.args.name.now runs c.in-Some.run'.now c.requires.runs (sym c.in-Some.ensures.value) in
-    rw (c.get_mut.follows.holds c.apply.new.self).0 (runs_alike old c.apply.new.globals _ c.apply.ensures.declared (set_serves old c.args.name.now runs c.apply.new.self c.requires.runs (subst (Serves old) (sym c.apply.ensures.unit) serves)))
+    let served = λ (run : RunView). Serves old run.unit in
+    let serves = found_one served c.args.name.now runs c.in-Some.run'.now c.requires.runs (sym c.in-Some.ensures.value) in
+    rw (c.get_mut.follows.holds c.apply.new.self).0 (runs_alike old c.apply.new.globals _ c.apply.ensures.declared (set_one served c.args.name.now runs c.apply.new.self c.requires.runs (subst (Serves old) (sym c.apply.ensures.unit) serves)))
+
+-- The run itself is current, and the others stay so.
+pub returns-clause-current : goal.returns-clause-current
+returns-clause-current g c =
+    let runs = c.args.runs.now.entries in
+    let old = c.args.globals.now in
+    let new = c.apply.new.globals in
+    let others = all_stay_current old new runs c.apply.ensures.kept c.requires.runs c.requires.current in
+    rw (c.get_mut.follows.holds c.apply.new.self).0
+    (set_one (λ (run : RunView). IsCurrentAsOf run.unit (run_of run.state) run.stamp new) c.args.name.now runs c.apply.new.self others c.apply.ensures.current)

@@ -4,9 +4,11 @@ use Rattle.indexmap.proofs.CallerLemmas.{insert_entry-new}
 use Rattle.ld_lines.specs.declared.line.Line.TheVariants as line
 use Rattle.ld_roles.specs.declared.limit.TheConstants.{SEATS}
 use Rattle.ld_admission.specs.Refusals.{RunExists, UnknownUnit}
+use Rattle.ld_sharing.specs.Current.{IsCurrentAsOf}
 use Rattle.ld_sharing.specs.StoreView.{Serves, values_of}
 use Rattle.ld_state.specs.RunState.{made_at}
-use Rattle.ld_world.specs.WorldView.{ServesRuns, world_with}
+use Rattle.ld_state.specs.StateView.{run_of}
+use Rattle.ld_world.specs.WorldView.{AreCurrent, ServesRuns, world_with}
 use Rattle.ld_world.proofs.Answering.{made_run, if_ok, refused_line, run_exists, unknown_unit}
 use Rattle.ld_world.proofs.Named.{all_found, all_with, is_there, none_there}
 use Rattle.ld_world.proofs.runs.make_run.Goals as goal
@@ -52,3 +54,10 @@ returns-clause-runs g c =
     let behind = c.in_ok-insert.ensures.entries ∙ insert_entry-new bytes_eq c.args.runs.now c.args.name c.in_ok-run.run' (none_there _ fresh) in
     let own = subst (Serves store) (sym (c.in_ok-run.ensures.unit ∙ c.in_ok-clone.ensures.cases)) serves in
     subst (ServesRuns store) (sym behind) (all_with (λ entry. Serves store entry.1.unit) c.args.runs.now.entries (c.args.name, c.in_ok-run.run') c.requires.runs own)
+
+pub returns-clause-current : goal.returns-clause-current
+returns-clause-current g c =
+    let store = c.args.globals.now in
+    let fresh = sym c.contains_key.ensures ∙ c.if-contains_key.false in
+    let behind = c.in_ok-insert.ensures.entries ∙ insert_entry-new bytes_eq c.args.runs.now c.args.name c.in_ok-run.run' (none_there _ fresh) in
+    subst (AreCurrent store) (sym behind) (all_with (λ entry. IsCurrentAsOf entry.1.unit (run_of entry.1.state) entry.1.stamp store) c.args.runs.now.entries (c.args.name, c.in_ok-run.run') c.requires.current c.in_ok-run.ensures.current)

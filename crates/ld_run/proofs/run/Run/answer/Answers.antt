@@ -1,6 +1,8 @@
-use Rattle.std.proofs.Common.{◌≡◌, ◌∙◌, Err, ap, ap₂, subst, sym, ℤ}
+use Rattle.std.proofs.Common.{◌≡◌, ◌∙◌, Err, ap, ap₂, subst, sym, ℕ, ℤ}
 use Rattle.ld_model.specs.declared.unit.Unit.{Unit}
+use Rattle.ld_sharing.specs.Current.{IsCurrentAsOf}
 use Rattle.ld_sharing.specs.StoreView.{Serves, values_of}
+use Rattle.ld_sharing.proofs.Currents.{current_now, stays_current}
 use Rattle.ld_state.specs.StateView.{IsStateOf, run_of}
 use Rattle.ld_lines.specs.declared.command.RunCommand.{RunCommand}
 use Rattle.ld_admission.specs.Checks.{admitted}
@@ -24,6 +26,32 @@ pub step-requires-clause-serves : goal.step-requires-clause-serves
 step-requires-clause-serves g c =
     subst (Serves c.args.globals.now) (sym c.deref.ensures)
     (subst (λ (run : RunView). Serves c.args.globals.now run.unit) (sym c.self.view_is) c.requires.serves)
+
+pub step-requires-clause-current : goal.step-requires-clause-current
+step-requires-clause-current g c =
+    subst (λ (unit : Unit). IsCurrentAsOf unit (run_of c.self.inside.state) c.self.inside.stamp c.args.globals.now) (sym c.deref.ensures)
+    (subst (λ (run : RunView). IsCurrentAsOf run.unit (run_of run.state) run.stamp c.args.globals.now) (sym c.self.view_is) c.requires.current)
+
+-- A command that was done leaves the run with the store's values.
+pub returns-in-Ok-clause-current : goal.returns-in-Ok-clause-current
+returns-in-Ok-clause-current g c =
+    let left = run_of c.step.new.state in
+    let new = c.step.new.globals in
+    subst (λ (stamp : ℕ). IsCurrentAsOf c.self.inside.unit.value left stamp new) (sym c.stamp-self-inside.ensures)
+    (subst (λ (unit : Unit). IsCurrentAsOf unit left new.stamp new) c.deref.ensures
+    (current_now c.deref.result.now left c.args.globals.now new c.in-Ok.ensures.given))
+
+-- After a refusal the run is current as of its old stamp.
+pub returns-clause-current : goal.returns-clause-current
+returns-clause-current g c =
+    let unit = c.self.inside.unit.value in
+    let stamp = c.self.inside.stamp in
+    let old = c.args.globals.now in
+    let new = c.step.new.globals in
+    subst (λ (s : RunState). IsCurrentAsOf unit s stamp new) (sym c.in-Err.ensures.back)
+    (stays_current unit (run_of c.self.inside.state) stamp old new
+    (subst (λ (run : RunView). Serves old run.unit) (sym c.self.view_is) c.requires.serves) c.step.ensures.stamps
+    (subst (λ (run : RunView). IsCurrentAsOf run.unit (run_of run.state) run.stamp old) (sym c.self.view_is) c.requires.current))
 
 -- What the step leaves is a state that runs come to.
 pub returns-in-Ok-clause-reached : goal.returns-in-Ok-clause-reached

@@ -9,4 +9,5 @@ invariant_of-self g c =
       store_alike s.globals c.ask_run.new.globals units c.ask_run.ensures.declared c.self.invariant.0,
       serves_alike s.globals c.ask_run.new.globals units c.ask_run.ensures.declared c.self.invariant.1,
       c.ask_run.ensures.runs,
+      c.ask_run.ensures.current,
     )

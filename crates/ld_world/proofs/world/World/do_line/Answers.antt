@@ -2,7 +2,7 @@ use Rattle.std.proofs.Common.{IfOk, Some, map, subst}
 use Rattle.ld_lines.specs.declared.line.Line.TheVariants as line
 use Rattle.ld_world.specs.Answers.{RepliesTo}
 use Rattle.ld_world.specs.WorldView.{world_of, world_with}
-use Rattle.ld_world.proofs.Serving.{runs_alike, serves_alike, store_alike}
+use Rattle.ld_world.proofs.Serving.{all_stay_current, runs_alike, serves_alike, store_alike}
 use Rattle.ld_world.proofs.world.World.do_line.Goals as goal
 
 pub invariant_of-self : goal.invariant_of-self
@@ -12,6 +12,7 @@ invariant_of-self g c =
       store_alike s.globals c.set_global.new.globals units c.set_global.ensures.declared c.self.invariant.0,
       serves_alike s.globals c.set_global.new.globals units c.set_global.ensures.declared c.self.invariant.1,
       runs_alike s.globals c.set_global.new.globals s.runs.entries c.set_global.ensures.declared c.self.invariant.2,
+      all_stay_current s.globals c.set_global.new.globals s.runs.entries c.set_global.ensures.kept c.self.invariant.2 c.self.invariant.3,
     )
 
 pub returns-in-GlobalSet-clause-ok : goal.returns-in-GlobalSet-clause-ok

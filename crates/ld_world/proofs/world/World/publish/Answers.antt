@@ -8,6 +8,7 @@ use Rattle.ld_world.specs.Declaring.{pairs_by}
 use Rattle.ld_world.specs.Published.{differing, faults_beside, repeats_unit}
 use Rattle.ld_world.specs.World.{first_world}
 use Rattle.ld_world.specs.WorldView.{world_of}
+use Rattle.ld_world.proofs.Serving.{all_stay_current}
 use Rattle.ld_world.proofs.NewUnit.{new_world, still_all, still_runs, still_store_of, units_behind}
 use Rattle.ld_world.proofs.world.World.publish.Goals as goal
 
@@ -39,6 +40,7 @@ invariant_of-self-2 c =
       still_store_of units more s.globals c.declare_uris.new.globals unit behind declares c.self.invariant.0,
       still_all units more s.globals c.declare_uris.new.globals unit behind declares c.self.invariant.1 serves,
       still_runs units more s.globals c.declare_uris.new.globals unit behind declares s.runs.entries c.self.invariant.2,
+      all_stay_current s.globals c.declare_uris.new.globals s.runs.entries c.in_ok-declare_uris.ensures.kept c.self.invariant.2 c.self.invariant.3,
     )
 
 pub returns-clause-ok : goal.returns-clause-ok

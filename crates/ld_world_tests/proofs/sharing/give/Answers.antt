@@ -1,0 +1,11 @@
+use Rattle.ld_run.proofs.StepStages.{on_any}
+use Rattle.ld_state.specs.StateView.{run_of}
+use Rattle.ld_sharing.proofs.Currents.{current_now}
+use Rattle.ld_world_tests.proofs.sharing.give.Goals as goal
+
+pub returns-clause-current : goal.returns-clause-current
+returns-clause-current g c =
+    let unit = c.args.unit.now in
+    let s = run_of c.args.state.now in
+    on_any c.check.result
+    (current_now unit s c.prepare.new.globals c.give_back.new.globals (c.give_back.ensures.values unit s c.in_ok-writes.ensures.writes))
