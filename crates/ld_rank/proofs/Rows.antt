@@ -1,9 +1,7 @@
 -- That the rules which are named for a rule are those that it feeds.
-use Rattle.std.proofs.Common.{◌≡◌, refl, sym, ap, ap₂, subst, ◌∙◌, ℕ, zero, suc, ◌+◌, ◌<◌, ◌≤◌, List, [], ◌∷◌, ◌++◌, drop, filter, take, get_or, length, slice_get, Option, Some, None, Bool, true, false, cond, ◌&&◌, ◌||◌, nat_eq, nat_lt, not, inl, inr, arith, add-one}
-use Rattle.std.proofs.lemmas.Bool.{cases_eq, cases_lt, eq-eqb, lt-ltb, ne_eqb, or_left, or_right}
-use Rattle.std.proofs.lemmas.List.Folds.{list_any-append}
+use Rattle.std.proofs.Common.{◌≡◌, refl, sym, ap, ap₂, subst, ◌∙◌, ℕ, zero, suc, ◌+◌, ◌<◌, ◌≤◌, List, [], ◌∷◌, ◌++◌, drop, filter, take, get_or, length, slice_get, Some, None, Bool, true, false, cond, ◌&&◌, ◌||◌, nat_eq, not, arith}
 use Rattle.std.proofs.Math.Seq.{take-append_seam}
-use Rattle.std.proofs.lemmas.Option.{slice_get-get_or, slice_get_past, slice_get_read}
+use Rattle.std.proofs.lemmas.Option.{slice_get-get_or, slice_get_read}
 use Rattle.std.specs.List.{list_any, range_with_len}
 use Rattle.std.specs.Option.{unwrap_or}
 use Rattle.ld_base.specs.Numbers.{numbers_below}
@@ -16,8 +14,7 @@ use Rattle.ld_names.specs.Rules.{rules_of}
 use Rattle.ld_expr.specs.Lookup.{is_some_and}
 use Rattle.ld_rules.specs.SiteTests.{says_for_good, site_mark}
 use Rattle.ld_rank.specs.Alone.{feeds_between, feeds_by, is_fed, looks_alone, site_alone, writes_alone}
-use Rattle.ld_rank.specs.Feeding.{mark_counts}
-use Rattle.ld_rank.specs.Lookers.{AreLookers, is_at, rule_looks_at, rules_at}
+use Rattle.ld_rank.specs.Lookers.{AreLookers, is_at}
 use Rattle.ld_rank.specs.Rules.{IsRowOf, is_named}
 use Rattle.ld_rank.specs.declared.lookers.Lookers.{Lookers}
 use Rattle.ld_rank.proofs.Writing.{by_parts, looked, told_suffice}

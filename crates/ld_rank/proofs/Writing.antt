@@ -24,7 +24,6 @@ use Rattle.ld_names.specs.declared.rule.Rule.TheVariants.{CompletesActivity, Com
 use Rattle.ld_expr.specs.Lookup.{list_from, property_number}
 use Rattle.ld_expr.specs.Owners.{value_owner}
 use Rattle.ld_expr.specs.Seen.{act_opened_cell, property_cell, visibility_cell}
-use Rattle.ld_expr.specs.Terms.{cell_of_property}
 use Rattle.ld_firing.specs.ActionCells.{action_cells, change_cells, opened_act_cells, visible_cells}
 use Rattle.ld_firing.specs.Actions.{actions_of, holder_named, opened_by, owners_of_change}
 use Rattle.ld_rules.specs.SiteLooks.{cell_list}

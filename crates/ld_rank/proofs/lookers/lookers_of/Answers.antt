@@ -1,4 +1,4 @@
-use Rattle.std.proofs.Common.{◌≡◌, ◌≤◌, ap, length, ◌∙◌, arith}
+use Rattle.std.proofs.Common.{◌≤◌, ap, length, ◌∙◌, arith}
 use Rattle.ld_names.specs.Rules.{rules_of}
 use Rattle.ld_rank.specs.Lookers.{is_at, rule_looks_at}
 use Rattle.ld_rank.proofs.Noted.{all_rules, one_more_rule}
