@@ -12,7 +12,7 @@ from pathlib import Path
 from .context import Options
 from .convert import Source, convert
 from .engine import find_engine
-from .report import Refused
+from .report import Refused, Report, print_json
 
 
 def parse_words(words: list[str] | None = None) -> argparse.Namespace:
@@ -32,6 +32,7 @@ def parse_words(words: list[str] | None = None) -> argparse.Namespace:
     parser.add_argument(
         "--zip-names", metavar="ENCODING", help="how the archive writes names not marked as UTF-8: cp1252, for one"
     )
+    parser.add_argument("--report", type=Path, metavar="FILE", help="write what is told to this file, too, as JSON")
     return parser.parse_args(words)
 
 
@@ -39,8 +40,16 @@ def run(given: argparse.Namespace) -> int:
     options = Options(given.format, given.pages, given.identifier)
     source = Source(given.package, given.design, given.zip_names, given.all_files)
     program = find_engine(given.engine)
-    report = convert(source, given.folder, options, program)
-    print(report, report.summary("imported"), sep="")
+    try:
+        report = convert(source, given.folder, options, program)
+    except Refused as refusal:
+        report = Report()
+        report.add(refusal.entry)
+        print(refusal.entry)
+    else:
+        print(report, report.summary("imported"), sep="")
+    if given.report:
+        given.report.write_text(print_json(report.as_json()), encoding="utf-8")
     if report.is_refused():
         return 3
     if program is None:
@@ -52,9 +61,6 @@ def main(words: list[str] | None = None) -> int:
     given = parse_words(words)
     try:
         return run(given)
-    except Refused as refusal:
-        print(refusal.entry)
-        return 3
     except OSError as fault:
         print(f"ldimport: {fault}", file=sys.stderr)
         return 4

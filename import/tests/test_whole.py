@@ -1,5 +1,6 @@
 import contextlib
 import io
+import json
 import os
 import shutil
 from pathlib import Path
@@ -7,6 +8,7 @@ from unittest import mock
 
 from ldimport import __main__ as program
 from ldimport import engine
+from ldimport.report import Entry
 
 from .support import ACTS, HEAD, PARTS, PROPERTIES, SAMPLES, ImportCase
 
@@ -184,6 +186,21 @@ class Statuses(ImportCase):
         self.assertEqual((status, out.splitlines()[-1].split()[0]), (3, "refused"))
         self.assertEqual(self.call(self.place / "none", self.place / "course")[0], 3)
         self.assertEqual(list(self.place.glob("*course*")), [])
+
+    def test_reports_as_json(self):
+        """All that is told is in the file, too: of an import, of a refusal by the engine and of one before it."""
+        self.needs_engine()
+        file = self.place / "report.json"
+        for package, kinds in [
+            (SAMPLES / "notify", {"lost", "changed", "note"}),
+            (self.package(activities=Judge.CYCLE), {"refused"}),
+            (self.place / "none", {"refused"}),
+        ]:
+            _, out, _ = self.call(package, self.place / f"of-{package.name}", "--report", file)
+            told = json.loads(file.read_text())
+            lines = [str(Entry(**entry)) for entry in told]
+            self.assertEqual(lines, [line for line in out.splitlines() if " lost=" not in line])
+            self.assertEqual({entry["kind"] for entry in told}, kinds)
 
     def test_wrong_words(self):
         self.assertEqual(self.call("x")[0], 2)
