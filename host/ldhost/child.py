@@ -16,6 +16,8 @@ class Gone(Exception):
     def __init__(self, status: int):
         super().__init__(f"status {status}")
         self.status = status
+        self.is_killed = status < 0
+        """Whether a signal ended it, so that it did not choose to end."""
 
 
 class Child:

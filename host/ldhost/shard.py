@@ -26,7 +26,7 @@ from .timing import Timing
 
 T = TypeVar("T")
 LOCK_TRIES, LOCK_PAUSE = 100, 0.1
-TRIES = 3
+TRIES, PAUSE = 10, 0.05
 JOURNAL_STATUSES = {9: "the disk failed", 10: "its journal does not suit its units", 11: "its journal is full"}
 NO_LINE = "[]"
 
@@ -51,6 +51,10 @@ def write_whole(path: Path, text: str) -> None:
         out.flush()
         os.fsync(out.fileno())
     os.replace(part, path)
+
+
+def ends_of_keepers(gone: Gone) -> str:
+    return JOURNAL_STATUSES.get(gone.status, f"the keeper ended with status {gone.status}")
 
 
 class Shard:
@@ -135,14 +139,21 @@ class Shard:
     # -- the two processes
 
     async def start_keeper(self) -> None:
-        """Returns once the keeper has opened the journal: from then on all that is in it outlives a loss of power."""
-        self.keeper = await Child.start(self.engine.program, "keep", self.folders, self.folder, (self.hold,))
-        try:
-            reply = await self.keeper.ask(NO_LINE)
-        except Gone as gone:
-            raise Closed(JOURNAL_STATUSES.get(gone.status, f"the keeper ended with status {gone.status}")) from None
-        if reply.head != BAD_LINE:
-            raise Closed(f"the keeper begins with {reply.head!r}")
+        """Returns once a keeper has opened the journal: from then on all that is in it outlives a loss of power. One that
+        is killed meanwhile is followed by another."""
+        for number in range(TRIES):
+            await asyncio.sleep(PAUSE * number)
+            self.keeper = await Child.start(self.engine.program, "keep", self.folders, self.folder, (self.hold,))
+            try:
+                reply = await self.keeper.ask(NO_LINE)
+            except Gone as gone:
+                if not gone.is_killed:
+                    raise Closed(ends_of_keepers(gone)) from None
+                continue
+            if reply.head != BAD_LINE:
+                raise Closed(f"the keeper begins with {reply.head!r}")
+            return
+        raise Closed("the keeper ends again and again")
 
     async def start_reader(self, lines: Sequence[str], then: Callable[[str, Reply], None] | None = None) -> None:
         reader = self.reader = await Child.start(self.engine.program, "replay", self.folders, self.folder)
@@ -163,13 +174,14 @@ class Shard:
 
     async def ask_keeper(self, line: str) -> Reply | None:
         """The keeper's reply. None where the line is kept, but its reply was lost when the keeper ended."""
-        for _ in range(TRIES):
+        for number in range(TRIES):
+            await asyncio.sleep(PAUSE * number)
             try:
                 assert self.keeper
                 return await self.keeper.ask(line)
             except Gone as gone:
                 if gone.status in JOURNAL_STATUSES:
-                    raise Closed(JOURNAL_STATUSES[gone.status]) from None
+                    raise Closed(ends_of_keepers(gone)) from None
                 lines = kept_lines(self.journal)
                 await self.start_keeper()
                 if len(lines) == self.kept + 1 and lines[-1] == line:
@@ -180,7 +192,8 @@ class Shard:
 
     async def ask_reader(self, line: str) -> Reply:
         """The reader's reply. A reader that ended, or that has no memory, is replaced by a new one."""
-        for _ in range(TRIES):
+        for number in range(TRIES):
+            await asyncio.sleep(PAUSE * number)
             try:
                 assert self.reader
                 reply = await self.reader.ask(line)
@@ -192,12 +205,19 @@ class Shard:
         raise Closed("the reader ends again and again")
 
     async def renew_reader(self) -> None:
-        if self.reader:
-            await self.reader.stop()
-        try:
-            await self.start_reader(kept_lines(self.journal)[: self.kept])
-        except (Gone, OSError) as error:
-            raise Closed(f"no new reader: {error}") from None
+        """Starts a new reader and gives it the lines that were kept."""
+        for number in range(TRIES):
+            await asyncio.sleep(PAUSE * number)
+            if self.reader:
+                await self.reader.stop()
+            try:
+                return await self.start_reader(kept_lines(self.journal)[: self.kept])
+            except Gone as gone:
+                if not gone.is_killed:
+                    raise Closed(f"no new reader: {gone}") from None
+            except OSError as error:
+                raise Closed(f"no new reader: {error}") from None
+        raise Closed("the reader ends again and again")
 
     # -- lines: the lock is held
 
