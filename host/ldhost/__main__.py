@@ -33,7 +33,7 @@ class Server(uvicorn.Server):
         super().handle_exit(sig, frame)
 
 
-def words() -> argparse.Namespace:
+def parsed(words: list[str] | None = None) -> argparse.Namespace:
     given = argparse.ArgumentParser(prog="ldhost")
     given.add_argument("--engine", required=True, type=Path, help="the program ld")
     given.add_argument("--data", required=True, type=Path, help="the folder in which the host keeps everything")
@@ -43,7 +43,7 @@ def words() -> argparse.Namespace:
     given.add_argument("--port", type=int, default=8391)
     given.add_argument("--tick", type=int, default=5, help="seconds between ticks, for an engine without 'next'")
     given.add_argument("--secure", action="store_true", help="behind HTTPS: cookies for HTTPS alone")
-    return given.parse_args()
+    return given.parse_args(words)
 
 
 def make_administrator(access: Access, data: Path) -> None:
@@ -66,7 +66,8 @@ async def publish_all(house: House, library: Path) -> None:
             log.warning("%s is not published: %s", folder.name, refused)
 
 
-async def serve(given: argparse.Namespace) -> int:
+async def server_for(given: argparse.Namespace) -> Server:
+    """Opens all that the folder keeps, and makes the server before it."""
     given.data.mkdir(parents=True, exist_ok=True)
     engine = await ask_what_it_has(given.engine.resolve())
     if not engine.has_next:
@@ -80,7 +81,11 @@ async def serve(given: argparse.Namespace) -> int:
     if given.publish and given.library:
         await publish_all(house, given.library)
     app = make_app(house, access, read_platforms(given.platforms), given.library, given.secure)
-    server = Server(uvicorn.Config(app, host="127.0.0.1", port=given.port, log_level="warning"), house)
+    return Server(uvicorn.Config(app, host="127.0.0.1", port=given.port, log_level="warning"), house)
+
+
+async def serve(given: argparse.Namespace) -> int:
+    server = await server_for(given)
     log.warning("http://127.0.0.1:%s, the administrator's token is in %s", given.port, given.data / "admin.token")
     await server.serve()
     return 0 if server.started else 3
@@ -90,7 +95,7 @@ def main() -> int:
     os.umask(0o077)
     logging.basicConfig(format="ldhost: %(message)s")
     try:
-        return asyncio.run(serve(words()))
+        return asyncio.run(serve(parsed()))
     except (Unfit, Held) as problem:
         what = f"another host has {problem}" if isinstance(problem, Held) else str(problem)
         log.error("%s", what)

@@ -9,6 +9,7 @@ import signal
 import socket
 import subprocess
 import sys
+import threading
 import time
 from pathlib import Path
 
@@ -19,11 +20,13 @@ HERE = Path(__file__).parent
 TOP = HERE.parent
 sys.path.insert(0, str(TOP))
 
+from ldhost.__main__ import parsed, server_for  # noqa: E402
 from ldhost.engine import ask_what_it_has  # noqa: E402
 from ldhost.journal import kept_lines  # noqa: E402
 
 LD = Path(os.environ["LD"])
 ENGINE = asyncio.run(ask_what_it_has(LD))
+PATIENCE = 120
 LATER_VERBS = "next page page-set"
 needs_next = pytest.mark.skipif(not ENGINE.has_next, reason="the engine has no 'next'")
 needs_pages = pytest.mark.skipif(not ENGINE.has_pages, reason="the engine has no forms (pages.json)")
@@ -31,43 +34,11 @@ needs_pages = pytest.mark.skipif(not ENGINE.has_pages, reason="the engine has no
 
 def client(**how):
     """A client that waits long, since the machine may be busy with proofs."""
-    return httpx.Client(timeout=120, **how)
+    return httpx.Client(timeout=PATIENCE, **how)
 
 
-class Host:
-    """A host on a free port of this machine."""
-
-    def __init__(self, data, *more, engine=LD, library=None, **environment):
-        self.data, self.more, self.engine, self.library = data, more, engine, library
-        self.environment = os.environ | {"LD_REAL": str(LD)} | environment
-        with socket.socket() as one:
-            one.bind(("127.0.0.1", 0))
-            self.port = one.getsockname()[1]
-        self.url = f"http://127.0.0.1:{self.port}"
-
-    def launch(self, **streams):
-        words = ["--engine", self.engine, "--data", self.data, "--port", self.port, "--tick", 1, *self.more]
-        if self.library:
-            words += ["--library", self.library]
-        return subprocess.Popen(
-            [sys.executable, "-m", "ldhost", *map(str, words)], cwd=TOP, env=self.environment, **streams
-        )
-
-    def start(self):
-        self.process = self.launch(stderr=subprocess.DEVNULL)
-        while self.process.poll() is None:
-            try:
-                client().get(self.url + "/sign-in")
-                break
-            except httpx.HTTPError:
-                time.sleep(0.05)
-        self.token = (self.data / "admin.token").read_text().strip()
-        return self
-
-    def stop(self, sign=signal.SIGTERM):
-        if self.process.poll() is None:
-            self.process.send_signal(sign)
-            self.process.wait(30)
+class Asked:
+    """What tests ask of a host, wherever it runs: at `url`, with the folder `data` and the administrator's `token`."""
 
     def api(self, token=None):
         return client(base_url=self.url + "/api/v1", headers={"authorization": f"Bearer {token or self.token}"})
@@ -106,9 +77,78 @@ class Host:
     def verbs_kept(self):
         return [json.loads(line)[1] for line in self.kept()]
 
+
+class Host(Asked):
+    """A host in a process of its own, on a free port of this machine. It can be killed."""
+
+    def __init__(self, data, *more, engine=LD, library=None, **environment):
+        self.data, self.more, self.engine, self.library = data, more, engine, library
+        self.environment = {"LD_REAL": str(LD)} | environment
+        with socket.socket() as one:
+            one.bind(("127.0.0.1", 0))
+            self.port = one.getsockname()[1]
+        self.url = f"http://127.0.0.1:{self.port}"
+
+    def words(self):
+        words = ["--engine", self.engine, "--data", self.data, "--port", self.port, "--tick", 1, *self.more]
+        return [str(word) for word in words + (["--library", self.library] if self.library else [])]
+
+    def launch(self, **streams):
+        words = [sys.executable, "-m", "ldhost", *self.words()]
+        return subprocess.Popen(words, cwd=TOP, env=os.environ | self.environment, **streams)
+
+    def start(self):
+        self.process = self.launch(stderr=subprocess.DEVNULL)
+        wait_for(lambda: self.process.poll() is not None or self.answers())
+        self.token = (self.data / "admin.token").read_text().strip()
+        return self
+
+    def answers(self):
+        try:
+            return client().get(self.url + "/sign-in").status_code == 200
+        except httpx.HTTPError:
+            return False
+
+    def stop(self, sign=signal.SIGTERM):
+        if self.process.poll() is None:
+            self.process.send_signal(sign)
+            self.process.wait(PATIENCE)
+
     def keepers(self):
         """The numbers of the keepers' processes that this host started."""
         return [number for number, parent, words in processes() if parent == self.process.pid and b"keep" in words]
+
+
+class Inside(Host):
+    """A host in a thread of the tests' own process, which starts sooner. It can't be killed."""
+
+    def start(self):
+        os.environ.update(self.environment)
+        self.server = None
+        self.thread = threading.Thread(target=lambda: asyncio.run(self.serve()), daemon=True)
+        self.thread.start()
+        wait_for(lambda: not self.thread.is_alive() or self.server and self.server.started)
+        self.token = (self.data / "admin.token").read_text().strip()
+        return self
+
+    async def serve(self):
+        self.loop = asyncio.get_running_loop()
+        self.server = await server_for(parsed(self.words()))
+        await self.server.serve()
+
+    def stop(self):
+        if self.thread.is_alive():
+            self.loop.call_soon_threadsafe(self.server.handle_exit, signal.SIGTERM, None)
+            self.thread.join(PATIENCE)
+        assert not self.thread.is_alive()
+
+
+def wait_for(holds, seconds=PATIENCE):
+    """Waits until it holds, and tells whether it does."""
+    ends = time.monotonic() + seconds
+    while not holds() and time.monotonic() < ends:
+        time.sleep(0.02)
+    return holds()
 
 
 def processes():
@@ -143,17 +183,23 @@ def library(tmp_path_factory):
 
 
 @pytest.fixture
-def new_host(tmp_path, library):
-    """Makes hosts on one folder, and ends them all at the end of the test."""
-    hosts = []
+def hosts():
+    """The hosts of a test, which all end at its end."""
+    found = []
+    yield found
+    for host in found:
+        host.stop()
+
+
+@pytest.fixture
+def new_host(tmp_path, library, hosts):
+    """Makes hosts on one folder, each in a thread."""
 
     def make(*more, **how):
-        hosts.append(Host(tmp_path / "data", *more, library=library, **how).start())
+        hosts.append(Inside(tmp_path / "data", *more, library=library, **how).start())
         return hosts[-1]
 
-    yield make
-    for host in hosts:
-        host.stop()
+    return make
 
 
 @pytest.fixture
@@ -162,13 +208,29 @@ def host(new_host):
 
 
 @pytest.fixture
+def process(tmp_path, library, hosts):
+    """A host that can be killed."""
+    hosts.append(Host(tmp_path / "data", library=library).start())
+    return hosts[-1]
+
+
+@pytest.fixture
 def host_without(new_host):
     """A host over the engine without the later verbs."""
     return new_host(engine=HERE / "engines" / "without.py", WITHOUT=LATER_VERBS)
 
 
-@pytest.fixture
-def fractions(host):
+def with_fractions(host):
     """A started run `monday` of the course `fractions`, with two pupils and a teacher."""
     host.run_of("fractions", "monday", ("ida", "pupil"), ("jon", "pupil"), ("ms-lee", "teacher"))
     return host
+
+
+@pytest.fixture
+def fractions(host):
+    return with_fractions(host)
+
+
+@pytest.fixture
+def fractions_process(process):
+    return with_fractions(process)

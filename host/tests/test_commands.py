@@ -37,8 +37,8 @@ def test_looks_are_no_commands(fractions):
         assert api.post("/runs/monday/commands", json={"verb": verb, "words": words}).status_code in (403, 422)
 
 
-def test_same_key_same_reply(fractions):
-    api = fractions.api()
+def test_same_key_same_reply(fractions_process):
+    fractions, api = fractions_process, fractions_process.api()
     first = say(api, "monday", "complete", "ida", "lesson", key="k1")
     assert say(api, "monday", "complete", "ida", "lesson", key="k1") == first
     say(api, "monday", "complete", "jon", "lesson", key="k1", status=422)

@@ -49,9 +49,9 @@ class Clients:
 
 
 @pytest.mark.parametrize("whom", ["keeper", "host"])
-def test_killed_again_and_again(fractions, whom):
+def test_killed_again_and_again(fractions_process, whom):
     """While commands come, the keeper or the host is killed: each acknowledged command is in the journal, once."""
-    seed = random.randrange(1 << 32)
+    fractions, seed = fractions_process, random.randrange(1 << 32)
     print("seed", seed)
     moments, clients, kills = random.Random(seed), Clients(fractions), 0
     while clients.are_busy() and kills < KILLS:

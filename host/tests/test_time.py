@@ -5,7 +5,7 @@ import json
 import time
 
 import pytest
-from conftest import ENGINE, needs_next, say
+from conftest import ENGINE, needs_next, say, wait_for
 
 from ldhost import moments
 from ldhost.journal import kept_lines
@@ -13,13 +13,6 @@ from ldhost.shard import Shard
 from ldhost.timing import Alarms, Ticks
 
 ANN = ("ann", "learner")
-
-
-def wait_for(holds, seconds=60):
-    ends = time.time() + seconds
-    while not holds() and time.time() < ends:
-        time.sleep(0.1)
-    return holds()
 
 
 def act_b(host):
