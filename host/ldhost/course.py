@@ -7,7 +7,7 @@ from typing import Any, Iterator
 from . import moments
 
 DOCUMENTS = ["roles.json", "properties.json", "environments.json", "activities.json", "unit.json", "conditions.json"]
-PAGES = "pages.json"
+PAGES, CONTENT, IMPORTED = "pages.json", "content", "import.json"
 FORMAT = 1
 LIMIT_WORDS = {"time-limit", "current-datetime"}
 Thing = dict[str, Any]

@@ -66,10 +66,13 @@ def show(fault: Fault, text: str, first: int, last: int) -> None:
     """Puts the rows around the marked ones into the fault."""
     begin = text.count("\n", 0, first) + 1
     end = min(text.count("\n", 0, max(first, last - 1)) + 1, begin + ROWS_MARKED - 1)
-    fault.line = begin
-    for number, row in enumerate(text.split("\n"), 1):
-        if begin - ROWS_AROUND <= number <= end + ROWS_AROUND:
-            fault.rows.append(Row(number, row[:ROW_LENGTH], begin <= number <= end))
+    fault.line, fault.rows = begin, rows_around(text.split("\n"), begin, end)
+
+
+def rows_around(lines: list[str], begin: int, end: int) -> list[Row]:
+    """The lines from `begin` to `end`, which are marked, and some before and after them."""
+    first, last = max(1, begin - ROWS_AROUND), min(len(lines), end + ROWS_AROUND)
+    return [Row(number, lines[number - 1][:ROW_LENGTH], begin <= number <= end) for number in range(first, last + 1)]
 
 
 def place(text: str, pointer: str) -> tuple[int, int]:

@@ -1,26 +1,28 @@
-"""The files of a course, and where its items lead."""
+"""The files of a course, and where its items lead. Files stand below `content/`; nothing else of a course is sent."""
 
 import re
 from pathlib import Path
+from urllib.parse import unquote
 
-from .course import DOCUMENTS, PAGES, Course
+from .course import CONTENT, Course
 
 SCHEME = re.compile(r"[A-Za-z][A-Za-z0-9+.-]*:")
 SAFE_SCHEMES = {"http:", "https:", "mailto:"}
-HIDDEN = {*DOCUMENTS, PAGES, "imsmanifest.xml", "import.json"}
 
 
-def file_of(folder: Path, href: str) -> Path | None:
-    """The file of a relative reference. None where it leads out of the folder, to a document or nowhere."""
-    base = folder.resolve()
+def file_at(folder: Path, path: str) -> Path | None:
+    """The file at a path of the course folder. None where that is not below `content/`, or no file."""
     try:
-        target = (base / re.split("[?#]", href)[0]).resolve()
+        target = (folder / path).resolve()
         is_file = target.is_file()
     except (OSError, ValueError):
         return None
-    if not target.is_relative_to(base) or not is_file or str(target.relative_to(base)) in HIDDEN:
-        return None
-    return target
+    return target if is_file and target.is_relative_to((folder / CONTENT).resolve()) else None
+
+
+def file_of(folder: Path, href: str) -> Path | None:
+    """The file of an item's address."""
+    return file_at(folder, unquote(re.split("[?#]", href)[0]))
 
 
 def is_within(href: str) -> bool:

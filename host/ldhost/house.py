@@ -14,7 +14,7 @@ from pathlib import Path
 from typing import Callable
 
 from . import moments
-from .course import FORMAT, Course
+from .course import CONTENT, DOCUMENTS, FORMAT, IMPORTED, PAGES, Course
 from .engine import UNIT_REFUSED, Engine, Unfit, answer
 from .faults import Fault, explain
 from .replies import BAD_LINE, Reply
@@ -24,6 +24,7 @@ from .timing import timing_of
 from .uploads import Refused
 
 TURN = 0.5
+PARTS = {*DOCUMENTS, PAGES, CONTENT, IMPORTED}
 IDENTIFIER = re.compile("[A-Za-z_][A-Za-z0-9_.-]{0,63}")
 log = logging.getLogger("ldhost")
 
@@ -198,8 +199,14 @@ class House:
 
 
 def copy(folder: Path, target: Path) -> None:
-    """A whole copy that appears at once. Links are left out."""
+    """A copy that appears at once: of the documents, of what an import noted, and of the files below `content/`."""
     part = target.parent.parent / "part"
     shutil.rmtree(part, ignore_errors=True)
-    shutil.copytree(folder, part, ignore=lambda at, names: {name for name in names if (Path(at) / name).is_symlink()})
+    shutil.copytree(folder, part, ignore=lambda at, names: left_out(folder, Path(at), names))
     part.rename(target)
+
+
+def left_out(folder: Path, at: Path, names: list[str]) -> set[str]:
+    """What is not copied from a folder within a course folder: links, and at the top all that is no part of a course."""
+    others = set(names) - PARTS if at == folder else set()
+    return others | {name for name in names if (at / name).is_symlink()}

@@ -1,8 +1,10 @@
 """A checklist after WCAG 2.1 AA, for each page in a real Chromium. host/README.md says what it can't see."""
 
+import shutil
+
 import pytest
 from conftest import Host, say
-from test_browser import Person
+from test_browser import SAMPLES, Person
 
 # What is wrong on a page, as a list of texts.
 CHECKLIST = r"""
@@ -92,12 +94,15 @@ def test_page(people, width, path):
 
 
 @pytest.mark.parametrize("width", [0, 1])
-def test_answers_of_forms(people, width):
-    """Pages that only come as an answer: a fault, a verdict, tokens, a preview, a refused token."""
+def test_answers_of_forms(people, width, tmp_path):
+    """Pages that only come as an answer: a fault, a verdict, losses of a package, tokens, a preview, a refused token."""
     boss = people[width].go("/author").choose("folder", "wrong")
     boss.press("form[action='/author/choose'] [value=check]").see("h2", "The first fault")
     assert wrong(boss) == []
     boss.choose("folder", "bridges").press("form[action='/author/choose'] [value=publish]").see("#verdict")
+    assert wrong(boss) == []
+    boss.field("archive", shutil.make_archive(str(tmp_path / "p"), "zip", SAMPLES / "personal"))
+    boss.press("form[action='/author/upload'] [value=check]").see("#import .here .bad", "lost").press("summary")
     assert wrong(boss) == []
     boss.press("[id^=preview-]").see("#preview")
     assert wrong(boss) == []

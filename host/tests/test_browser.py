@@ -1,11 +1,12 @@
 """Two learners and a tutor go through courses in a real Chromium. What is seen is kept as pictures where SHOTS says."""
 
 import os
+import shutil
 import time
 from pathlib import Path
 
 import pytest
-from conftest import ENGINE, needs_pages, say
+from conftest import ENGINE, TOP, needs_pages, say
 from selenium import webdriver
 from selenium.webdriver.chrome.service import Service
 from selenium.webdriver.common.by import By
@@ -13,6 +14,7 @@ from selenium.webdriver.common.keys import Keys
 from selenium.webdriver.support.ui import Select, WebDriverWait
 
 SHOTS = os.environ.get("SHOTS")
+SAMPLES = TOP.parent / "import" / "samples"
 OPTIONS = ("--headless=new", "--no-sandbox", "--disable-gpu", "--disable-dev-shm-usage", "--hide-scrollbars")
 FIT = "return Math.max(document.documentElement.scrollHeight, 300)"
 
@@ -168,7 +170,7 @@ def test_a_script_of_a_course_has_an_origin_of_its_own(host, someone):
     host.run_of("forms" if ENGINE.has_pages else "grading", "g")
     boss = someone(host.token)
     if ENGINE.has_pages:
-        boss.go("/files/g/lesson.html").see("h1", "lesson")
+        boss.go("/files/g/content/lesson.html").see("h1", "lesson")
         WebDriverWait(boss.b, 5).until(lambda b: b.title == "cookie:refused")
     boss.go("/admin").see("h1", "Administration")
 
@@ -176,6 +178,16 @@ def test_a_script_of_a_course_has_an_origin_of_its_own(host, someone):
 def test_a_fault_at_its_place(host, someone):
     boss = someone(host.token).go("/author").choose("folder", "wrong")
     boss.press("form[action='/author/choose'] [value=check]").see("pre .here", "lerner").shot("author-fault.png")
+
+
+def test_a_package(host, someone, tmp_path):
+    """An author sees what a package loses beside its lines, and publishes it all the same."""
+    packed = shutil.make_archive(str(tmp_path / "report"), "zip", SAMPLES / "notify")
+    boss = someone(host.token).go("/author").field("archive", packed)
+    boss.press("form[action='/author/upload'] [value=publish]").see("#import .here .bad", "lost")
+    boss.see("#verdict", "It is not published yet").shot("author-package.png")
+    boss.press("#f-accept button").see("#verdict", "published as Ubung-Bericht-17ff435e9c-1")
+    boss.sees_not("#f-accept")
 
 
 def test_a_preview(host, someone):

@@ -36,6 +36,9 @@ def test_the_platforms(tmp_path):
 def test_files_that_are_named():
     for name in re.findall(r"\]\((docs/[^)]+)\)", README) + re.findall(r"`(tests/[a-z_.]+\.py)`", README):
         assert (TOP / name).exists(), name
+    guide = (TOP / "docs" / "AUTHORS.md").read_text()
+    for name in re.findall(r"(\.\./[A-Za-z./]+\.md)|\]\(([^)]+)\)", guide):
+        assert (TOP / "docs" / "".join(name)).exists(), name
     for row in re.findall(r"^\| (ldhost/[^|]+) \|", README, re.M):
         folder = "ldhost/web/" if "web" in row else "ldhost/"
         for name in re.findall(r"[a-z_]+\.py", row):

@@ -65,11 +65,11 @@ def test_titles_links_and_files(host):
     page = host.browser(host.give_token("ann"))
     text = page.get("/runs/g").text
     assert "&lt;b&gt;Essay&lt;/b&gt; &amp; more" in text and "<b>Essay</b>" not in text
-    assert "javascript:" not in text and 'href="/files/g/task.html#part"' in text
+    assert "javascript:" not in text and 'href="/files/g/content/task.html#part"' in text
     assert "access.db" not in text and text.count("(no file)") == 2
     assert "Aims" in text and "What you need before" in text and 'href="https://school.example/reading"' in text
     assert "Feedback:</small>" in text and "Well done" in text and "Essays" in text
-    assert page.get("/files/g/task.html").headers["content-security-policy"].startswith("sandbox")
+    assert page.get("/files/g/content/task.html").headers["content-security-policy"].startswith("sandbox")
     tutor = host.browser(host.give_token("tom")).get("/runs/g").text
     assert "&lt;i&gt;handed in&lt;/i&gt;" in tutor
 
@@ -85,7 +85,9 @@ def test_no_path_leads_out_of_an_edition(host):
         "/etc/passwd",
         "%2fetc/passwd",
         "./unit.json",
-        "task.html/../unit.json",
+        "content/../unit.json",
+        "content",
+        "",
         "a%00b",
         "x" * 5000,
     ):
@@ -112,7 +114,7 @@ def test_rules_that_come_to_rest(host):
 
     assert "always come to rest" in check("jigsaw")
     assert "feed each other in a circle, and might not come to rest: condition 1, condition 2." in check("circle")
-    assert "files that it does not have: text.html" in check("first")
+    assert "does not have below <code>content/</code>: text.html" in check("first")
 
 
 def test_list_of_persons(host):

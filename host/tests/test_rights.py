@@ -35,7 +35,7 @@ REQUESTS = {
     "tree own": [look(f"{RUN}/persons/ME/tree"), look("/runs/monday/view")],
     "outbox own": [look(f"{RUN}/persons/ME/outbox")],
     "page own": [look(f"{RUN}/persons/ME/pages/letter")],
-    "files of the course": [look("/files/monday/lesson.html")],
+    "files of the course": [look("/files/monday/content/lesson.html")],
     "set of a role held": [command("set", "ME", "ready", "true")],
     "tree of others": [look(f"{RUN}/persons/jon/tree"), look("/runs/monday/persons/jon")],
     "outbox of others": [look(f"{RUN}/persons/jon/outbox")],
@@ -71,7 +71,10 @@ REQUESTS = {
     "open a journal again": [form("/admin/reopen", shard="run.other")],
     "units": [look("/api/v1/units")],
     "check a course": [look("/author"), form("/author/choose", folder="wrong", act="check")],
-    "publish a course": [form("/author/choose", folder="first", act="publish")],
+    "publish a course": [
+        form("/author/choose", folder="first", act="publish"),
+        form("/author/accept", draft="none"),
+    ],
     "preview a course": [form("/author/preview", unit="UNIT")],
 }
 # What the table allows and the engine or the course then refuses, by these requests alone, is answered so.

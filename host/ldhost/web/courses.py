@@ -8,7 +8,7 @@ from fastapi.responses import FileResponse, Response
 from starlette.datastructures import FormData
 
 from ..access import Who
-from ..files import file_of
+from ..files import file_at
 from ..run import Run
 from ..shard import Shard
 from ..view import View, view_of
@@ -69,7 +69,7 @@ def routes(site: Site) -> APIRouter:
 def sent(run: Run, path: str) -> Response:
     """A file of the course. It gets an origin of its own, so that no script of an author acts as the reader. Browsers do
     not show PDF in such an origin; it has no script that acts, and is sent as it is."""
-    target = file_of(run.course.folder, path)
+    target = file_at(run.course.folder, path)
     if target is None:
         raise HTTPException(404, "The course has no such file.")
     answer = FileResponse(target)

@@ -13,7 +13,9 @@ from starlette.datastructures import FormData
 from .. import moments, rights
 from ..access import Access, Who, digest, form_word
 from ..attempts import Attempts
+from ..drafts import Drafts
 from ..house import House
+from ..packages import Importer
 from ..platforms import Platform
 from ..preview import Previews
 from ..run import Run
@@ -35,6 +37,7 @@ class Site:
         )
         self.attempts = Attempts()
         self.previews = Previews(house.engine, house.data / "units")
+        self.drafts = Drafts(house.data / "drafts", Importer(house.engine))
         self.notes: dict[str, str] = {}
         self.templates = jinja2.Environment(
             loader=jinja2.FileSystemLoader(TEMPLATES),
