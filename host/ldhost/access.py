@@ -9,9 +9,11 @@ from dataclasses import dataclass
 from pathlib import Path
 
 SESSION_SECONDS = 12 * 3600
+MOST_LAID = 20_000
 TABLES = """
     create table if not exists secret(digest text primary key, kind text, person text, rights text, ends real);
     create table if not exists once(value text primary key, ends real);
+    create index if not exists once_ends on once(ends);
 """
 ADMIN, AUTHOR = "admin", "author"
 
@@ -90,6 +92,8 @@ class Access:
 
     def lay(self, value: str, seconds: float) -> None:
         self.db.execute("delete from once where ends<?", (time.time(),))
+        if self.db.execute("select count(*) from once").fetchone()[0] >= MOST_LAID:
+            raise Denied("too many launches that were begun and not ended")
         self.db.execute("insert or ignore into once values(?,?)", (value, time.time() + seconds))
 
     def take(self, value: str) -> bool:

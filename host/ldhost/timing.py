@@ -4,6 +4,7 @@ from typing import TYPE_CHECKING, Protocol
 
 from . import moments
 from .engine import Engine
+from .replies import NO_MEMORY
 from .run import Run
 
 if TYPE_CHECKING:
@@ -36,6 +37,8 @@ class Alarms:
         rung = False
         while run.alarm and run.alarm <= moment:
             reply = await shard.put(shard.line(run.alarm, "tick", run.name))
+            if reply.head == NO_MEMORY:
+                break  # it rings again at the next turn
             if not reply.ok:
                 run.alarm = None
                 break

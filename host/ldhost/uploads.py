@@ -29,7 +29,7 @@ class Archive:
     def __init__(self, raw: bytes):
         self.raw = raw
         self.zip = opened(raw)
-        self.entries = [entry for entry in self.zip.infolist() if not entry.is_dir()]
+        self.entries = [entry for entry in self.zip.infolist() if not entry.filename.endswith("/")]
         if sum(entry.file_size for entry in self.entries) > MOST_BYTES:
             raise Refused("the archive holds too much")
         names = {entry.filename for entry in self.entries}

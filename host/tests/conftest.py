@@ -21,14 +21,15 @@ TOP = HERE.parent
 sys.path.insert(0, str(TOP))
 
 from ldhost.__main__ import parsed, server_for  # noqa: E402
-from ldhost.engine import ask_what_it_has  # noqa: E402
+from ldhost.engine import Engine, ask_what_it_has  # noqa: E402
 from ldhost.journal import kept_lines  # noqa: E402
 
 LD = Path(os.environ["LD"])
+os.environ["LD_REAL"] = str(LD)  # for the programs of tests/engines
 ENGINE = asyncio.run(ask_what_it_has(LD))
 PATIENCE = 120
 LATER_VERBS = "next page page-set"
-needs_next = pytest.mark.skipif(not ENGINE.has_next, reason="the engine has no 'next'")
+WITH_NEXT = ENGINE if ENGINE.has_next else Engine(HERE / "engines" / "alarming.py", has_next=True)
 needs_pages = pytest.mark.skipif(not ENGINE.has_pages, reason="the engine has no forms (pages.json)")
 
 
@@ -83,7 +84,7 @@ class Host(Asked):
 
     def __init__(self, data, *more, engine=LD, library=None, **environment):
         self.data, self.more, self.engine, self.library = data, more, engine, library
-        self.environment = {"LD_REAL": str(LD)} | environment
+        self.environment = environment
         with socket.socket() as one:
             one.bind(("127.0.0.1", 0))
             self.port = one.getsockname()[1]
@@ -179,6 +180,8 @@ def library(tmp_path_factory):
     for source in [*(TOP.parent / "examples").iterdir(), *(HERE / "courses").iterdir()]:
         if (source / "unit.json").exists():
             shutil.copytree(source, folder / source.name)
+    (folder / "fractions" / "content").mkdir()
+    (folder / "fractions" / "content" / "lesson.html").write_text("<h1>Lesson</h1>")
     return folder
 
 
@@ -212,6 +215,12 @@ def process(tmp_path, library, hosts):
     """A host that can be killed."""
     hosts.append(Host(tmp_path / "data", library=library).start())
     return hosts[-1]
+
+
+@pytest.fixture
+def host_with_next(new_host):
+    """A host over an engine with alarms: where the real one has none, one that has them for the course `deadline`."""
+    return new_host(engine=WITH_NEXT.program)
 
 
 @pytest.fixture

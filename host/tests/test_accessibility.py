@@ -36,6 +36,9 @@ for (const e of all("button,select,input:not([type=hidden])"))
   check(e.getBoundingClientRect().height >= 17, "too small to press: " + e.outerHTML);
 for (const e of all("[aria-describedby]"))
   check(document.getElementById(e.getAttribute("aria-describedby")), "described by nothing");
+for (const e of all("*"))
+  if (["auto", "scroll"].includes(getComputedStyle(e).overflowX))
+    check(e.tabIndex >= 0 || e.matches("input,textarea,select"), "scrolls, but not by the keyboard (2.1.1): " + e.className);
 if (all("#live[data-events]").length) check(all("[aria-live]").length === 1, "changes are not told (4.1.3)");
 
 const rgb = (text) => text.match(/[\d.]+/g).map(Number);
@@ -61,7 +64,16 @@ while (walker.nextNode()) {
 check(document.documentElement.scrollWidth <= innerWidth + 1, "wider than the window (1.4.10): " + document.documentElement.scrollWidth);
 return wrong;
 """
-PAGES = ["/", "/author", "/admin", "/admin/runs/monday", "/runs/monday", "/runs/monday/persons/ida", "/nothing"]
+PAGES = [
+    "/",
+    "/author",
+    "/admin",
+    "/admin/runs/monday",
+    "/runs/monday",
+    "/runs/monday/persons/ida",
+    "/runs/twice",
+    "/nothing",
+]
 NARROW = 320
 
 
@@ -72,6 +84,7 @@ def people(tmp_path_factory, library):
     members = [("ida", "pupil"), ("jon", "pupil"), ("admin", "teacher")]
     host.run_of("fractions", "monday", *members)
     say(host.api(), "monday", "complete", "ida", "lesson")
+    host.run_of("twice", "twice", ("admin", "learner"))
     found = [Person(host, host.token, size=size) for size in ((1100, 900), (500, 900))]
     found[1].b.execute_cdp_cmd(
         "Emulation.setDeviceMetricsOverride", {"width": NARROW, "height": 640, "deviceScaleFactor": 1, "mobile": False}

@@ -1,13 +1,16 @@
 """Bounds: on uploads, on requests, on tries to sign in."""
 
 import io
+import random
 import subprocess
 import sys
 import zipfile
+from contextlib import ExitStack
 
-from conftest import HERE, TOP, client
+from conftest import HERE, PATIENCE, TOP, client, wait_for
 
 from ldhost.attempts import Attempts
+from ldhost.uploads import Archive, Refused
 
 MOST_TRIES = 20
 
@@ -63,6 +66,24 @@ def test_upload_is_bounded(host):
     assert "can&#39;t be read" in send(lies), "a size that is not the real one"
 
 
+def test_changed_archives_are_refused_in_words(tmp_path):
+    """Archives with changed bytes: each is taken, or refused with a reason."""
+    draw, seeds = random.Random(7), [
+        archive(documents("first"), how) for how in (zipfile.ZIP_STORED, zipfile.ZIP_DEFLATED)
+    ]
+    refused = 0
+    for number in range(1000):
+        raw = bytearray(draw.choice(seeds))
+        for _ in range(draw.randint(1, 6)):
+            at = draw.choice([draw.randrange(len(raw)), len(raw) - 1 - draw.randrange(400)])
+            raw[at] = draw.choice([0, 1, 255, draw.randrange(256)])
+        try:
+            Archive(bytes(raw)).unpack_or_refuse(tmp_path / str(number))
+        except Refused:
+            refused += 1
+    assert refused > 500
+
+
 def test_requests_are_bounded(host):
     page = host.browser()
     long = {"word": page.word, "key": "1", "text": "x" * (1 << 20)}
@@ -87,6 +108,27 @@ def test_tries_to_sign_in_are_bounded(host):
     assert host.api().get("/runs").status_code == 200, "a good token of a platform is not held up"
 
 
+def test_streams_of_a_session_are_bounded(fractions, monkeypatch):
+    """A session has so many pages that change by themselves; one that is closed makes room."""
+    monkeypatch.setattr("ldhost.web.events.MOST_STREAMS", 2)
+    ida, streams = fractions.browser(fractions.give_token("ida")), []
+
+    def opened(stack):
+        answer = stack.enter_context(ida.stream("GET", "/runs/monday/events"))
+        streams.append(answer.iter_lines())  # one that nobody holds is closed
+        next(streams[-1])
+        return answer.status_code
+
+    with ExitStack() as stack:
+        assert [opened(stack) for _ in range(3)] == [200, 200, 429]
+
+    def has_room():
+        with ExitStack() as stack:
+            return opened(stack) == 200
+
+    assert wait_for(has_room)
+
+
 def test_attempts_are_forgotten():
     now = [0.0]
     attempts = Attempts(most=2, seconds=10, clock=lambda: now[0])
@@ -102,5 +144,5 @@ def test_a_host_without_an_engine(tmp_path):
     """What can't stand behind the host is told in words at the start."""
     for engine, text in (("/nothing", "can't be started"), ("/bin/false", "ended with status 1")):
         words = [sys.executable, "-m", "ldhost", "--engine", engine, "--data", str(tmp_path / "data")]
-        done = subprocess.run(words, cwd=HERE.parent, capture_output=True, timeout=30)
+        done = subprocess.run(words, cwd=HERE.parent, capture_output=True, timeout=PATIENCE)
         assert done.returncode == 1 and text in done.stderr.decode()

@@ -19,16 +19,31 @@ OPTIONS = ("--headless=new", "--no-sandbox", "--disable-gpu", "--disable-dev-shm
 FIT = "return Math.max(document.documentElement.scrollHeight, 300)"
 
 
+def new_browser():
+    options = webdriver.ChromeOptions()
+    for word in OPTIONS:
+        options.add_argument(word)
+    options.binary_location = "/usr/bin/chromium"
+    return webdriver.Chrome(service=Service("/usr/bin/chromedriver"), options=options)
+
+
+def forget(browser):
+    """Makes a browser as new for its next person."""
+    first, *others = browser.window_handles
+    for other in others:
+        browser.switch_to.window(other)
+        browser.close()
+    browser.switch_to.window(first)
+    browser.get("about:blank")
+    browser.execute_cdp_cmd("Network.clearBrowserCookies", {})
+
+
 class Person:
     """Somebody with a browser of her or his own, who is signed in."""
 
-    def __init__(self, host, token, size=(1100, 900)):
-        options = webdriver.ChromeOptions()
-        for word in OPTIONS:
-            options.add_argument(word)
-        options.binary_location = "/usr/bin/chromium"
+    def __init__(self, host, token, size=(1100, 900), browser=None):
         self.host, self.size = host, size
-        self.b = webdriver.Chrome(service=Service("/usr/bin/chromedriver"), options=options)
+        self.b = browser or new_browser()
         self.b.set_window_size(*size)
         self.go("/sign-in").field("token", token).press("main button").see("h1", "My courses")
 
@@ -70,18 +85,28 @@ class Person:
         return self
 
 
+@pytest.fixture(scope="module")
+def browsers():
+    """The browsers that were opened; a test gives its own back."""
+    free = []
+    yield free
+    for browser in free:
+        browser.quit()
+
+
 @pytest.fixture
-def someone(host):
-    """Opens browsers, and closes them all at the end."""
+def someone(host, browsers):
+    """Lets persons come, each with a browser."""
     people = []
 
     def come(token, **how):
-        people.append(Person(host, token, **how))
+        people.append(Person(host, token, browser=browsers.pop() if browsers else None, **how))
         return people[-1]
 
     yield come
     for person in people:
-        person.b.quit()
+        forget(person.b)
+        browsers.append(person.b)
 
 
 def test_a_course_from_upload_to_end(host, someone):
@@ -171,7 +196,7 @@ def test_a_script_of_a_course_has_an_origin_of_its_own(host, someone):
     boss = someone(host.token)
     if ENGINE.has_pages:
         boss.go("/files/g/content/lesson.html").see("h1", "lesson")
-        WebDriverWait(boss.b, 5).until(lambda b: b.title == "cookie:refused")
+        WebDriverWait(boss.b, 60).until(lambda b: b.title == "cookie:refused")
     boss.go("/admin").see("h1", "Administration")
 
 

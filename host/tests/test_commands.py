@@ -5,7 +5,7 @@ import signal
 import subprocess
 import threading
 
-from conftest import HERE, Host, say
+from conftest import HERE, PATIENCE, Host, say
 
 
 def test_replies_are_those_of_the_engine(fractions):
@@ -141,7 +141,7 @@ def test_two_hosts_on_one_folder(fractions):
     """A second host on the same folder waits and gives up; the first goes on."""
     second = Host(fractions.data)
     process = second.launch(stderr=subprocess.PIPE)
-    _, said = process.communicate(timeout=60)
+    _, said = process.communicate(timeout=PATIENCE)
     assert process.returncode == 1 and b"another host has run.monday" in said
     say(fractions.api(), "monday", "complete", "ida", "lesson")
 

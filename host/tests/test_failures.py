@@ -11,7 +11,9 @@ import httpx
 import pytest
 from conftest import HERE, say
 
-CLIENTS, COMMANDS, KILLS, SECONDS = 3, 60, 12, 180
+CLIENTS, COMMANDS, KILLS = 3, 60, 12
+KILLING, SECONDS = 60, 300
+"""For how long processes are killed, and in how much time all has to be answered."""
 
 
 class Clients:
@@ -54,7 +56,7 @@ def test_killed_again_and_again(fractions_process, whom):
     fractions, seed = fractions_process, random.randrange(1 << 32)
     print("seed", seed)
     moments, clients, kills = random.Random(seed), Clients(fractions), 0
-    while clients.are_busy() and kills < KILLS:
+    while clients.are_busy() and kills < KILLS and time.time() < clients.ends - SECONDS + KILLING:
         time.sleep(moments.uniform(0.05, 0.3))
         if whom == "host":
             fractions.stop(signal.SIGKILL)
@@ -68,6 +70,21 @@ def test_killed_again_and_again(fractions_process, whom):
     assert kills >= 3 and len(clients.done) == CLIENTS * COMMANDS
     assert sorted(values) == sorted(clients.done), "each acknowledged command once, and no other"
     assert fractions.api().get("/runs/monday/persons/ida/properties/word").json() == {"value": values[-1]}
+
+
+@pytest.mark.parametrize("form", ["keep", "replay"])
+def test_processes_that_are_killed_while_they_start(new_host, tmp_path, form):
+    """One that follows a killed one is killed, too, and once more: the run goes on."""
+    room = tmp_path / "room"
+    room.mkdir()
+    host = new_host(engine=HERE / "engines" / "killed.py", KILLED=form, ROOM=str(room))
+    api = host.run_of("first", "r", ("ann", "learner"))
+    for number in range(3):
+        (room / str(number)).touch()
+    shard, _ = host.server.house.find("r")
+    (shard.keeper if form == "keep" else shard.reader).process.kill()
+    say(api, "r", "complete", "ann", "read")
+    assert not list(room.iterdir()) and host.verbs_kept()[-2:] == ["start", "complete"]
 
 
 @pytest.mark.parametrize("line", [1, 4, 6])

@@ -179,6 +179,13 @@ def test_each_launch_once_and_in_its_browser(tool, keys):
     assert mine.post(tool.url + "/lti/launch", data=body).status_code == 403, "a state of one's own"
 
 
+def test_launches_that_are_only_begun_are_bounded(tool, monkeypatch):
+    monkeypatch.setattr("ldhost.access.MOST_LAID", 4)
+    asked = {"iss": ISSUER, "client_id": CLIENT}
+    codes = [client().get(tool.url + "/lti/login", params=asked).status_code for _ in range(3)]
+    assert codes == [302, 302, 429]
+
+
 def test_unknown_platforms(tool):
     for asked in ({"iss": "https://other.example"}, {"iss": ISSUER}, {"iss": ISSUER, "client_id": "x"}, {}):
         assert client().get(tool.url + "/lti/login", params=asked).status_code == 403

@@ -136,6 +136,16 @@ def test_cell(cast, action, who):
         lead_to_sign_in = answer.headers.get("location") == "/sign-in"
         if who in TABLE[action]:
             assert answer.status_code not in {401, 403} and not lead_to_sign_in, answer.text
-            assert answer.status_code in {200, 303} | BEYOND, answer.text
+            is_done = way == "GET" and not (who == ADMINISTRATOR and "ME" in path)  # who is no member of the run
+            assert answer.status_code in ({200} if is_done else {200, 303} | BEYOND), answer.text
         else:
             assert answer.status_code in REFUSED or lead_to_sign_in, answer.text
+
+
+@pytest.mark.parametrize("who", [AUTHOR, STRANGER])
+def test_a_run_looks_to_strangers_as_if_it_were_not_there(cast, who):
+    for way, path, body in (request for requests in REQUESTS.values() for request in requests):
+        if "monday" in path:
+            answers = [cast.ask(who, way, path.replace("monday", name), body) for name in ("monday", "nothing")]
+            assert len({answer.status_code for answer in answers}) == 1, path
+            assert answers[0].text == answers[1].text, path

@@ -5,10 +5,12 @@ import json
 import time
 
 import pytest
-from conftest import ENGINE, needs_next, say, wait_for
+from conftest import ENGINE, WITH_NEXT, say, wait_for
 
 from ldhost import moments
 from ldhost.journal import kept_lines
+from ldhost.replies import NO_MEMORY, Reply
+from ldhost.run import Run
 from ldhost.shard import Shard
 from ldhost.timing import Alarms, Ticks
 
@@ -24,17 +26,17 @@ def alarm_of(api):
     return moments.after(opened, 2)
 
 
-@needs_next
-def test_alarm(host):
+def test_alarm(host_with_next):
     """The tick has the alarm's own moment."""
+    host = host_with_next
     alarm = alarm_of(host.run_of("deadline", "d", ANN))
     assert wait_for(lambda: act_b(host)["state"] == "open")
     assert json.loads(host.kept()[-1]) == [alarm, "tick", "d"]
     assert act_b(host)["opened"] == alarm
 
 
-@needs_next
-def test_alarm_while_the_host_was_away(host):
+def test_alarm_while_the_host_was_away(host_with_next):
+    host = host_with_next
     alarm = alarm_of(host.run_of("deadline", "d", ANN))
     host.stop()
     time.sleep(3)
@@ -93,11 +95,11 @@ def test_no_ticks_where_no_course_looks_at_time(host_without):
 class Clock:
     """A shard of one run of the course `deadline`, with a clock that stands still until it is set."""
 
-    def __init__(self, folder, library, timing):
+    def __init__(self, folder, library, timing, engine=ENGINE):
         (folder / "shard").mkdir()
         (folder / "shard" / "editions").write_text("deadline\n")
         self.now = "2024-01-01T00:00:00Z"
-        self.shard = Shard(folder / "shard", library, ENGINE, timing, lambda: self.now)
+        self.shard = Shard(folder / "shard", library, engine, timing, lambda: self.now)
 
     async def begin(self):
         await self.shard.open()
@@ -110,10 +112,9 @@ class Clock:
         return [json.loads(line) for line in kept_lines(self.shard.journal)]
 
 
-@needs_next
 def test_alarms_ring_before_the_command_after_them(tmp_path, library):
     """Also where the host had no time to ring: the command comes after the tick at the alarm's moment."""
-    clock = Clock(tmp_path, library, Alarms())
+    clock = Clock(tmp_path, library, Alarms(), WITH_NEXT)
 
     async def go():
         await clock.begin()
@@ -124,6 +125,27 @@ def test_alarms_ring_before_the_command_after_them(tmp_path, library):
     asyncio.run(go())
     assert clock.lines()[-2] == ["2024-01-01T00:00:02Z", "tick", "d"]
     assert clock.lines()[-1][0] == "2024-01-01T01:00:00Z"
+
+
+class Short:
+    """A shard that has no memory for the first line."""
+
+    line = staticmethod(Shard.line)
+
+    def __init__(self):
+        self.answers = [Reply(NO_MEMORY), Reply("ok tick turns=1 fired=1 rejected=0 sent=0")]
+
+    async def put(self, line):
+        return self.answers.pop(0)
+
+    async def look_at(self, *words):
+        return Reply("ok next turns=0 fired=0 rejected=0 sent=0 at=none")
+
+
+def test_an_alarm_rings_again_where_memory_ran_out():
+    run, shard, late = Run("d", None, "", started=True, alarm="2024-01-01T00:00:02Z"), Short(), "2024-01-01T00:00:03Z"
+    assert not asyncio.run(Alarms().due(shard, run, late)) and run.alarm
+    assert asyncio.run(Alarms().due(shard, run, late)) and run.alarm is None
 
 
 @pytest.mark.parametrize("seconds,kept", [(0, 5), (1, 5), (2, 6), (3, 6)])

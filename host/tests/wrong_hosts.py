@@ -3,17 +3,23 @@
     python3 tests/wrong_hosts.py [WORD]    with a word only the changes whose file or text has it
 """
 
+import contextlib
+import multiprocessing
 import os
 import shutil
-import subprocess
+import signal
 import sys
 import tempfile
 from concurrent.futures import ThreadPoolExecutor
 from pathlib import Path
 
+import pytest
+
 TOP = Path(__file__).parent.parent
-SECONDS, AT_A_TIME = 600, 2
+SECONDS = 300
 SEEN, NOT_SEEN, LEFT_OUT, NOT_TRIED = "seen", "NOT SEEN", "left out", "NOT TRIED"
+PROCESSES = multiprocessing.get_context("forkserver")
+PROCESSES.set_forkserver_preload(["fastapi", "httpx", "jinja2", "jwcrypto.jwt", "pytest", "uvicorn"])
 NOT_INSTALLED = shutil.ignore_patterns("__pycache__", "data", "docs", ".mypy_cache")
 
 # (file, text, what it becomes, the tests that see it)
@@ -66,6 +72,17 @@ CHANGES = [
         "test_time.py -k ticks",
     ),
     ("timing.py", "if not (run.started and run.course.looks_at_time)", "if True", "test_time.py -k ticks"),
+    ("timing.py", "            if reply.head == NO_MEMORY:", "            if False:", "test_time.py -k memory"),
+    # A keeper or a reader that is killed while it starts closes the run.
+    ("child.py", "self.is_killed = status < 0", "self.is_killed = False", "test_failures.py -k they_start"),
+    # Strangers learn which runs there are.
+    (
+        "web/site.py",
+        "standing <= {rights.STRANGER, rights.AUTHOR}",
+        "standing <= {rights.STRANGER}",
+        "test_rights.py -k strangers",
+    ),
+    ("web/interface.py", 'if there is None and body.verb != "create"', "if False", "test_rights.py -k strangers"),
     # Files and links.
     (
         "files.py",
@@ -142,7 +159,7 @@ CHANGES = [
 def main(words):
     chosen = [change for change in CHANGES if all(word in change[0] + change[1] for word in words)]
     found = []
-    with ThreadPoolExecutor(AT_A_TIME) as pool:
+    with ThreadPoolExecutor(os.cpu_count()) as pool:
         for change, verdict in zip(chosen, pool.map(verdict_of, chosen)):
             file, text, other, _ = change
             print(f"{verdict}  {file}: {text.strip()} -> {other.strip()}", flush=True)
@@ -164,18 +181,34 @@ def verdict_of(change):
         assert old.count(text) == 1, (file, text)
         path.write_text(old.replace(text, other))
         first, *more = tests.split(" ")
-        done = subprocess.run(
-            [sys.executable, "-m", "pytest", "-q", "-x", f"tests/{first}", *more],
-            cwd=copy,
-            env=os.environ | {"PYTHONDONTWRITEBYTECODE": "1"},
-            stdout=subprocess.PIPE,
-            timeout=SECONDS,
-        )
-    if done.returncode == 1:
+        status, told = run(["-q", "-x", f"tests/{first}", *more], copy)
+    if status == 1:
         return SEEN
-    if done.returncode != 0:
+    if status != 0:
         return NOT_TRIED
-    return NOT_SEEN if b" passed" in done.stdout else LEFT_OUT
+    return NOT_SEEN if " passed" in told else LEFT_OUT
+
+
+def run(words, folder):
+    """The status of pytest and what it tells; a call that takes too long is ended, with all that it started."""
+    told = folder / "told"
+    process = PROCESSES.Process(target=tests_alone, args=(words, folder, told))
+    process.start()
+    process.join(SECONDS)
+    status = process.exitcode
+    with contextlib.suppress(ProcessLookupError):
+        os.killpg(process.pid, signal.SIGKILL)
+    process.join()
+    return status, told.read_text()
+
+
+def tests_alone(words, folder, told):
+    """Runs the tests in the folder. This process has loaded what they need, but nothing of the host."""
+    os.setsid()
+    os.chdir(folder)
+    sys.dont_write_bytecode = True
+    os.dup2(os.open(told, os.O_CREAT | os.O_WRONLY), 1)
+    sys.exit(pytest.main(words))
 
 
 if __name__ == "__main__":

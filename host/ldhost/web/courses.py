@@ -7,11 +7,12 @@ from fastapi import APIRouter, Depends, HTTPException
 from fastapi.responses import FileResponse, Response
 from starlette.datastructures import FormData
 
+from .. import rights
 from ..access import Who
 from ..files import file_at
 from ..run import Run
 from ..shard import Shard
-from ..view import View, view_of
+from ..view import View, looks_for, view_of
 from .said import said
 from .site import Site, text_of
 
@@ -23,7 +24,10 @@ PASSIVE = {"application/pdf"}
 def routes(site: Site) -> APIRouter:
     router = APIRouter(include_in_schema=False)
 
-    async def view(shard: Shard, run: Run, person: str) -> View:
+    async def view(who: Who, shard: Shard, run: Run, person: str) -> View:
+        """The person's page, if the one who asks may see all that stands there."""
+        for verb, _, *words in looks_for(run, person):
+            site.demand(who, rights.action_of(verb, words, who.person, run), run)
         return await view_of(shard, run, person, f"/files/{quote(run.name)}/")
 
     @router.get("/runs/{name}")
@@ -31,12 +35,12 @@ def routes(site: Site) -> APIRouter:
         shard, run = site.find_for(who, name, "files of the course")
         if who.person not in run.persons:
             return site.back(f"/admin/runs/{quote(name)}")
-        return site.show("run.html", who, v=await view(shard, run, who.person), **acting(run))
+        return site.show("run.html", who, v=await view(who, shard, run, who.person), **acting(run))
 
     @router.get("/runs/{name}/view")
     async def part(name: str, who: Who = Depends(site.signed_in)) -> Response:
         shard, run = site.find(who, name, "tree", [who.person])
-        return site.show("view.html", who, v=await view(shard, run, who.person), **acting(run))
+        return site.show("view.html", who, v=await view(who, shard, run, who.person), **acting(run))
 
     @router.get("/runs/{name}/persons/{person}")
     async def other(name: str, person: str, who: Who = Depends(site.signed_in)) -> Response:
@@ -44,7 +48,7 @@ def routes(site: Site) -> APIRouter:
         if person not in run.persons:
             raise HTTPException(404)
         is_own = person == who.person
-        return site.show("run.html", who, v=await view(shard, run, person), **acting(run) | {"is_own": is_own})
+        return site.show("run.html", who, v=await view(who, shard, run, person), **acting(run) | {"is_own": is_own})
 
     @router.post("/runs/{name}/do")
     async def do(

@@ -1,10 +1,11 @@
 """Tells an open page that it has changed: a stream of versions."""
 
 import asyncio
+from collections import Counter
 from typing import AsyncIterator
 from urllib.parse import quote
 
-from fastapi import APIRouter, Depends
+from fastapi import APIRouter, Depends, HTTPException
 from fastapi.responses import Response, StreamingResponse
 
 from ..access import Who
@@ -12,7 +13,7 @@ from ..shard import Closed
 from ..view import view_of
 from .site import Site
 
-WAIT, GATHER = 15, 0.05
+WAIT, GATHER, MOST_STREAMS = 15, 0.05, 20
 
 
 def routes(site: Site) -> APIRouter:
@@ -21,6 +22,8 @@ def routes(site: Site) -> APIRouter:
     @router.get("/runs/{name}/events")
     async def events(name: str, who: Who = Depends(site.signed_in)) -> Response:
         site.find(who, name, "tree", [who.person])
+        if site.streams[who.session] >= MOST_STREAMS:
+            raise HTTPException(429, "too many open pages of one session")
         return StreamingResponse(versions(site, name, who), media_type="text/event-stream")
 
     return router
@@ -29,6 +32,7 @@ def routes(site: Site) -> APIRouter:
 async def versions(site: Site, name: str, who: Who) -> AsyncIterator[str]:
     """The versions of the person's page, as long as the session lasts and the person may see the page."""
     event, told = site.house.listen(name), ""
+    site.streams[who.session] += 1
     try:
         while not site.house.ending.is_set() and site.access.who(who.session, "session"):
             version = await version_of(site, name, who)
@@ -44,6 +48,8 @@ async def versions(site: Site, name: str, who: Who) -> AsyncIterator[str]:
             await asyncio.sleep(GATHER)  # several changes at once are one message
     finally:
         site.house.listeners[name].discard(event)
+        site.streams[who.session] -= 1
+        site.streams += Counter()  # forgets who has none
 
 
 async def version_of(site: Site, name: str, who: Who) -> str | None:

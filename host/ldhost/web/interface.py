@@ -72,7 +72,10 @@ def routes(site: Site) -> APIRouter:
     @router.post("/runs/{run}/commands", response_model=Done)
     async def command(run: str, body: Command, who: Who = Depends(asker), idempotency_key: str | None = KEY) -> Any:
         found = site.house.find(run)
-        site.demand(who, rights.action_of(body.verb, body.words, who.person, found and found[1]), found and found[1])
+        there = found[1] if found and body.verb != "create" else None
+        if there is None and body.verb != "create" and not site.may(who, "all runs"):
+            raise HTTPException(404)
+        site.demand(who, rights.action_of(body.verb, body.words, who.person, there), there)
         if body.verb not in COMMANDS:
             raise HTTPException(422, f"the verb is one of {', '.join(sorted(COMMANDS))}")
         key = f"{who.person} {run} {idempotency_key}" if idempotency_key else None

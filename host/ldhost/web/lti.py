@@ -28,8 +28,11 @@ def routes(site: Site) -> APIRouter:
         if platform is None:
             raise HTTPException(403, "unknown platform")
         state, nonce = secrets.token_urlsafe(24), secrets.token_urlsafe(24)
-        site.access.lay("state " + state, LAUNCH_SECONDS)
-        site.access.lay(f"nonce {platform.client} {nonce}", LAUNCH_SECONDS)
+        try:
+            site.access.lay("state " + state, LAUNCH_SECONDS)
+            site.access.lay(f"nonce {platform.client} {nonce}", LAUNCH_SECONDS)
+        except Denied as denied:
+            raise HTTPException(429, str(denied)) from None
         back = str(request.url_for("launch"))
         answer = RedirectResponse(call_back(platform, asked, state, nonce, back), 302)
         site.set_cookie(answer, STATE, state)

@@ -1,6 +1,7 @@
 """What all pages share: who asks, forms that no other site can send, templates and notes."""
 
 import secrets
+from collections import Counter
 from pathlib import Path
 from typing import Any, Awaitable, Callable
 from urllib.parse import urlsplit
@@ -39,6 +40,8 @@ class Site:
         self.previews = Previews(house.engine, house.data / "units")
         self.drafts = Drafts(house.data / "drafts", Importer(house.engine))
         self.notes: dict[str, str] = {}
+        self.streams: Counter[str] = Counter()
+        """How many streams of events each session has open."""
         self.templates = jinja2.Environment(
             loader=jinja2.FileSystemLoader(TEMPLATES),
             autoescape=True,
@@ -75,7 +78,8 @@ class Site:
         """Refuses what the table does not allow. To strangers a run looks as if it were not there."""
         standing = self.standing(who, run)
         if not rights.allows(action, standing):
-            raise HTTPException(404 if run and standing == {rights.STRANGER} else 403)
+            is_hidden = run is not None and standing <= {rights.STRANGER, rights.AUTHOR}
+            raise HTTPException(404 if is_hidden else 403)
 
     def find(self, who: Who, name: str, verb: str, words: list[str]) -> tuple[Shard, Run]:
         """The run, if this person may say this there."""
