@@ -3,13 +3,13 @@
 top=$(cd "$(dirname "${BASH_SOURCE[0]}")/.." && pwd) || exit 1
 python=/usr/bin/python3
 run_packages=(python3-fastapi python3-uvicorn python3-jinja2 python3-multipart python3-jwcrypto)
-test_packages=(python3-pytest python3-httpx python3-selenium chromium chromium-driver)
+test_packages=(python3-pytest python3-pytest-xdist python3-httpx python3-selenium chromium chromium-driver)
 
 say() {
   echo "host: $1" >&2
 }
 
-# need PACKAGE..: installs the packages that are not there, where this user may.
+# need PACKAGE..: installs the packages that are not there, where this user may; else it says what is missing, and fails.
 need() {
   local missing=() package
   for package in "$@"; do
@@ -18,17 +18,19 @@ need() {
   [ "${#missing[@]}" -eq 0 ] && return
   if ! command -v apt-get >/dev/null; then
     say "this is no Debian; what stands for these packages of Debian 12 has to be there: ${missing[*]}"
-    exit 1
+    return 1
   fi
   if [ "$(id -u)" -ne 0 ]; then
     say "packages are missing, and only root may install them: sudo apt-get install ${missing[*]}"
-    exit 1
+    return 1
   fi
   say "installing ${missing[*]}"
-  apt-get update -qq && DEBIAN_FRONTEND=noninteractive apt-get install -y -qq --no-install-recommends "${missing[@]}" >&2 || {
-    say 'the packages could not be installed'
-    exit 1
-  }
+  local words=(-qq -o Acquire::Retries=0 -o Acquire::http::Timeout=20 -o DPkg::Lock::Timeout=120)
+  if ! apt-get "${words[@]}" update >&2 || ! DEBIAN_FRONTEND=noninteractive \
+    apt-get "${words[@]}" install -y --no-install-recommends "${missing[@]}" >&2; then
+    say "packages could not be installed: ${missing[*]}"
+    return 1
+  fi
 }
 
 # Prints the engine: that of the variable LD, else the proved program, if it is built and no source is newer (as ./ld asks).

@@ -27,7 +27,8 @@ from ldhost.journal import kept_lines  # noqa: E402
 LD = Path(os.environ["LD"])
 os.environ["LD_REAL"] = str(LD)  # for the programs of tests/engines
 ENGINE = asyncio.run(ask_what_it_has(LD))
-PATIENCE = 120
+PATIENCE = int(os.environ.get("PATIENCE", "120"))
+"""Seconds for which a test waits at most."""
 LATER_VERBS = "next page page-set"
 WITH_NEXT = ENGINE if ENGINE.has_next else Engine(HERE / "engines" / "alarming.py", has_next=True)
 needs_pages = pytest.mark.skipif(not ENGINE.has_pages, reason="the engine has no forms (pages.json)")

@@ -206,6 +206,7 @@ def tests_alone(words, folder, told):
     """Runs the tests in the folder. This process has loaded what they need, but nothing of the host."""
     os.setsid()
     os.chdir(folder)
+    os.environ["PATIENCE"] = "40"
     sys.dont_write_bytecode = True
     os.dup2(os.open(told, os.O_CREAT | os.O_WRONLY), 1)
     sys.exit(pytest.main(words))
