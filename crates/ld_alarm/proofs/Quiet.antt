@@ -50,7 +50,7 @@ pub settles_at_once : (unit : Unit) (s : RunState) → HasSeats s → some_due u
 unfolding run_settling after_sweeps all_firings
 settles_at_once unit s seats none =
     let quiet : sweep_firings (run_system unit) s ≡ [] =
-        sweep_fires unit s seats ∙ ap (map (with_number unit s.seats)) (quiet_walk unit s (all_sites unit s) none) in
+    sweep_fires unit s seats ∙ ap (map (with_number unit s.seats)) (quiet_walk unit s (all_sites unit s) none) in
     ap (option_map (settlement_after unit s))
     (turns_of_settling (run_system unit) s unit.turns 0
     (record { within = omega arith; before = λ n less. absurd (omega (arith, less)); quiet = quiet }))
