@@ -7,5 +7,5 @@ pub returns-clause-current : goal.returns-clause-current
 returns-clause-current g c =
     let unit = c.args.unit.now in
     let s = run_of c.args.state.now in
-    on_any c.check.result
+    on_any c.check-2.result
     (current_now unit s c.prepare.new.globals c.give_back.new.globals (c.give_back.ensures.values unit s c.in_ok-writes.ensures.writes))
