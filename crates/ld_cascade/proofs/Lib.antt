@@ -9,6 +9,7 @@ mod Linking
 mod Binding
 mod Sweeping
 mod Turns
+pub mod Told
 pub mod Prefixes
 pub mod Spending
 pub mod Restoring

@@ -12,6 +12,7 @@ use ld_cascade::{
     Links, Settled, Stop, begins_bound, begins_restorable, begins_tidy, settle_plainly,
     stays_bound, stays_restorable, stays_tidy,
 };
+use ld_graph::readers::Readers;
 use std::alloc::Global;
 use std::marker::Brand;
 use std::sync::ledger::{Blank, Ledger};
@@ -45,10 +46,11 @@ fn judgements<L: Ledger>(
 {
     let mut steps = Steps::<L>::new(blank);
     let mut links = link_lamps(alloc, row)?;
-    let _first = settle(alloc, row, &mut links, 256, &mut steps)?;
+    let mut changed = Vec::new(alloc);
+    let _first = settle(row, &mut links, 256, &mut changed, &mut steps)?;
     let before = row.judged();
     links.fresh(site);
-    let _second = settle(alloc, row, &mut links, 256, &mut steps)?;
+    let _second = settle(row, &mut links, 256, &mut changed, &mut steps)?;
     Ok(row.judged().wrapping_sub(before))
 }
 
@@ -80,10 +82,11 @@ fn judgements_of_touched<L: Ledger>(
 {
     let mut steps = Steps::<L>::new(blank);
     let mut links = link_lamps(alloc, row)?;
-    let _first = settle(alloc, row, &mut links, 256, &mut steps)?;
+    let mut changed = Vec::new(alloc);
+    let _first = settle(row, &mut links, 256, &mut changed, &mut steps)?;
     let before = row.judged();
     links.touch(lamp);
-    let _second = settle(alloc, row, &mut links, 256, &mut steps)?;
+    let _second = settle(row, &mut links, 256, &mut changed, &mut steps)?;
     Ok(row.judged().wrapping_sub(before))
 }
 
@@ -127,6 +130,81 @@ fn both_settlings_give_the_same(rt: HostRuntime) -> Result<(), Fail> {
     Ok(())
 }
 
+/// Of five lamps the last is lit, and each firing hands the light on to the lamp before, the last
+/// one to the first lamp itself. The list has a number before the settling, which stays.
+#[test]
+fn each_changed_slot_is_told(rt: HostRuntime) -> Result<(), Fail> {
+    let alloc = rt.alloc();
+    let mut row = Lamps::new(alloc, 5)?;
+    let mut told = Vec::new(alloc);
+    told.push(9)?;
+    settle_and_tell::<Brand>(alloc, &mut row, &mut told, Blank::new(1))?;
+    assert_eq!(rt; told.as_slice(), [9, 3, 2, 1, 0, 0].as_slice());
+    Ok(())
+}
+
+/// Settles the lamps, each of whose sites is new, and appends what the settling tells.
+fn settle_and_tell<L: Ledger>(
+    alloc: Global,
+    row: &mut Lamps,
+    told: &mut Vec<u32>,
+    blank: Blank,
+) -> Result<(), Fail>
+    requires name { blank.name ≡ L.name }
+    requires parts { blank.parts ≡ L.parts }
+    requires enough { 0 < L.parts }
+    requires few { length row.old.lit.items ≤ 4000000 }
+{
+    let mut steps = Steps::<L>::new(blank);
+    let mut links = link_lamps(alloc, row)?;
+    let _settled = settle(row, &mut links, 256, told, &mut steps)?;
+    Ok(())
+}
+
+/// Of settled lamps each is read by its own site, and before by none.
+#[test]
+fn readers_are_those_linked(rt: HostRuntime) -> Result<(), Fail> {
+    let alloc = rt.alloc();
+    let mut row = Lamps::new(alloc, 5)?;
+    let (before, after) = count_readers::<Brand>(alloc, &mut row, 2, Blank::new(1))?;
+    assert_eq!(rt; before, (0, 0));
+    assert_eq!(rt; after, (1, 2));
+    Ok(())
+}
+
+/// How many readers the slot has and the sum of their numbers, before the lamps are settled and
+/// after it.
+fn count_readers<L: Ledger>(
+    alloc: Global,
+    row: &mut Lamps,
+    slot: u32,
+    blank: Blank,
+) -> Result<((u32, u32), (u32, u32)), Fail>
+    requires name { blank.name ≡ L.name }
+    requires parts { blank.parts ≡ L.parts }
+    requires enough { 0 < L.parts }
+    requires slot { slot < length row.old.lit.items }
+    requires few { length row.old.lit.items ≤ 4000000 }
+{
+    let mut steps = Steps::<L>::new(blank);
+    let mut links = link_lamps(alloc, row)?;
+    let mut changed = Vec::new(alloc);
+    let before = sum_of(links.readers(slot));
+    let _settled = settle(row, &mut links, 256, &mut changed, &mut steps)?;
+    Ok((before, sum_of(links.readers(slot))))
+}
+
+/// How many sites there are, and the sum of their numbers.
+fn sum_of(sites: Readers<'_>) -> (u32, u32) {
+    let mut count: u32 = 0;
+    let mut sum: u32 = 0;
+    for site in sites {
+        count = count.wrapping_add(1);
+        sum = sum.wrapping_add(site);
+    }
+    (count, sum)
+}
+
 /// Links for the lamps, each of whose sites is new.
 fn link_lamps(alloc: Global, row: &Lamps) -> Result<Links, Fail>
     ensures tidy { IfOk result (λ l. Tidy lamps (lamps_of row.now) l) }
@@ -159,7 +237,8 @@ fn settle_lamps<L: Ledger>(
 {
     let mut steps = Steps::<L>::new(blank);
     let mut links = link_lamps(alloc, row)?;
-    Ok(settle(alloc, row, &mut links, turns, &mut steps))
+    let mut changed = Vec::new(alloc);
+    Ok(settle(row, &mut links, turns, &mut changed, &mut steps))
 }
 
 /// Settles the lamps by plain sweeps.
@@ -217,16 +296,17 @@ fn settle_again<L: Ledger>(
 {
     let mut steps = Steps::<L>::new(blank);
     let mut links = link_lamps(alloc, row)?;
-    let _settled = settle(alloc, row, &mut links, 256, &mut steps)?;
+    let mut changed = Vec::new(alloc);
+    let _settled = settle(row, &mut links, 256, &mut changed, &mut steps)?;
     links.begin();
     let lit = row.lit.clone()?;
     let marks = row.marks.clone()?;
-    let Err(_) = switch_last_off(alloc, row, &mut links, 2, &mut steps) else {
+    let Err(_) = switch_last_off(row, &mut links, 2, &mut changed, &mut steps) else {
         return Ok(None);
     };
     row.take_back(lit, marks);
     make_right(row, &mut links, &mut steps);
-    Ok(Some(switch_last_off(alloc, row, &mut links, 256, &mut steps)))
+    Ok(Some(switch_last_off(row, &mut links, 256, &mut changed, &mut steps)))
 }
 
 /// Makes the links those of the lamps, which were rolled back to where the links began.
@@ -245,10 +325,10 @@ fn make_right<L: Ledger>(row: &mut Lamps, links: &mut Links, steps: &mut Steps<L
 
 /// Switches the last lamp off, and settles.
 fn switch_last_off<L: Ledger>(
-    alloc: Global,
     row: &mut Lamps,
     links: &mut Links,
     turns: u32,
+    changed: &mut Vec<u32>,
     steps: &mut Steps<L>,
 ) -> Result<Settled, Stop>
     requires tidy { Tidy lamps (lamps_of row.old) links.old }
@@ -265,5 +345,5 @@ fn switch_last_off<L: Ledger>(
     stays_bound(row);
     row.switch_off(last);
     links.touch(last);
-    settle(alloc, row, links, turns, steps)
+    settle(row, links, turns, changed, steps)
 }

@@ -7,11 +7,11 @@ ghost use Rattle.ld_alarm.specs.Later.{earliest_of};
 ghost use Rattle.ld_alarm.specs.NextAlarm.{next_alarm};
 ghost use Rattle.ld_next.specs.Alarms.{alarm_at, alarm_steps_at, ReadsNow};
 
-use crate::numbered::site_of_number;
 use ld_alarm::{alarm, earlier};
 use ld_base::Steps;
 use ld_graph::readers::Readers;
 use ld_rules::PreparedUnit;
+use ld_settling::site_of_number;
 use ld_state::State;
 use ld_value::Moment;
 use std::alloc::Global;

@@ -8,7 +8,7 @@ use Rattle.ld_cascade.specs.Wiring.{Wiring}
 use Rattle.ld_cascade.specs.Work.{IsStirred, Spends, meets, sum_below, visits, visits_weight, weight, weight_of, work}
 use Rattle.ld_cascade.proofs.Sums.{sum_same}
 use Rattle.ld_state.proofs.Elements.{contains_from_in, from_map, in_from_contains}
-use Rattle.ld_cascade.specs.Settling.{Firing, PassesBudget, Settles, all_firings, after_sweeps, counted, fired, fired_below, step, sums_of, swept, sweep_firings, visited}
+use Rattle.ld_cascade.specs.Settling.{Firing, PassesBudget, Settles, all_firings, after_sweeps, changes_of, counted, fired, fired_below, step, sums_of, swept, sweep_firings, visited}
 
 -- Each situation of the first system stands for one of the second: its sites fire alike, and their firings
 -- do the same.
@@ -142,6 +142,12 @@ module _ {z y : System} {carry : z.Situation → y.Situation} (carries : Carries
 
   pub passes_back : (t : z.Situation) (budget : ℕ) → PassesBudget y (carry t) budget → PassesBudget z t budget
   passes_back t budget passes = λ k most none. passes k most (rests_carried t k none)
+
+  -- ---- what it tells
+
+  pub changes_carried : (fs : List (Firing z)) → changes_of y (map (carried z y carry) fs) ≡ changes_of z fs
+  changes_carried [] = refl
+  changes_carried (f ∷ fs) = ap₂ (λ (first rest : List ℕ). first ++ rest) (carries.changed f.before f.site) (changes_carried fs)
 
   -- ---- what it spends
 

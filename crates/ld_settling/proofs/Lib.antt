@@ -9,6 +9,7 @@ pub mod PersonsTold
 pub mod Reading
 pub mod ReadsNumbered
 pub mod RolesRead
+pub mod SettlingTold
 pub mod SiteNumbers
 pub mod SitesFound
 pub mod SlotSets

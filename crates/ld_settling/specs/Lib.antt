@@ -1,5 +1,6 @@
 pub mod Gathering
 pub mod RunLinking
+pub mod SettlingTold
 pub mod SiteParts
 pub mod SitesView
 pub mod UnitLaws

@@ -1,6 +1,7 @@
 //! The links of a run.
-ghost use Rattle.std.specs.Prelude.{◌≡◌, ◌≤◌, ◌⊎◌, ℕ, true, [], length, Contains, OnOk};
+ghost use Rattle.std.specs.Prelude.{◌≡◌, ◌≤◌, ◌<◌, ◌⊎◌, ◌↔◌, ℕ, true, [], is_some, length, Contains, OnOk};
 ghost use Rattle.ld_graph.specs.Edges.{IsLinked};
+ghost use Rattle.ld_graph.specs.Slots.{AreDistinct};
 ghost use Rattle.ld_graph.specs.Table.{has};
 ghost use Rattle.ld_cascade.specs.Wiring.{IsEmpty, IsSameTable};
 ghost use Rattle.ld_names.specs.SiteNumbers.{site_count};
@@ -8,7 +9,7 @@ ghost use Rattle.ld_roles.specs.declared.limit.TheConstants.{SEATS};
 ghost use Rattle.ld_model.specs.declared.unit.Unit.{Unit};
 ghost use Rattle.ld_state.specs.RunState.{RunState};
 ghost use Rattle.ld_state.specs.StateView.{IsStateOf, run_of};
-ghost use Rattle.ld_firing.specs.RunSystem.{IsSoundRun};
+ghost use Rattle.ld_firing.specs.RunSystem.{IsSoundRun, run_system, site_at};
 ghost use Rattle.ld_firing.specs.Telling.{Tells, TellsPersons};
 ghost use Rattle.ld_settling.specs.RunLinking.{AreBare, AreCleanLinks, AreDirty, AreLinksOf, AreNewcomers, IsNewcomer, Loosens, RunLinksFollow};
 ghost use Rattle.ld_settling.specs.SiteParts.{IsAmong};
@@ -17,6 +18,7 @@ use crate::site_numbers::{Numbers, SiteNumbers};
 use ld_base::NoMemory;
 use ld_cascade::Links;
 use ld_graph::SlotList;
+use ld_graph::readers::Readers;
 use ld_model::View;
 use ld_rules::PreparedUnit;
 use ld_state::State;
@@ -53,6 +55,19 @@ impl RunLinks {
             links: Links::new(alloc),
             list: SlotList::new(alloc),
         }
+    }
+
+    /// The numbers of the sites that read the slot, each once, in no stated order. It costs what it
+    /// gives. (`site_of_number` gives the sites themselves.)
+    pub fn readers(&self, slot: u32) -> Readers<'_>
+        requires slot { slot < self.now.wiring.edges.slots }
+        ensures sites { (unit : Unit) (s : RunState) → AreCleanLinks unit s self.now → (i : ℕ)
+            → Contains result i ↔ Contains ((run_system unit).reads s i) slot }
+        ensures there { (unit : Unit) (s : RunState) → AreCleanLinks unit s self.now → (i : ℕ)
+            → Contains result i → is_some (site_at unit s i) ≡ true }
+        ensures once { AreDistinct result }
+    {
+        self.links.readers(slot)
     }
 
     /// Sets the sites dirty that read one of the slots. Where these are told of all that changed

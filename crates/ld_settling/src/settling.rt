@@ -1,6 +1,6 @@
 //! The settling of a run, and the restoring of its links.
-ghost use Rattle.std.specs.Prelude.{◌≡◌, ◌+◌, ◌≤◌, IfOk, IsOk, OnOk, Some, None};
-ghost use Rattle.ld_cascade.specs.Settling.{all_firings};
+ghost use Rattle.std.specs.Prelude.{◌≡◌, ◌+◌, ◌≤◌, ◌++◌, IfOk, IsOk, OnOk, Some, None};
+ghost use Rattle.ld_cascade.specs.Settling.{all_firings, changes_of};
 ghost use Rattle.ld_cascade.specs.Wiring.{IsEmpty};
 ghost use Rattle.ld_cascade.specs.Work.{Spends, weight_of};
 ghost use Rattle.ld_state.specs.StateView.{IsStateOf, run_of};
@@ -8,6 +8,7 @@ ghost use Rattle.ld_firing.specs.RunSettling.{run_settling};
 ghost use Rattle.ld_firing.specs.RunSystem.{IsSoundRun, run_system};
 ghost use Rattle.ld_firing.specs.SettledView.{settlement_of};
 ghost use Rattle.ld_settling.specs.RunLinking.{AreCleanLinks, AreLinksOf, RunLinksFollow, RunWiring, linked_with};
+ghost use Rattle.ld_settling.specs.SettlingTold.{TellsSlots};
 
 use crate::links::RunLinks;
 use crate::run_sites::RunSites;
@@ -31,6 +32,7 @@ pub fn settle<L: Ledger>(
     unit: &PreparedUnit,
     state: &mut State,
     links: &mut RunLinks,
+    changed: &mut Vec<u32>,
     steps: &mut Steps<L>,
 ) -> Result<Settled, Stop>
     requires own { IsStateOf unit.now state.old }
@@ -42,6 +44,11 @@ pub fn settle<L: Ledger>(
         → run_settling unit.now (run_of state.old) ≡ None }
     ensures sound { OnOk result (IsSoundRun unit.now (run_of state.new)) }
     ensures clean { OnOk result (AreCleanLinks unit.now (run_of state.new) links.new) }
+    ensures changed { OnOk result (changed.new.items ≡ changed.old.items
+        ++ changes_of (run_system unit.now)
+        (all_firings (run_system unit.now) (run_of state.old) unit.now.turns)) }
+    ensures told { OnOk result (TellsSlots unit.now (run_of state.old) (run_of state.new)
+        changed.old.items changed.new.items) }
     ensures idle { IsEmpty links.old.wiring.dirty → IsOk result }
     ensures own { IsStateOf unit.now state.new }
     ensures rows { state.new.rows ≡ state.old.rows }
@@ -58,14 +65,14 @@ pub fn settle<L: Ledger>(
         state,
         list: &mut links.list,
     };
-    settle_sites(alloc, &mut sites, &mut links.links, steps)
+    settle_sites(&mut sites, &mut links.links, changed, steps)
 }
 
 /// Settles the run of these sites. What they are lent stays so.
 fn settle_sites<L: Ledger>(
-    alloc: Global,
     sites: &mut RunSites<'_>,
     links: &mut Links,
+    changed: &mut Vec<u32>,
     steps: &mut Steps<L>,
 ) -> Result<Settled, Stop>
     requires own { IsStateOf sites.old.unit.now sites.old.state.now }
@@ -80,6 +87,12 @@ fn settle_sites<L: Ledger>(
     ensures sound { OnOk result (IsSoundRun sites.old.unit.now (run_of sites.new.state.now)) }
     ensures clean { OnOk result (AreCleanLinks sites.old.unit.now (run_of sites.new.state.now)
         (linked_with links.new sites.new.list.now.room)) }
+    ensures changed { OnOk result (changed.new.items ≡ changed.old.items
+        ++ changes_of (run_system sites.old.unit.now)
+        (all_firings (run_system sites.old.unit.now) (run_of sites.old.state.now)
+        sites.old.unit.now.turns)) }
+    ensures told { OnOk result (TellsSlots sites.old.unit.now (run_of sites.old.state.now)
+        (run_of sites.new.state.now) changed.old.items changed.new.items) }
     ensures idle { IsEmpty links.old.dirty → IsOk result }
     ensures own { IsStateOf sites.old.unit.now sites.new.state.now }
     ensures rows { sites.new.state.now.rows ≡ sites.old.state.now.rows }
@@ -94,7 +107,7 @@ fn settle_sites<L: Ledger>(
         sites.old.unit.now.turns) links.old links.new steps.old steps.new }
 {
     let turns = sites.unit.unit().turns;
-    cascade(alloc, sites, links, turns, steps)
+    cascade(sites, links, turns, changed, steps)
 }
 
 /// Makes the links those of the run as it was where they began, once its state was rolled back:

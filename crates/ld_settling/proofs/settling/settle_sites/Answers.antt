@@ -1,4 +1,4 @@
-use Rattle.std.proofs.Common.{refl, ap, subst, arith}
+use Rattle.std.proofs.Common.{◌≡◌, refl, ap, subst, arith, OnOk}
 use Rattle.ld_cascade.specs.Outcome.{IsSettled}
 use Rattle.ld_cascade.specs.Settling.{PassesBudget, all_firings}
 use Rattle.ld_cascade.specs.Work.{Spends}
@@ -10,8 +10,9 @@ use Rattle.ld_settling.specs.RunLinking.{AreCleanLinks, linked_with}
 use Rattle.ld_settling.specs.SitesView.{unit_run_of}
 use Rattle.ld_settling.specs.UnitRuns.{RunSetting, unit_runs}
 use Rattle.ld_settling.proofs.CleanLinks.{clean_settled}
-use Rattle.ld_settling.proofs.Outcomes.{if_both, on_five, on_if}
+use Rattle.ld_settling.proofs.Outcomes.{if_both, on_both, on_five, on_if}
 use Rattle.ld_settling.proofs.Linking.{bound_in_units, covers_in_units, sites_few, tidy_in_units}
+use Rattle.ld_settling.proofs.SettlingTold.{settling_tells, told_after, told_in_unit}
 use Rattle.ld_settling.proofs.UnitSettling.{passed_run, settled_run, spends_in_unit}
 use Rattle.ld_settling.proofs.settling.settle_sites.Goals as goal
 
@@ -60,6 +61,23 @@ returns-clause-clean g c =
     (λ r tidy bound covers none rooms.
     subst (λ (unit : Unit). AreCleanLinks unit (run_of new.state.now) (linked_with c.settle.new.links new.list.now.room)) same
     (clean_settled (unit_run_of new) c.settle.new.links new.list.now.room tidy bound covers none (rooms c.requires.linked.rooms)))
+
+pub returns-clause-changed : goal.returns-clause-changed
+returns-clause-changed g c =
+    let s = unit_run_of c.args.sites.now in
+    let before = c.args.changed.now.items in
+    let told = c.settle.new.changed.items in
+    subst (λ (unit : Unit). OnOk c.settle.result (told ≡ told_after s unit.turns before)) c.unit.ensures.unit
+    (on_if c.settle.result c.settle.ensures.changed (λ r is. told_in_unit s _ before told is))
+
+pub returns-clause-told : goal.returns-clause-told
+returns-clause-told g c =
+    let s = unit_run_of c.args.sites.now in
+    let t = unit_run_of c.settle.new.sites in
+    let before = c.args.changed.now.items in
+    let told = c.settle.new.changed.items in
+    on_both c.settle.result c.settle.ensures.changed c.settle.ensures.untold
+    (λ r is differ. settling_tells s t _ before told c.requires.sound c.settle.ensures.setting (told_in_unit s _ before told is) differ)
 
 pub returns-clause-spends : goal.returns-clause-spends
 returns-clause-spends g c =
