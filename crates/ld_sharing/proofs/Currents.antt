@@ -17,7 +17,7 @@ use Rattle.ld_sharing.proofs.KeyCells.{key_declared}
 
 -- ---- one value
 
-truth_itself : (b : Bool) → same_truth b b ≡ true
+pub truth_itself : (b : Bool) → same_truth b b ≡ true
 truth_itself true = refl
 truth_itself false = refl
 
@@ -28,7 +28,7 @@ datum_itself (number_datum z) = (Decides-int_eq z z).1 refl
 datum_itself (moment_datum z) = (Decides-int_eq z z).1 refl
 datum_itself (span_datum n) = eq-eqb n n refl
 
-value_itself : (v : Option Datum) → option_eq same_datum v v ≡ true
+pub value_itself : (v : Option Datum) → option_eq same_datum v v ≡ true
 value_itself None = refl
 value_itself (Some d) = datum_itself d
 

@@ -1,36 +1,32 @@
 -- That the values which a run gives, written one by one, make up the store to which it has given all of them.
-use Rattle.std.proofs.Common.{◌≡◌, refl, sym, ap, ap₂, subst, ◌∙◌, ℕ, ◌⊎◌, inl, inr, List, [], ◌∷◌, map, fold, slice_get, unwrap_or, Option, Some, None, Bool, true, false, cond, arith}
-use Rattle.std.proofs.lemmas.Bool.{and_from, true≢false}
-use Rattle.std.proofs.lemmas.Slice.Eq.{bytes_eq-Decides}
+use Rattle.std.proofs.Common.{◌≡◌, refl, sym, ap, ap₂, subst, ◌∙◌, ℕ, ◌⊎◌, inl, inr, List, [], ◌∷◌, map, fold, length, slice_get, unwrap_or, Option, Some, None, Bool, true, false, cond, Contains}
+use Rattle.std.proofs.lemmas.Bool.{and_from, eqb-false, eqb-true, true≢false}
+use Rattle.std.specs.Bool.{◌==◌}
 use Rattle.std.specs.Option.{option_eq, option_map}
 use Rattle.std.specs.Str.{bytes_eq}
-use Rattle.ld_base.specs.Maybe.{◌>>=◌}
-use Rattle.ld_globals.specs.Store.{key_at, same_key}
+use Rattle.ld_globals.specs.Store.{Key, Store, key_at, same_key}
 use Rattle.ld_globals.proofs.Since.{keys-equal}
 use Rattle.ld_value.specs.Datum.{Datum, same_datum}
-use Rattle.ld_model.specs.Counting.{number_where}
-use Rattle.ld_model.specs.Properties.{is_personal}
-use Rattle.ld_model.specs.declared.cell.Owner.TheVariants.{Run}
-use Rattle.ld_model.specs.declared.property.Property.{Property}
+use Rattle.ld_model.specs.declared.cell.CellName.{CellName}
 use Rattle.ld_model.specs.declared.unit.Unit.{Unit}
-use Rattle.ld_names.specs.Identifiers.{all_differ}
 use Rattle.ld_names.proofs.Differing.{is_itself}
 use Rattle.ld_expr.specs.Lookup.{list_from}
-use Rattle.ld_expr.specs.Owners.{of_person}
-use Rattle.ld_expr.specs.Seen.{property_cell}
-use Rattle.ld_roles.specs.Roster.{PersonState, person_number}
-use Rattle.ld_firing.specs.RunSystem.{HaveNamesOfTheirOwn}
-use Rattle.ld_firing.proofs.Found.{found_by}
+use Rattle.ld_firing.specs.RunSystem.{IsSoundRun}
 use Rattle.ld_state.specs.GlobalValues.{GlobalValues}
+use Rattle.ld_state.specs.RunCells.{all_cells, slot_of}
 use Rattle.ld_state.specs.RunState.{RunState}
-use Rattle.ld_state.proofs.Elements.{IsIn, from_each, in_each}
+use Rattle.ld_state.proofs.Cells.{slot_stands}
+use Rattle.ld_state.proofs.Elements.{IsIn, from_flat_map, in_flat_map, in_from_contains, some_same}
 use Rattle.ld_state.proofs.SameCells.{one_value}
-use Rattle.ld_sharing.specs.GivenValues.{GivenValue, given_by, other_values, others_of_person, others_of_property, others_of_uri, value_of_person, value_of_run, where_other}
-use Rattle.ld_sharing.specs.Globals.{giving_back, has_uri}
+use Rattle.ld_sharing.specs.Changes.{IsGivenBut, key_of_cell}
+use Rattle.ld_sharing.specs.GivenValues.{GivenValue, given_as, given_by, other_in_slot, other_of_cell, other_values, where_other}
+use Rattle.ld_sharing.specs.Globals.{cell_of_key, giving_back}
+use Rattle.ld_sharing.specs.StoreView.{Serves, values_of}
 use Rattle.ld_sharing.specs.Writes.{with_shared_value, written_by}
 use Rattle.ld_sharing.specs.declared.giving.Write.{Write}
-use Rattle.ld_sharing.proofs.GivingFirsts.{Has, first_named, first_with, has_tells}
-use Rattle.ld_sharing.proofs.UrisDiffer.{uris_of}
+use Rattle.ld_sharing.proofs.Currents.{value_itself}
+use Rattle.ld_sharing.proofs.KeysOfCells.{cell_tells, key_stands, key_tells}
+use Rattle.ld_sharing.proofs.UrisDiffer.{uris_differ}
 
 -- ---- one value after another
 
@@ -104,121 +100,155 @@ same_or_given store one = by (option_eq same_datum (store one.uri one.person) on
     by true is = inl (one_value (store one.uri one.person) one.value is)
     by false is = inr (inl refl)
 
-module _ (unit : Unit) (s : RunState) (store : GlobalValues) where
-  -- What is true of each value of a global property is true of each that differs.
-  module _ (P : GivenValue → Type 0)
-      (of_run : (n : ℕ) (property : Property) (uri : List ℕ) → slice_get unit.properties n ≡ Some property
-      → Has uri false property → P (value_of_run s n uri))
-      (of_persons : (n : ℕ) (property : Property) (uri : List ℕ) → slice_get unit.properties n ≡ Some property
-      → Has uri true property → (p : ℕ) (person : PersonState) → slice_get s.persons p ≡ Some person
-      → P (value_of_person s n uri p person)) where
-    of_property : (n : ℕ) (property : Property) → slice_get unit.properties n ≡ Some property → (one : GivenValue)
-        → IsIn (others_of_property store s n property) one → P one
-    of_property n property at one inside = by property.uri refl inside
+another_value : (store : GlobalValues) (one other : GivenValue) → IsIn (where_other store one) other
+    → store one.uri one.person ≡ one.value → ⊥
+another_value store one other inside same = by (option_eq same_datum (store one.uri one.person) one.value) refl inside
+  where
+    by : (b : Bool) → option_eq same_datum (store one.uri one.person) one.value ≡ b → IsIn (cond b [] (one ∷ [])) other → ⊥
+    by true is there = absurd there
+    by false is there =
+        absurd (true≢false (sym (value_itself one.value) ∙ ap (λ v. option_eq same_datum v one.value) (sym same) ∙ is))
+
+-- What is known of a value that is given: it is that of the run's cell for the key, and the store has another.
+pub record IsOther (unit : Unit) (s : RunState) (store : GlobalValues) (one : GivenValue) : Type 0 where
+  pub cell : CellName
+  pub cell_is : cell_of_key unit s.persons one.uri one.person ≡ Some cell
+  pub value_is : s.cells cell ≡ one.value
+  pub other : store one.uri one.person ≡ one.value → ⊥
+
+-- A slot is among these or not.
+told_or_not : (k : ℕ) (slots : List ℕ) → IsIn slots k ⊎ (IsIn slots k → ⊥)
+told_or_not k [] = inr (λ there. there)
+told_or_not k (slot ∷ slots) = by (slot == k) refl (told_or_not k slots)
+  where
+    later : (slot ≡ k → ⊥) → (IsIn slots k → ⊥) → IsIn (slot ∷ slots) k → ⊥
+    later first rest (inl is) = first is
+    later first rest (inr there) = rest there
+
+    by : (b : Bool) → (slot == k) ≡ b → IsIn slots k ⊎ (IsIn slots k → ⊥) → IsIn (slot ∷ slots) k ⊎ (IsIn (slot ∷ slots) k → ⊥)
+    by true is rest = inl (inl (eqb-true slot k is))
+    by false is (inl there) = inl (inr there)
+    by false is (inr none) = inr (later (eqb-false slot k is) none)
+
+nothing_inside : {A : Type 0} → (xs : List A) → ((x : A) → IsIn xs x → ⊥) → xs ≡ []
+nothing_inside [] none = refl
+nothing_inside (x ∷ xs) none = absurd (none x (inl refl))
+
+module _ (unit : Unit) (s : RunState) (store : Store) (slots : List ℕ) (sound : IsSoundRun unit s) (serves : Serves store unit) where
+  abbrev values : GlobalValues
+  values = values_of store
+
+  abbrev listed : List GivenValue
+  listed = other_values values unit s slots
+
+  abbrev target : GlobalValues
+  target = giving_back unit s values
+
+  -- ---- what is listed
+
+  of_cell : (cell : CellName) (one : GivenValue) → IsIn (other_of_cell values unit s cell) one → IsOther unit s values one
+  of_cell cell one inside = by (key_of_cell unit s.persons cell) refl inside
+    where
+      by : (found : Option Key) → key_of_cell unit s.persons cell ≡ found
+          → IsIn (list_from (λ key. where_other values (given_as (s.cells cell) key)) found) one → IsOther unit s values one
+      by None is there = absurd there
+      by (Some key) is there =
+          let given = given_as (s.cells cell) key in
+          subst (IsOther unit s values) (in_where values given one there)
+          (record {
+            cell = cell;
+            cell_is = key_tells unit s.persons (uris_differ unit sound.valid) sound.names cell key is;
+            value_is = refl;
+            other = another_value values given one there;
+          })
+
+  of_slot : (slot : ℕ) (one : GivenValue) → IsIn (other_in_slot values unit s slot) one → IsOther unit s values one
+  of_slot slot one inside = by (slice_get (all_cells unit (length s.persons)) slot) inside
+    where
+      by : (found : Option CellName) → IsIn (list_from (other_of_cell values unit s) found) one → IsOther unit s values one
+      by None there = absurd there
+      by (Some cell) there = of_cell cell one there
+
+  pub each_other : (one : GivenValue) → IsIn listed one → IsOther unit s values one
+  each_other one inside =
+      let it = from_flat_map (other_in_slot values unit s) slots one inside in
+      of_slot it.element one it.gives
+
+  abbrev from_cell : List ℕ → Option (List ℕ) → Option CellName → Option Datum
+  from_cell uri person found = unwrap_or (option_map s.cells found) (values uri person)
+
+  each_target : (one : GivenValue) → IsIn listed one → target one.uri one.person ≡ one.value
+  each_target one inside =
+      let it = each_other one inside in
+      ap (from_cell one.uri one.person) it.cell_is ∙ it.value_is
+
+  -- ---- that it is all
+
+  -- A key whose cell has a slot that was told is listed, where the store has another value.
+  module _ (uri : List ℕ) (person : Option (List ℕ)) (cell : CellName) (is : cell_of_key unit s.persons uri person ≡ Some cell) where
+    abbrev given : GivenValue
+    given = given_as (s.cells cell) (key_at uri person)
+
+    told : (slot : ℕ) → slice_get (all_cells unit (length s.persons)) slot ≡ Some cell → IsIn slots slot
+        → IsIn (where_other values given) given → IsIn listed given
+    told slot at there inside =
+        in_flat_map (other_in_slot values unit s) slots slot given there
+        (subst (λ found. IsIn (list_from (other_of_cell values unit s) found) given) (sym at)
+        (subst (λ found. IsIn (list_from (λ key. where_other values (given_as (s.cells cell) key)) found) given)
+        (sym (cell_tells unit sound.valid store serves s.persons uri person cell is)) inside))
+
+    untold : (slot : ℕ) → slice_get (all_cells unit (length s.persons)) slot ≡ Some cell → (IsIn slots slot → ⊥)
+        → (k : ℕ) → slot_of unit (length s.persons) cell ≡ Some k → Contains slots k → ⊥
+    untold slot at none k found there =
+        none (subst (IsIn slots) (some_same (sym found ∙ slot_stands unit (length s.persons) slot cell at))
+        (in_from_contains slots k there))
+
+  module _ (others : IsGivenBut unit s store slots) where
+    known : (uri : List ℕ) (person : Option (List ℕ)) → (values uri person ≡ target uri person) ⊎ HasKey listed uri person
+    known uri person = by (cell_of_key unit s.persons uri person) refl
       where
-        by_kind : (uri : List ℕ) → property.uri ≡ Some uri → (personal : Bool) → is_personal property.kind ≡ personal
-            → IsIn (others_of_uri store s n personal uri) one → P one
-        by_kind uri named false own there =
-            subst P (in_where store (value_of_run s n uri) one there)
-            (of_run n property uri at (record { named = named; own = own }))
-        by_kind uri named true own there =
-            let it = from_each (others_of_person store s n uri) s.persons one there in
-            subst P (in_where store (value_of_person s n uri it.number it.element) one it.inside)
-            (of_persons n property uri at (record { named = named; own = own }) it.number it.element it.at)
+        has_cell : (cell : CellName) → cell_of_key unit s.persons uri person ≡ Some cell
+            → target uri person ≡ s.cells cell
+        has_cell cell is = ap (from_cell uri person) is
 
-        by : (o : Option (List ℕ)) → property.uri ≡ o
-            → IsIn (list_from (others_of_uri store s n (is_personal property.kind)) o) one → P one
-        by None named there = absurd there
-        by (Some uri) named there = by_kind uri named (is_personal property.kind) refl there
+        differs : (cell : CellName) (is : cell_of_key unit s.persons uri person ≡ Some cell) (slot : ℕ)
+            → slice_get (all_cells unit (length s.persons)) slot ≡ Some cell → IsIn slots slot
+            → (values uri person ≡ s.cells cell) ⊎ IsIn (where_other values (given uri person cell is)) (given uri person cell is)
+            → (values uri person ≡ target uri person) ⊎ HasKey listed uri person
+        differs cell is slot at there (inl same) = inl (same ∙ sym (has_cell cell is))
+        differs cell is slot at there (inr other) =
+            inr (record {
+              one = given uri person cell is;
+              inside = told uri person cell is slot at there other;
+              uri_is = refl;
+              person_is = refl;
+            })
 
-    pub each_other : (one : GivenValue) → IsIn (other_values store unit s) one → P one
-    each_other one inside =
-        let it = from_each (others_of_property store s) unit.properties one inside in
-        of_property it.number it.element it.at one it.inside
+        stands : (cell : CellName) (is : cell_of_key unit s.persons uri person ≡ Some cell) (slot : ℕ)
+            → slice_get (all_cells unit (length s.persons)) slot ≡ Some cell → IsIn slots slot ⊎ (IsIn slots slot → ⊥)
+            → (values uri person ≡ target uri person) ⊎ HasKey listed uri person
+        stands cell is slot at (inl there) =
+            differs cell is slot at there (same_or_given values (given uri person cell is))
+        stands cell is slot at (inr none) =
+            inl (sym (others uri person cell is (untold uri person cell is slot at none)) ∙ sym (has_cell cell is))
 
-  listed : (n : ℕ) (property : Property) (uri : List ℕ) (personal : Bool) (one : GivenValue)
-      → slice_get unit.properties n ≡ Some property → Has uri personal property
-      → IsIn (others_of_uri store s n personal uri) one → IsIn (other_values store unit s) one
-  listed n property uri personal one at has inside =
-      in_each (others_of_property store s) unit.properties n property one at
-      (subst (λ o. IsIn (list_from (others_of_uri store s n (is_personal property.kind)) o) one) (sym has.named)
-      (subst (λ b. IsIn (others_of_uri store s n b uri) one) (sym has.own) inside))
+        by : (found : Option CellName) → cell_of_key unit s.persons uri person ≡ found
+            → (values uri person ≡ target uri person) ⊎ HasKey listed uri person
+        by None is = inl (sym (ap (from_cell uri person) is))
+        by (Some cell) is =
+            let it = key_stands unit sound.valid store serves s.persons uri person cell is in
+            stands cell is it.number it.at (told_or_not it.number slots)
 
-  module _ (uris : all_differ (uris_of unit.properties) ≡ true) (names : HaveNamesOfTheirOwn s.persons) where
-    abbrev target : GlobalValues
-    target = giving_back unit s store
+    pub all_given : fold with_given values listed ≡ giving_back unit s values
+    all_given = λ i uri person. reached target uri person listed each_target values (known uri person) i
 
-    abbrev from_run : List ℕ → Option ℕ → Option Datum
-    from_run uri found = unwrap_or (option_map s.cells (option_map (λ n. property_cell n Run) found)) (store uri None)
-
-    abbrev from_person : List ℕ → List ℕ → Option ℕ → Option ℕ → Option Datum
-    from_person uri name found number =
-        unwrap_or (option_map s.cells (found >>= λ n. number >>= λ p. Some (property_cell n (of_person p)))) (store uri (Some name))
-
-    first_uri : (n : ℕ) (property : Property) (uri : List ℕ) (personal : Bool)
-        → slice_get unit.properties n ≡ Some property → Has uri personal property
-        → number_where (has_uri uri personal) unit.properties ≡ Some n
-    first_uri n property uri personal at has =
-        first_with uri personal 0 unit.properties n property uris at has ∙ ap Some (omega arith)
-
-    first_name : (p : ℕ) (person : PersonState) → slice_get s.persons p ≡ Some person
-        → person_number s.persons person.name ≡ Some p
-    first_name p person at = first_named 0 s.persons p person names at ∙ ap Some (omega arith)
-
-    run_target : (n : ℕ) (property : Property) (uri : List ℕ) → slice_get unit.properties n ≡ Some property
-        → Has uri false property → target uri None ≡ s.cells (property_cell n Run)
-    run_target n property uri at has = ap (from_run uri) (first_uri n property uri false at has)
-
-    person_target : (n : ℕ) (property : Property) (uri : List ℕ) → slice_get unit.properties n ≡ Some property
-        → Has uri true property → (p : ℕ) (person : PersonState) → slice_get s.persons p ≡ Some person
-        → target uri (Some person.name) ≡ s.cells (property_cell n (of_person p))
-    person_target n property uri at has p person there =
-        ap₂ (from_person uri person.name) (first_uri n property uri true at has) (first_name p person there)
-
-    each_target : (one : GivenValue) → IsIn (other_values store unit s) one → target one.uri one.person ≡ one.value
-    each_target = each_other (λ one. target one.uri one.person ≡ one.value) run_target person_target
-
-    -- Each key has its value already, or is among those that are given one.
-    abbrev Known : List ℕ → Option (List ℕ) → Type 0
-    Known uri person = (store uri person ≡ target uri person) ⊎ HasKey (other_values store unit s) uri person
-
-    key_known : (n : ℕ) (property : Property) (uri : List ℕ) (personal : Bool) (one : GivenValue)
-        → slice_get unit.properties n ≡ Some property → Has uri personal property
-        → (IsIn (where_other store one) one → IsIn (others_of_uri store s n personal uri) one)
-        → target one.uri one.person ≡ one.value → Known one.uri one.person
-    key_known n property uri personal one at has inside is = by (same_or_given store one)
-      where
-        by : (store one.uri one.person ≡ one.value) ⊎ IsIn (where_other store one) one → Known one.uri one.person
-        by (inl same) = inl (same ∙ sym is)
-        by (inr other) =
-            inr (record { one = one; inside = listed n property uri personal one at has (inside other); uri_is = refl; person_is = refl })
-
-    known : (uri : List ℕ) (person : Option (List ℕ)) → Known uri person
-    known uri None = by (number_where (has_uri uri false) unit.properties) refl
-      where
-        by : (o : Option ℕ) → number_where (has_uri uri false) unit.properties ≡ o → Known uri None
-        by None is = inl (sym (ap (from_run uri) is))
-        by (Some n) is =
-            let it = found_by (has_uri uri false) unit.properties 0 n is in
-            let has = has_tells uri false it.element it.passes in
-            key_known it.number it.element uri false (value_of_run s it.number uri) it.at has (λ other. other)
-            (run_target it.number it.element uri it.at has)
-    known uri (Some name) = by (number_where (has_uri uri true) unit.properties) refl (person_number s.persons name) refl
-      where
-        by : (o : Option ℕ) → number_where (has_uri uri true) unit.properties ≡ o
-            → (q : Option ℕ) → person_number s.persons name ≡ q → Known uri (Some name)
-        by None is q who = inl (sym (ap (λ o. from_person uri name o (person_number s.persons name)) is))
-        by (Some n) is None who = inl (sym (ap₂ (from_person uri name) is who))
-        by (Some n) is (Some p) who =
-            let it = found_by (has_uri uri true) unit.properties 0 n is in
-            let him = found_by (λ one. bytes_eq name one.name) s.persons 0 p who in
-            let has = has_tells uri true it.element it.passes in
-            let called : him.element.name ≡ name = sym ((bytes_eq-Decides name him.element.name).0 him.passes) in
-            let one = value_of_person s it.number uri him.number him.element in
-            subst (λ n. Known uri (Some n)) called
-            (key_known it.number it.element uri true one it.at has
-            (in_each (others_of_person store s it.number uri) s.persons him.number him.element one him.at)
-            (person_target it.number it.element uri it.at has him.number him.element him.at))
-
-    pub all_given : fold with_given store (other_values store unit s) ≡ giving_back unit s store
-    all_given = λ i uri person. reached target uri person (other_values store unit s) each_target store (known uri person) i
+  -- Nothing is listed where the store has all values.
+  pub none_listed : IsGivenBut unit s store [] → listed ≡ []
+  none_listed all = nothing_inside listed (λ one inside. none one (each_other one inside))
+    where
+      none : (one : GivenValue) → IsOther unit s values one → ⊥
+      none one it =
+          it.other (sym (all one.uri one.person it.cell it.cell_is (λ slot found there. not_there slot there)) ∙ it.value_is)
+        where
+          not_there : (slot : ℕ) → Contains [] slot → ⊥
+          not_there slot there = in_from_contains [] slot there

@@ -1,37 +1,36 @@
 -- That the values which differ are those that the store has to be given, and that it may take each.
-use Rattle.std.proofs.Common.{◌≡◌, refl, sym, ap, subst, ◌∙◌, ℕ, ◌-◌, List, [], ◌∷◌, inl, inr, length, map, max, fold, slice_get, option_map, Option, Some, None, Bool, true, false, not, ◌||◌, is_some, arith}
+use Rattle.std.proofs.Common.{◌≡◌, refl, sym, ap, ap₂, subst, ◌∙◌, ℕ, ◌-◌, ◌≤◌, List, [], ◌∷◌, inl, inr, length, map, fold, slice_get, option_map, Option, Some, None, true, not, ◌||◌, arith}
+use Rattle.std.proofs.lemmas.List.{length-map}
 use Rattle.std.specs.List.{AllByRecursion}
-use Rattle.std.specs.Option.{option_and_then}
 use Rattle.ld_globals.specs.Declarations.{fits_declared}
-use Rattle.ld_globals.specs.Store.{IsWritable, Store, key_at, put_in, reserve_in, spend}
-use Rattle.ld_globals.proofs.Looked.{all-there}
+use Rattle.ld_globals.specs.Store.{IsWritable, Store, key_at, put_in, spend}
 use Rattle.ld_value.specs.Datum.{Datum, datum_of}
 use Rattle.ld_model.specs.declared.cell.Owner.{Owner}
-use Rattle.ld_model.specs.declared.cell.Owner.TheVariants.{Run}
 use Rattle.ld_model.specs.declared.property.Property.{Property}
 use Rattle.ld_model.specs.declared.unit.Unit.{Unit}
 use Rattle.ld_expr.specs.Lookup.{is_some_and}
-use Rattle.ld_expr.specs.Owners.{fits_property, is_global, of_person}
+use Rattle.ld_expr.specs.Owners.{fits_property, is_global}
 use Rattle.ld_expr.specs.Seen.{property_cell}
 use Rattle.ld_firing.specs.RunSystem.{IsSoundRun}
 use Rattle.ld_state.specs.RunState.{RunState}
 use Rattle.ld_state.proofs.Elements.{IsIn, some_same}
+use Rattle.ld_sharing.specs.Changes.{IsGivenBut}
 use Rattle.ld_sharing.specs.Fitting.{HasFittingGlobals, fits_cell}
 use Rattle.ld_sharing.specs.GivenValues.{GivenValue, given_by, other_values}
 use Rattle.ld_sharing.specs.Globals.{giving_back}
-use Rattle.ld_sharing.specs.StoreView.{IsDeclared, Serves, declaration_by, values_of}
+use Rattle.ld_sharing.specs.Readable.{is_person}
+use Rattle.ld_sharing.specs.StoreView.{Serves, declaration_by, values_of}
 use Rattle.ld_sharing.specs.Writes.{AreWritesOf, IsWritableTo, written_by}
 use Rattle.ld_sharing.specs.declared.giving.Write.{Write}
-use Rattle.ld_sharing.proofs.GivingFirsts.{Has}
-use Rattle.ld_sharing.proofs.GivingKeys.{all_given, each_other, with_given, writes_given}
+use Rattle.ld_sharing.proofs.GivingKeys.{IsOther, all_given, each_other, with_given, writes_given}
 use Rattle.ld_sharing.proofs.GivingStores.{put_declared, put_spare, values_put, writable_still}
-use Rattle.ld_sharing.proofs.LocalUris.{named_is_global}
-use Rattle.ld_sharing.proofs.TakingKeys.{key_readable, shared_at}
-use Rattle.ld_sharing.proofs.UrisDiffer.{uris_differ}
+use Rattle.ld_sharing.proofs.KeyCells.{key_cell}
+use Rattle.ld_sharing.proofs.KeysOfCells.{key_asked}
+use Rattle.ld_sharing.proofs.TakingKeys.{key_readable}
 
 -- ---- what the store may take
 
-module _ (unit : Unit) (s : RunState) (store : Store) (sound : IsSoundRun unit s) (serves : Serves store unit)
+module _ (unit : Unit) (s : RunState) (store : Store) (slots : List ℕ) (sound : IsSoundRun unit s) (serves : Serves store unit)
     (fitting : HasFittingGlobals unit s) where
   value_fits : (n : ℕ) (property : Property) (owner : Owner) (value : Option Datum)
       → slice_get unit.properties n ≡ Some property → is_global property.kind ≡ true
@@ -42,32 +41,21 @@ module _ (unit : Unit) (s : RunState) (store : Store) (sound : IsSoundRun unit s
       ∙ sym (ap (is_some_and (λ one. not (is_global one.kind) || fits_property one value)) at)
       ∙ fits
 
-  writable_cell : (n : ℕ) (property : Property) (uri : List ℕ) (personal : Bool) (owner : Owner) (person : Option (List ℕ))
-      → slice_get unit.properties n ≡ Some property → Has uri personal property → is_some person ≡ personal
-      → IsWritable store (key_at uri person) (s.cells (property_cell n owner))
-  writable_cell n property uri personal owner person at has given =
-      let named = ap (option_and_then (λ (one : Property). one.uri)) at ∙ has.named in
-      let shared = shared_at unit store n uri sound.valid serves named property at in
-      let readable = key_readable unit store n uri _ shared person (given ∙ sym has.own) in
-      let same : readable.declaration ≡ declaration_by property =
-      some_same (sym readable.declared ∙ all-there (IsDeclared store) unit.properties n property serves at uri has.named) in
+  writable_value : (one : GivenValue) → IsOther unit s (values_of store) one
+      → IsWritable store (key_at one.uri one.person) one.value
+  writable_value one it =
+      let k = key_cell unit sound.valid store serves s.persons one.uri one.person it.cell it.cell_is in
+      let readable = key_readable unit store k.number one.uri (is_person k.owner) k.shared one.person (key_asked s.persons one.person k.owner k.asked) in
+      let same : readable.declaration ≡ declaration_by k.shared.property = some_same (sym readable.declared ∙ k.shared.declared) in
       record {
         declaration = readable.declaration;
         declared = readable.declared;
         suited = readable.suited;
         fitting =
-            ap (λ d. fits_declared d (s.cells (property_cell n owner))) same
-            ∙ value_fits n property owner (s.cells (property_cell n owner)) at
-            (named_is_global unit sound.valid n property at uri has.named) (fitting (property_cell n owner));
+            ap (λ d. fits_declared d one.value) same
+            ∙ value_fits k.number k.shared.property k.owner one.value k.shared.at k.shared.global
+            (ap₂ (fits_cell unit) (sym k.cell_is) (sym it.value_is) ∙ fitting it.cell);
       }
-
-  each_writable : (one : GivenValue) → IsIn (other_values (values_of store) unit s) one
-      → IsWritable store (key_at one.uri one.person) one.value
-  each_writable =
-      each_other unit s (values_of store) (λ one. IsWritable store (key_at one.uri one.person) one.value)
-      (λ n property uri at has. writable_cell n property uri false Run None at has refl)
-      (λ n property uri at has p person there.
-      writable_cell n property uri true (of_person p) (Some person.name) at has refl)
 
   all_writable : (new : Store) → new.declared ≡ store.declared → (writes : List Write)
       → ((one : GivenValue) → IsIn (map given_by writes) one → IsWritable store (key_at one.uri one.person) one.value)
@@ -80,22 +68,23 @@ module _ (unit : Unit) (s : RunState) (store : Store) (sound : IsSoundRun unit s
 
   -- ---- the writes
 
-  pub are_writes : (new : Store) (writes : List Write) → new ≡ reserve_in store (length writes)
-      → map given_by writes ≡ other_values (values_of store) unit s → AreWritesOf unit s new writes
-  are_writes new writes reserved listed =
-      let same : values_of new ≡ values_of store = ap values_of reserved in
-      let spare : new.spare ≡ max store.spare (length writes) = ap (λ t. t.spare) reserved in
-      record {
-        room = omega (arith, spare);
-        writable = all_writable new (ap (λ t. t.declared) reserved) writes
-            (λ one inside. each_writable one (subst (λ given. IsIn given one) listed inside));
-        given =
-            ap (λ values. fold written_by values writes) same
-            ∙ writes_given (values_of store) writes
-            ∙ ap (fold with_given (values_of store)) listed
-            ∙ all_given unit s (values_of store) (uris_differ unit sound.valid) sound.names
-            ∙ ap (giving_back unit s) (sym same);
-      }
+  pub are_writes : IsGivenBut unit s store slots → (new : Store) (writes : List Write) → values_of new ≡ values_of store
+      → new.declared ≡ store.declared → length writes ≤ new.spare
+      → map given_by writes ≡ other_values (values_of store) unit s slots → AreWritesOf unit s new writes
+  are_writes others new writes same declared room listed = record {
+    room = room;
+    writable = all_writable new declared writes
+        (λ one inside. writable_value one (each_other unit s store slots sound serves one (subst (λ given. IsIn given one) listed inside)));
+    given =
+        ap (λ values. fold written_by values writes) same
+        ∙ writes_given (values_of store) writes
+        ∙ ap (fold with_given (values_of store)) listed
+        ∙ all_given unit s store slots sound serves others
+        ∙ ap (giving_back unit s) (sym same);
+  }
+
+pub no_writes : (writes : List Write) → map given_by writes ≡ [] → length writes ≡ 0
+no_writes writes none = omega (arith, length-map writes given_by, ap length none)
 
 -- ---- one write after another
 

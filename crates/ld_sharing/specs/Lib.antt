@@ -1,3 +1,4 @@
+pub mod Changes
 pub mod Current
 pub mod Fitting
 pub mod GivenValues
@@ -5,4 +6,5 @@ pub mod Globals
 pub mod Readable
 pub mod StoreView
 pub mod Taken
+pub mod Told
 pub mod Writes

@@ -1,11 +1,13 @@
 -- What a run sees of the store, and which units a store serves.
-use Rattle.std.specs.Prelude.{◌≡◌, ℕ, List, Some}
+use Rattle.std.specs.Prelude.{◌≡◌, ℕ, List, Some, Bool, ◌&&◌, filter, length}
 use Rattle.std.specs.List.{AllByRecursion}
-use Rattle.ld_model.specs.Properties.{initial_of, limits_by}
+use Rattle.ld_model.specs.Properties.{initial_of, is_personal, limits_by}
 use Rattle.ld_model.specs.declared.property.Property.{Property}
 use Rattle.ld_model.specs.declared.property.PropertyKind.{PropertyKind}
 use Rattle.ld_model.specs.declared.property.PropertyKind.TheVariants as kind
 use Rattle.ld_model.specs.declared.unit.Unit.{Unit}
+use Rattle.ld_expr.specs.Owners.{is_global}
+use Rattle.ld_value.specs.Datum.{same_truth}
 use Rattle.ld_globals.specs.Declarations.{Declaration}
 use Rattle.ld_globals.specs.Store.{Store, declared_at, key_at, value_at}
 use Rattle.ld_globals.specs.declared.declared.GlobalKind.{GlobalKind}
@@ -41,3 +43,11 @@ IsDeclared store property =
 -- The store declares the uri of each of the unit's properties that has one, with its contents.
 abbrev pub Serves : Store → Unit → Type 0
 Serves store unit = AllByRecursion (IsDeclared store) unit.properties
+
+-- The property is global, and each person has a value of it, or there is one for all.
+abbrev pub is_shared : Bool → Property → Bool
+is_shared personal property = is_global property.kind && same_truth (is_personal property.kind) personal
+
+-- How many such properties the unit has.
+abbrev pub shared_count : Unit → Bool → ℕ
+shared_count unit personal = length (filter (is_shared personal) unit.properties)

@@ -1,12 +1,13 @@
 //! What the store holds of a unit's global properties when a run is made or a person joins.
-ghost use Rattle.std.specs.Prelude.{◌≡◌, ◌<◌, length, is_some, option_copied, IfOk, OnOk};
+ghost use Rattle.std.specs.Prelude.{◌≡◌, ◌<◌, ◌≤◌, ◌+◌, length, is_some, option_copied, slice_get, IfOk, OnOk, if◌then◌else◌};
 ghost use Rattle.ld_cells.specs.Stored.{cells_of, held};
+ghost use Rattle.ld_expr.specs.Lookup.{is_some_and};
 ghost use Rattle.ld_model.specs.Properties.{is_personal};
 ghost use Rattle.ld_state.specs.Beginnings.{stored_for};
 ghost use Rattle.ld_value.specs.Datum.{same_truth};
 ghost use Rattle.ld_sharing.specs.Fitting.{BeginsFitting};
 ghost use Rattle.ld_sharing.specs.Readable.{FitsStored, IsShared, IsStoredOf};
-ghost use Rattle.ld_sharing.specs.StoreView.{Serves, values_of};
+ghost use Rattle.ld_sharing.specs.StoreView.{Serves, is_shared, shared_count, values_of};
 
 use crate::reading::{copy_of, read_key};
 use ld_base::{Id, NoMemory, PropNo, Steps, Text, number};
@@ -18,7 +19,7 @@ use std::alloc::Global;
 use std::sync::ledger::Ledger;
 
 /// What the store holds of each global property: where each person has a value of it, for the
-/// person of this name. The only error is out of memory.
+/// person of this name. One key is read for each such property. The only error is out of memory.
 pub fn stored_values<L: Ledger>(
     alloc: Global,
     unit: &PreparedUnit,
@@ -31,6 +32,8 @@ pub fn stored_values<L: Ledger>(
         ≡ stored_for (values_of globals.now) (option_copied person.entry) unit.now.properties) }
     ensures fitting { OnOk result
         (BeginsFitting unit.now (values_of globals.now) (option_copied person.entry)) }
+    ensures cost { steps.new ≤ steps.old
+        + shared_count unit.now (is_some (option_copied person.entry)) }
 {
     let count = unit.unit().properties.len();
     let mut stored = Vec::with_capacity(alloc, count)?;
@@ -57,6 +60,9 @@ fn stored_value<L: Ledger>(
         (option_copied person.entry) property.0 (held value)) }
     ensures fitting { OnOk result (FitsStored unit.now (values_of globals.now)
         (option_copied person.entry) property.0) }
+    ensures cost { steps.new ≤ steps.old
+        + (if is_some_and (is_shared (is_some (option_copied person.entry)))
+        (slice_get unit.now.properties property.0) then 1 else 0) }
 {
     let Some(uri) = unit.uri(property) else {
         return Ok(None);
@@ -85,6 +91,7 @@ fn shared_value<L: Ledger>(
         (option_copied person.entry) property.0 (held value)) }
     ensures fitting { OnOk result (FitsStored unit.now (values_of globals.now)
         (option_copied person.entry) property.0) }
+    ensures cost { steps.new ≡ steps.old + 1 }
 {
     copy_of(alloc, read_key(globals, uri, person, steps))
 }

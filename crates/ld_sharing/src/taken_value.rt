@@ -11,6 +11,7 @@ ghost use Rattle.ld_state.specs.StateView.{IsStateOf, run_of, seen_of};
 ghost use Rattle.ld_sharing.specs.Readable.{IsOwnerAmong, IsReadable, IsShared, is_person, name_of};
 ghost use Rattle.ld_sharing.specs.StoreView.{values_of};
 ghost use Rattle.ld_sharing.specs.Taken.{HasTaken};
+ghost use Rattle.ld_sharing.specs.Told.{TellsTaken};
 
 use crate::reading::{are_one, copy_of, read_key};
 use ld_base::{Id, NoMemory, PropNo, Steps, Text};
@@ -42,6 +43,9 @@ pub(crate) fn take_value<L: Ledger>(
         (λ cell. same_cell cell (property_cell property.0 owner))
         (run_of state.old) (run_of state.new)) }
     ensures told { OnOk result (Tells unit.now (run_of state.old) (run_of state.new)
+        changed.old.items changed.new.items) }
+    ensures only { OnOk result (TellsTaken unit.now (values_of globals.now)
+        (run_of state.old).persons (run_of state.old) (run_of state.new)
         changed.old.items changed.new.items) }
     ensures own { IsStateOf unit.now state.new }
     ensures rows { state.new.rows ≡ state.old.rows }

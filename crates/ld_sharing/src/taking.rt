@@ -10,6 +10,7 @@ ghost use Rattle.ld_sharing.specs.Fitting.{HasFittingGlobals, TakesFitting};
 ghost use Rattle.ld_sharing.specs.Globals.{taking_in};
 ghost use Rattle.ld_sharing.specs.StoreView.{Serves, values_of};
 ghost use Rattle.ld_sharing.specs.Taken.{HasTaken, is_cell_of_key};
+ghost use Rattle.ld_sharing.specs.Told.{TellsOnly, TellsTaken};
 
 use crate::finding::find_cell;
 use crate::taken_value::take_value;
@@ -22,7 +23,7 @@ use std::sync::ledger::Ledger;
 
 /// Gives each cell of a global property, of the run and of each person, the store's value, where
 /// the run has the store's values as of the stamp: only the keys that were written since are looked
-/// at. The slots of the cells that get another value are told. After running out of memory the
+/// at. The slots of the cells that get another value are told, and no others. After running out of memory the
 /// state is another one with the same savepoint. (docs/MEANING.md, "A command")
 pub fn take_in<L: Ledger>(
     alloc: Global,
@@ -43,6 +44,8 @@ pub fn take_in<L: Ledger>(
     ensures fitting { OnOk result
         (TakesFitting unit.now (values_of globals.now) (run_of state.old).persons) }
     ensures told { OnOk result (Tells unit.now (run_of state.old) (run_of state.new)
+        changed.old.items changed.new.items) }
+    ensures only { OnOk result (TellsOnly unit.now (run_of state.old) (run_of state.new)
         changed.old.items changed.new.items) }
     ensures own { IsStateOf unit.now state.new }
     ensures rows { state.new.rows ≡ state.old.rows }
@@ -75,6 +78,9 @@ fn take_key<L: Ledger>(
         (is_cell_of_key unit.now (run_of state.old).persons (key_given uri.now person.entry))
         (run_of state.old) (run_of state.new)) }
     ensures told { OnOk result (Tells unit.now (run_of state.old) (run_of state.new)
+        changed.old.items changed.new.items) }
+    ensures only { OnOk result (TellsTaken unit.now (values_of globals.now)
+        (run_of state.old).persons (run_of state.old) (run_of state.new)
         changed.old.items changed.new.items) }
     ensures own { IsStateOf unit.now state.new }
     ensures rows { state.new.rows ≡ state.old.rows }

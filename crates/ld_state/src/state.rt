@@ -1,5 +1,5 @@
 //! The state of a run.
-ghost use Rattle.std.specs.Prelude.{◌≡◌, ◌<◌, ◌≤◌, ◌+◌, ◌++◌, ◌∷◌, [], length, true, false, Some, None, Option, option_map, IfOk, IfSome, OnOk, OnErr, IsOk, IsSome, vec_len, vec_capacity};
+ghost use Rattle.std.specs.Prelude.{◌≡◌, ◌<◌, ◌≤◌, ◌+◌, ◌++◌, ◌∷◌, [], length, true, false, Some, None, Option, option_map, slice_get, IfOk, IfSome, OnOk, OnErr, IsOk, IsSome, vec_len, vec_capacity};
 ghost use Rattle.ld_cells.specs.Stored.{cells_of, held};
 ghost use Rattle.ld_model.specs.declared.unit.Unit.{Unit};
 ghost use Rattle.ld_roles.specs.Kept.{persons_of};
@@ -93,6 +93,13 @@ impl State {
         ensures { result ≡ slot_in self.now.layout (length self.now.rows) cell }
     {
         self.slots.slot(cell, self.roster.persons())
+    }
+
+    /// The cell that has the slot; None exactly where there is no such slot. It takes no memory.
+    pub fn cell_at(&self, slot: u32) -> Option<CellName>
+        ensures { result ≡ slice_get (cells_in self.now.layout (length self.now.rows)) slot }
+    {
+        self.slots.cell_at(slot, self.roster.persons())
     }
 
     /// How many slots there are: one for each cell. It takes no memory.

@@ -9,6 +9,7 @@ use Rattle.ld_firing.proofs.Told.{told_if_set, tells_nothing}
 use Rattle.ld_sharing.specs.Readable.{is_person}
 use Rattle.ld_sharing.specs.StoreView.{values_of}
 use Rattle.ld_sharing.specs.Taken.{HasTaken}
+use Rattle.ld_sharing.proofs.TakenOnly.{taken_if_set}
 use Rattle.ld_sharing.proofs.TakingCells.{kept_cell, taken_cell}
 use Rattle.ld_sharing.proofs.TakingKeys.{cell_fits, readable_for, said_for, value_cell}
 use Rattle.ld_sharing.proofs.taken_value.take_value.Goals as goal
@@ -65,4 +66,20 @@ pub returns-clause-told : goal.returns-clause-told
 returns-clause-told g c =
     told_if_set c.set.result c.args.unit.now c.args.state.now c.set.new.self c.args.changed.now.items c.set.new.changed.items
     (property_cell c.args.property.0 c.args.owner) (held c.in-Some.value) (λ rule owner. refl) c.requires.own
+    c.set.ensures.run c.set.ensures.same c.set.ensures.changed
+
+pub returns-clause-only : goal.returns-clause-only
+returns-clause-only g c =
+    let unit = c.args.unit.now in
+    let store = c.args.globals.now in
+    let n = c.args.property.0 in
+    let uri = c.args.uri.now.bytes in
+    let owner = c.args.owner in
+    let name = option_copied c.name_of-name.result in
+    let new = held c.in-Some.value in
+    let is : new ≡ value_at store (key_at uri name) =
+    subst (λ other. IfSome other (λ value. held value ≡ value_at store (key_at uri name))) c.in-Some.is c.in_ok-value.ensures.other in
+    taken_if_set c.set.result unit (values_of store) c.args.state.now c.set.new.self c.args.changed.now.items c.set.new.changed.items
+    (property_cell n owner) new c.requires.own
+    (said_for unit store n uri owner c.requires.shared c.args.state.now.rows name c.requires.owner c.name_of-name.ensures ∙ ap Some (sym is))
     c.set.ensures.run c.set.ensures.same c.set.ensures.changed

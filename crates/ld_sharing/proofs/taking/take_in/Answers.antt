@@ -1,4 +1,4 @@
-use Rattle.std.proofs.Common.{◌≡◌, ◌∷◌, ◌∙◌, ap, arith, length, refl, subst, sym}
+use Rattle.std.proofs.Common.{◌≡◌, ◌∷◌, ◌∙◌, ap, arith, inl, length, refl, subst, sym}
 use Rattle.ld_globals.specs.Answers.{key_given}
 use Rattle.ld_roles.specs.Kept.{persons_of}
 use Rattle.ld_firing.specs.RunSystem.{HaveNamesOfTheirOwn}
@@ -7,6 +7,7 @@ use Rattle.ld_state.specs.StateView.{run_of}
 use Rattle.ld_sharing.specs.Fitting.{TakesFitting}
 use Rattle.ld_sharing.specs.StoreView.{values_of}
 use Rattle.ld_sharing.specs.Taken.{is_cell_of_key}
+use Rattle.ld_sharing.proofs.TakenOnly.{still_then, taken_then, tells_only}
 use Rattle.ld_sharing.proofs.TakingCells.{fits_after, fits_all, takes_nothing, taking_after}
 use Rattle.ld_sharing.proofs.TakingLoops.{HasAllBut, all_but_next, all_but_written, has_all}
 use Rattle.ld_sharing.proofs.WrittenCount.{counted}
@@ -26,6 +27,8 @@ loop-uri-init g c =
       same = refl;
       fitting = c.requires.fitting;
       told = tells_nothing unit s c.args.changed.now.items;
+      still = λ cell value said has. has;
+      only = λ k there. inl there;
       own = c.requires.own;
       rows = refl;
       outbox = refl;
@@ -37,6 +40,8 @@ pub loop-uri-preserved : goal.loop-uri-preserved
 loop-uri-preserved g c =
     let unit = c.args.unit.now in
     let store = c.args.globals.now in
+    let s = run_of c.args.state.now in
+    let persons = s.persons in
     let t = run_of c.loop-uri.state in
     let u = run_of c.take_key.new.state in
     let key = key_given c.in-Some.uri.now c.in-Some.person in
@@ -51,6 +56,9 @@ loop-uri-preserved g c =
       same = taking_after unit (values_of store) test t u one.taken ∙ before.same;
       fitting = fits_after unit (values_of store) test t u one.taken before.fitting;
       told = tells_then before.told one.told;
+      still = still_then unit (values_of store) test persons s t u (ap persons_of before.rows) one.taken before.still;
+      only = taken_then unit (values_of store) test persons s t u (ap persons_of before.rows) one.taken
+          c.args.changed.now.items c.loop-uri.changed.items c.take_key.new.changed.items before.still before.only one.only;
       own = one.own;
       rows = one.rows ∙ before.rows;
       outbox = one.outbox ∙ before.outbox;
@@ -79,3 +87,9 @@ returns-clause-fitting g c =
     let names = subst (λ rows. HaveNamesOfTheirOwn (persons_of rows)) (sym before.rows) c.requires.sound.names in
     subst (λ rows. TakesFitting unit (values_of store) (persons_of rows)) before.rows
     (fits_all unit (values_of store) t (has_all unit c.requires.sound.valid store c.requires.serves t names all) before.fitting)
+
+pub returns-clause-only : goal.returns-clause-only
+returns-clause-only g c =
+    let before = c.loop-uri.invariant in
+    tells_only c.args.unit.now (values_of c.args.globals.now) (run_of c.args.state.now).persons (run_of c.args.state.now)
+    (run_of c.loop-uri.state) refl (ap persons_of before.rows) c.args.changed.now.items c.loop-uri.changed.items before.only
