@@ -48,6 +48,7 @@ canonical_of (Some kind) text = canonical_text kind text
 
 -- ---- expressions
 
+-- A canonical term, whose literals are as their values are printed, and canonical terms.
 abbrev mutual
   pub canonical_term : TermOf → TermOf
   canonical_term (property_term id) = property_term id
@@ -62,6 +63,7 @@ abbrev mutual
   canonical_terms no_term = no_term
   canonical_terms (term_and term terms) = term_and (canonical_term term) (canonical_terms terms)
 
+-- A canonical test, of canonical terms, and canonical tests.
 abbrev mutual
   pub canonical_test : TestOf → TestOf
   canonical_test (compare_test comparison a b) = compare_test comparison (canonical_term a) (canonical_term b)
@@ -79,12 +81,15 @@ abbrev mutual
 
 -- ---- what is completed, and what follows
 
+-- A change to a canonical term.
 abbrev pub canonical_change : ChangeOf → ChangeOf
 canonical_change x = record { property = x.property; value = canonical_term x.value }
 
+-- What follows, with canonical changes.
 abbrev pub canonical_follows : OnCompletion → OnCompletion
 canonical_follows x = record { feedback = x.feedback; change = map canonical_change x.change; notify = x.notify }
 
+-- What completes a thing, with a canonical test; the value that a property is to have is as it is printed.
 abbrev pub canonical_completion : Kinds → Completion → Completion
 canonical_completion kinds UserChoice = UserChoice
 canonical_completion kinds (TimeLimit span) = TimeLimit span
@@ -97,6 +102,7 @@ canonical_completion kinds (WhenPlayCompleted plays) = WhenPlayCompleted plays
 
 -- ---- properties
 
+-- Restrictions of a property of this datatype, whose texts are as their values are printed.
 abbrev pub canonical_restrictions : Kind → Restrictions → Restrictions
 canonical_restrictions kind x = record {
   min_inclusive = option_map (canonical_text kind) x.min_inclusive;
@@ -106,6 +112,7 @@ canonical_restrictions kind x = record {
   enumeration = map (canonical_text kind) x.enumeration;
 }
 
+-- A property, whose first value is as it is printed, with canonical restrictions.
 abbrev pub canonical_property : Property → Property
 canonical_property x = record x {
   initial = option_map (canonical_text x.datatype) x.initial;
@@ -114,12 +121,14 @@ canonical_property x = record x {
 
 -- ---- the rest
 
+-- What a condition does, with a canonical change.
 abbrev pub canonical_action : Action → Action
 canonical_action (Show things) = Show things
 canonical_action (Hide things) = Hide things
 canonical_action (Change one) = Change (canonical_change one)
 canonical_action (Notify one) = Notify one
 
+-- A condition, with a canonical test and canonical actions.
 abbrev pub canonical_condition : Condition → Condition
 canonical_condition x = record {
   test = canonical_test x.test;
@@ -127,18 +136,21 @@ canonical_condition x = record {
   no = map canonical_action x.no;
 }
 
+-- An activity, with what completes it and what follows canonical.
 abbrev pub canonical_activity : Kinds → Activity → Activity
 canonical_activity kinds x = record x {
   complete = option_map (canonical_completion kinds) x.complete;
   on_completion = option_map canonical_follows x.on_completion;
 }
 
+-- An act, with what completes it and what follows canonical.
 abbrev pub canonical_act : Kinds → Act → Act
 canonical_act kinds x = record x {
   complete = option_map (canonical_completion kinds) x.complete;
   on_completion = option_map canonical_follows x.on_completion;
 }
 
+-- A play of canonical acts, with what completes it and what follows canonical.
 abbrev pub canonical_play : Kinds → Play → Play
 canonical_play kinds x = record x {
   acts = map (canonical_act kinds) x.acts;
@@ -146,6 +158,7 @@ canonical_play kinds x = record x {
   on_completion = option_map canonical_follows x.on_completion;
 }
 
+-- A method of canonical plays, with what completes the unit and what follows canonical.
 abbrev pub canonical_method : Kinds → Method → Method
 canonical_method kinds x = record {
   plays = map (canonical_play kinds) x.plays;

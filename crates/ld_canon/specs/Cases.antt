@@ -2,8 +2,6 @@
 use Rattle.std.specs.Prelude.{◌≡◌, ℕ, List, [], ◌∷◌, map, length, Option, Some, None, is_none, true, false, nat_le}
 use Rattle.std.specs.List.{list_all}
 use Rattle.std.proofs.Common.{refl, ap, zero-le, suc-le-suc}
-use Rattle.serde_json.specs.Data.{array}
-use Rattle.serde_json.specs.View.{items_of}
 use Rattle.ld_formats.specs.Cases.{some_up_to as some_shape, looked_at as looked_shape}
 use Rattle.ld_json.specs.Node.{member_node}
 use Rattle.ld_shape.specs.Forms.{is_between}
@@ -11,16 +9,18 @@ use Rattle.ld_shape.specs.Objects.{given}
 use Rattle.ld_shape.specs.Reading.{at_part, option_mapped}
 use Rattle.ld_shape.specs.Shapes.{Shape}
 use Rattle.ld_value.proofs.Choices.{and_left, and_right, both, le_test}
-use Rattle.ld_prints.specs.Lists.{list_back, each_printed, is_nil, nil_is}
+use Rattle.ld_prints.specs.Canonical.{IsCanonical}
+use Rattle.ld_prints.specs.Lists.{list_back, each_printed, is_nil, nil_is, array_of, some_canonical}
 use Rattle.ld_prints.specs.Objects.{ReadsMembers, PrintedMembers, or_default_of}
 use Rattle.ld_prints.specs.Printing.{ReadsBack, Printed}
 use Rattle.ld_prints.specs.Whole.{each_whole}
 
 -- ---- a list with at least one element, where it is given at all
 
+-- A list of at least one element is read from its trees.
 pub some_back : {A : Type 0} (most : ℕ) (p : Printed A) (xs : List A) → is_nil xs ≡ false
     → (some_shape most p.shape).has_form xs ≡ true
-    → ReadsBack (some_shape most p.shape) xs (array (items_of (map p.print xs)))
+    → ReadsBack (some_shape most p.shape) xs (array_of p.print xs)
 some_back most p [] some is = cc
 some_back most p (x ∷ xs) some is =
     let all : list_all p.shape.has_form (x ∷ xs) ≡ true =
@@ -34,14 +34,21 @@ some_back most p (x ∷ xs) some is =
           (each_printed p (x ∷ xs) all)).reads;
     }
 
+-- Its trees are canonical.
+pub up_to_canonical : {A : Type 0} (most : ℕ) (p : Printed A) (xs : List A) → is_nil xs ≡ false
+    → (some_shape most p.shape).has_form xs ≡ true → IsCanonical (array_of p.print xs)
+up_to_canonical most p xs some is = some_canonical p xs some
+    (and_right (nat_le (length xs) most) (list_all p.shape.has_form xs) is)
+
 -- The list at the member of this name, of 1 to this many elements; an empty one is left out.
 abbrev pub some_up_to : {A : Type 0} (name : List ℕ) (most : ℕ) (p : Printed A)
     → (some_shape most p.shape).has_form [] ≡ true → PrintedMembers (List A)
-some_up_to name most p is = or_default_of name [] (some_shape most p.shape) (λ xs. array (items_of (map p.print xs)))
-    is is_nil nil_is (each_whole p.print p.whole) (some_back most p)
+some_up_to name most p is = or_default_of name [] (some_shape most p.shape) (array_of p.print)
+    is is_nil nil_is (each_whole p.print p.whole) (some_back most p) (up_to_canonical most p)
 
 -- ---- a member that is looked at and tells nothing
 
+-- A member of which nothing is kept is not there.
 pub looked_back : {A B : Type 0} (name : List ℕ) (shape : Shape A) (x : Option B) → is_none x ≡ true
     → ReadsMembers (looked_shape name shape) x ((name, None) ∷ [])
 looked_back name shape None is = record {
@@ -59,4 +66,6 @@ looked_at name shape = record {
   named = λ _. refl;
   whole = λ _. refl;
   back = λ x is. looked_back name shape x is;
+  plain = true;
+  canonical = λ _ _ _. (tt, tt);
 }

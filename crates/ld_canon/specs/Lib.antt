@@ -1,5 +1,6 @@
 pub mod Activities
 pub mod Canonical
+pub mod CanonicalExpressions
 pub mod Cases
 pub mod Changes
 pub mod Completions
@@ -8,7 +9,6 @@ pub mod Documents
 pub mod Environments
 pub mod Expressions
 pub mod Items
-pub mod Lists
 pub mod Methods
 pub mod Properties
 pub mod RoleGroups

@@ -2,7 +2,7 @@
 use Rattle.std.specs.Prelude.{◌≡◌, ℕ, List, map, length, Option, Some, None, Bool, true, false, codes}
 use Rattle.std.specs.Option.{unwrap_or}
 use Rattle.std.proofs.Common.{refl, ap, sym, ◌∙◌}
-use Rattle.serde_json.specs.Data.{Data, null, number, unsigned, array}
+use Rattle.serde_json.specs.Data.{Data, null, number, string, unsigned, array}
 use Rattle.serde_json.specs.Find.{get}
 use Rattle.serde_json.specs.View.{items_of}
 use Rattle.ld_formats.specs.Structures.{structure_words, StructureKey, structure_kind, count_of, children_count, from_one, Content, content_by as content_shape, structure_by as structure_by_shape, structure_key_of, structure_has_key, structure as structure_shape, activities_document as activities_shape}
@@ -18,9 +18,11 @@ use Rattle.ld_shape.specs.Words.{choice_among}
 use Rattle.ld_canon.specs.Activities.{activity}
 use Rattle.ld_canon.specs.Cases.{looked_at}
 use Rattle.ld_canon.specs.Items.{visible}
+use Rattle.ld_prints.specs.Canonical.{MayHold, IsCanonical}
+use Rattle.ld_prints.specs.CanonicalRows.{other_word}
 use Rattle.ld_prints.specs.Forms.{identifier, title, number_between, one_of}
 use Rattle.ld_prints.specs.Lists.{list, list_of, count_mapped}
-use Rattle.ld_prints.specs.Objects.{PrintedMembers, as_shape, object, ◌and◌, needed, optional, absent, by_key, members_hold}
+use Rattle.ld_prints.specs.Objects.{PrintedMembers, as_shape, object, ◌and◌, needed, needed_told, optional, absent, by_key, members_hold}
 use Rattle.ld_prints.specs.Printing.{placed, ReadsBack, Printed}
 use Rattle.ld_prints.specs.Rows.{EachHolds, are_apart}
 
@@ -34,6 +36,11 @@ pub structure_word_of : (kind : StructureKind) → choice_among structure_words 
 structure_word_of Sequence = refl
 structure_word_of Selection = refl
 
+-- It is no default, as that of an activity may be.
+pub structure_word_may : (kind : StructureKind) → MayHold (codes "kind") (string (structure_word kind))
+structure_word_may Sequence = other_word (codes "kind") (codes "learning") (codes "sequence") refl refl refl
+structure_word_may Selection = other_word (codes "kind") (codes "learning") (codes "selection") refl refl refl
+
 -- A kind of structure.
 abbrev pub kind_word : Printed StructureKind
 kind_word = one_of structure_words structure_word structure_word_of
@@ -42,9 +49,19 @@ kind_word = one_of structure_words structure_word structure_word_of
 pub left_out_back : {A : Type 0} (x : A) → false ≡ true → ReadsBack left_out_shape x null
 left_out_back x is = cc
 
+-- So nothing is asked of its tree.
+pub left_out_canonical : {A : Type 0} (x : A) → false ≡ true → IsCanonical null
+left_out_canonical x is = cc
+
 -- The same, printed.
 abbrev pub left_out : {A : Type 0} → Printed A
-left_out = record { shape = left_out_shape; print = λ _. null; whole = λ _. refl; back = left_out_back }
+left_out = record {
+  shape = left_out_shape;
+  print = λ _. null;
+  whole = λ _. refl;
+  back = left_out_back;
+  canonical = left_out_canonical;
+}
 
 -- A number from 1 to the number of children. Where that is not known, nothing is kept.
 abbrev pub some_selected : Option ℕ → PrintedMembers (Option ℕ)
@@ -61,7 +78,7 @@ abbrev pub content_by : StructureKey → PrintedMembers Content
 content_by key =
     selected_by key
     and list (codes "environments") identifier
-    and needed (codes "children") (list_of 1 identifier)
+    and needed (codes "children") (list_of identifier)
     and absent (codes "sort")
     and absent (codes "unit-of-learning-href")
 
@@ -78,7 +95,7 @@ Made = List ℕ × (StructureKind × (Option (List ℕ) × (Bool × Content)))
 abbrev pub structure_members : StructureKey → PrintedMembers Made
 structure_members key =
     needed (codes "identifier") identifier
-    and needed (codes "kind") kind_word
+    and needed_told (codes "kind") kind_word structure_word_may
     and optional (codes "title") title
     and visible
     and content_by key
@@ -88,6 +105,12 @@ pub names_apart : (key : StructureKey) → are_apart (structure_members key).mem
 names_apart (Sequence, count) = refl
 names_apart (Selection, None) = refl
 names_apart (Selection, Some count) = refl
+
+-- Nothing is asked of the others.
+pub names_plain : (key : StructureKey) → (structure_members key).plain ≡ true
+names_plain (Sequence, count) = refl
+names_plain (Selection, None) = refl
+names_plain (Selection, Some count) = refl
 
 -- The parts of a structure.
 abbrev pub structure_parts : Structure → Made
@@ -117,6 +140,7 @@ structure_by key = object
     (λ _. refl)
     (structure_members key)
     (names_apart key)
+    (names_plain key)
 
 -- It is the structure of that kind of the formats.
 pub structure_by_is : (key : StructureKey) → (structure_by key).shape ≡ structure_by_shape key
@@ -164,4 +188,4 @@ structure = as_shape structure_shape (by_key (λ node. (structure_kind node, chi
 unfoldable pub activities_document : Printed (List Activity × List Structure)
 unfolding activities_shape activity structure
 activities_document = as_shape activities_shape (object (λ x. x) (λ x. x) (λ _. refl) (λ _. refl)
-    (list (codes "activities") activity and list (codes "structures") structure) refl) refl
+    (list (codes "activities") activity and list (codes "structures") structure) refl refl) refl

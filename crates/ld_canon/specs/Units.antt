@@ -22,6 +22,7 @@ use Rattle.ld_canon.specs.Properties.{properties_document}
 use Rattle.ld_canon.specs.Roles.{roles_tree}
 use Rattle.ld_canon.specs.Structures.{activities_document}
 use Rattle.ld_canon.specs.WholeRoles.{roles_whole}
+use Rattle.ld_prints.specs.CanonicalRows.{other_number}
 use Rattle.ld_prints.specs.Forms.{identifier, title, text, number_between, one_of}
 use Rattle.ld_prints.specs.Lists.{list}
 use Rattle.ld_prints.specs.Objects.{PrintedMembers, as_shape, object, ◌and◌, needed, optional, or_default}
@@ -38,6 +39,7 @@ format = record {
   print = λ n. number (unsigned n);
   whole = λ _. refl;
   back = λ n is. record { reads = λ file place. ap (λ t. provided t n) is };
+  canonical = λ _ _. tt;
 }
 
 -- The word of each level.
@@ -61,6 +63,7 @@ abbrev pub content_members : PrintedMembers Content
 content_members =
     optional (codes "title") title
     and or_default (codes "turns") 64 (number_between 1 256) refl is_usual (λ n is. eq_from n 64 is)
+    (λ n other. other_number (codes "turns") 64 n refl refl other)
     and optional (codes "metadata") (text 0 4096)
     and list (codes "learning-objectives") item
     and list (codes "prerequisites") item
@@ -99,7 +102,7 @@ head = as_shape head_shape (object
     and needed (codes "identifier") identifier
     and needed (codes "level") (one_of level_words level_word level_word_of)
     and content_members)
-    refl) refl
+    refl refl) refl
 
 -- ---- the documents
 

@@ -16,7 +16,7 @@ use ld_model::{Activity, ActivityKind, Property, ReferenceList, Structure, Struc
 use ld_prints::lists::{ListTree, list};
 use ld_prints::members::{needed, object_tree, optional, unless};
 use ld_prints::prints::Prints;
-use ld_prints::values::{FlagTree, IdTree, NumberTree, TitleTree};
+use ld_prints::values::{FlagTree, IdTree, NumberTree, TitleTree, text_tree};
 use serde_json::{Map, Value, put};
 use std::alloc::Global;
 
@@ -33,8 +33,7 @@ impl Prints for ActivityWordTree {
             ActivityKind::Learning => "learning",
             ActivityKind::Support => "support",
         };
-        let tree = Value::try_from_str(alloc, word)?;
-        Ok(tree)
+        text_tree(alloc, word)
     }
 }
 
@@ -54,7 +53,8 @@ fn put_about(
     value: &Activity,
     members: &mut Map<String, Value>,
 ) -> Result<(), NoMemory>
-    ensures { OnOk result (members_view members.new.entries ≡ members_into (members_view members.old.entries)
+    ensures { OnOk result (members_view members.new.entries
+        ≡ members_into (members_view members.old.entries)
         (about_members.rows (value.now.identifier, (value.now.kind, (value.now.title, value.now.visible))))) }
 {
     needed::<IdTree>(alloc, "identifier", &value.identifier, members)?;
@@ -127,8 +127,7 @@ impl Prints for StructureWordTree {
             StructureKind::Sequence => "sequence",
             StructureKind::Selection => "selection",
         };
-        let tree = Value::try_from_str(alloc, word)?;
-        Ok(tree)
+        text_tree(alloc, word)
     }
 }
 
@@ -177,7 +176,7 @@ impl Prints for StructureTree {
         )?;
         put_selected(alloc, value.kind, &value.number_to_select, &mut members)?;
         list::<IdTree>(alloc, "environments", &value.environments, &mut members)?;
-        needed::<ListTree<IdTree, 1>>(alloc, "children", &value.children, &mut members)?;
+        needed::<ListTree<IdTree>>(alloc, "children", &value.children, &mut members)?;
         Ok(object_tree(members))
     }
 }

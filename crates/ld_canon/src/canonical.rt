@@ -3,7 +3,7 @@ ghost use Rattle.std.specs.Prelude.{◌≡◌, IfOk, OnOk, map, option_map};
 ghost use Rattle.serde_json.specs.Data.{Data, array, put as with_member};
 ghost use Rattle.serde_json.specs.View.{view, items_of, items_view, members_view};
 ghost use Rattle.ld_canon.specs.Canonical.{Kinds, kinds_of};
-ghost use Rattle.ld_canon.specs.Lists.{array_of, array_unless_none};
+ghost use Rattle.ld_prints.specs.Lists.{array_of, array_unless_none};
 ghost use Rattle.ld_prints.specs.Rows.{put_if};
 
 use ld_base::{Items, NoMemory};
@@ -22,7 +22,8 @@ pub(crate) trait PrintsCanonical {
 
     /// The tree of the thing so.
     fn tree(alloc: Global, properties: &[Property], value: &Self::Of) -> Result<Value, NoMemory>
-        ensures { IfOk result (λ tree. view tree ≡ print (canonical (kinds_of properties.now) value.now)) };
+        ensures { IfOk result (λ tree.
+            view tree ≡ print (canonical (kinds_of properties.now) value.now)) };
 }
 
 /// A member that has to be there.

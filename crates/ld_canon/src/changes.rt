@@ -45,7 +45,7 @@ impl Prints for NoticeTree {
 
     fn tree(alloc: Global, value: &Notice) -> Result<Value, NoMemory> {
         let mut members = Map::new(alloc);
-        needed::<ListTree<IdTree, 1>>(alloc, "roles", &value.roles, &mut members)?;
+        needed::<ListTree<IdTree>>(alloc, "roles", &value.roles, &mut members)?;
         optional::<TitleTree>(alloc, "subject", &value.subject, &mut members)?;
         optional::<IdTree>(alloc, "activity", &value.activity, &mut members)?;
         Ok(object_tree(members))

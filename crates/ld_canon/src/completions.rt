@@ -13,7 +13,7 @@ use crate::canonical::{PrintsCanonical, optional};
 use crate::changes::FollowsTree;
 use crate::kinds::kind_of;
 use crate::soles::{sole, sole_true};
-use crate::tests::{members_tree, tree_of_test};
+use crate::test_trees::{members_tree, tree_of_test};
 use crate::texts::{SpanTree, text_of_property};
 use ld_base::{Id, NoMemory, PlainText};
 use ld_model::{Completion, OnCompletion, Property};
@@ -46,7 +46,7 @@ impl PrintsCanonical for CompletionTree {
                 sole(alloc, "when-property-value-is-set", tree)
             }
             Completion::WhenRolePartCompleted(parts) => {
-                let tree = ListTree::<IdTree, 1>::tree(alloc, parts)?;
+                let tree = ListTree::<IdTree>::tree(alloc, parts)?;
                 sole(alloc, "when-role-part-completed", tree)
             }
             Completion::WhenConditionTrue(role, test) => {
@@ -56,7 +56,7 @@ impl PrintsCanonical for CompletionTree {
             }
             Completion::WhenLastActCompleted => sole_true(alloc, "when-last-act-completed"),
             Completion::WhenPlayCompleted(plays) => {
-                let tree = ListTree::<IdTree, 1>::tree(alloc, plays)?;
+                let tree = ListTree::<IdTree>::tree(alloc, plays)?;
                 sole(alloc, "when-play-completed", tree)
             }
         }
@@ -93,7 +93,8 @@ pub(crate) fn put_ending(
     on_completion: &Option<OnCompletion>,
     members: &mut Map<String, Value>,
 ) -> Result<(), NoMemory>
-    ensures { OnOk result (members_view members.new.entries ≡ members_into (members_view members.old.entries)
+    ensures { OnOk result (members_view members.new.entries
+        ≡ members_into (members_view members.old.entries)
         ((
           codes "complete",
           option_map completion_tree

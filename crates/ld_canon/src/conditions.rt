@@ -9,7 +9,7 @@ ghost use Rattle.ld_canon.specs.Conditions.{action_tree, condition, conditions_d
 use crate::canonical::{PrintsCanonical, list, needed_list};
 use crate::changes::{ChangeTree, NoticeTree};
 use crate::soles::sole;
-use crate::tests::tree_of_test;
+use crate::test_trees::tree_of_test;
 use ld_base::NoMemory;
 use ld_model::{Action, Condition, ConditionList, Property};
 use ld_prints::lists::ListTree;
@@ -32,11 +32,11 @@ impl PrintsCanonical for ActionTree {
     fn tree(alloc: Global, properties: &[Property], value: &Action) -> Result<Value, NoMemory> {
         match value {
             Action::Show(things) => {
-                let tree = ListTree::<IdTree, 1>::tree(alloc, things)?;
+                let tree = ListTree::<IdTree>::tree(alloc, things)?;
                 sole(alloc, "show", tree)
             }
             Action::Hide(things) => {
-                let tree = ListTree::<IdTree, 1>::tree(alloc, things)?;
+                let tree = ListTree::<IdTree>::tree(alloc, things)?;
                 sole(alloc, "hide", tree)
             }
             Action::Change(change) => {

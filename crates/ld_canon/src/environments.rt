@@ -11,7 +11,7 @@ use ld_model::{Environment, LearningObject, Service, ServiceKind};
 use ld_prints::lists::list;
 use ld_prints::members::{needed, object_tree, optional, unless};
 use ld_prints::prints::Prints;
-use ld_prints::values::{FlagTree, IdTree, TitleTree};
+use ld_prints::values::{FlagTree, IdTree, TitleTree, text_tree};
 use serde_json::{Map, Value};
 use std::alloc::Global;
 
@@ -54,8 +54,7 @@ impl Prints for ServiceWordTree {
             ServiceKind::Monitor => "monitor",
             ServiceKind::IndexSearch => "index-search",
         };
-        let tree = Value::try_from_str(alloc, word)?;
-        Ok(tree)
+        text_tree(alloc, word)
     }
 }
 

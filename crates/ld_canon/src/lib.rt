@@ -16,7 +16,7 @@ mod properties;
 mod roles;
 mod soles;
 mod terms;
-mod tests;
+mod test_trees;
 mod texts;
 pub mod units;
 

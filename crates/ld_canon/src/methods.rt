@@ -47,7 +47,7 @@ impl PrintsCanonical for ActTree {
         let mut members = Map::new(alloc);
         needed::<IdTree>(alloc, "identifier", &value.identifier, &mut members)?;
         optional::<TitleTree>(alloc, "title", &value.title, &mut members)?;
-        needed::<ListTree<PartTree, 1>>(alloc, "role-parts", &value.role_parts, &mut members)?;
+        needed::<ListTree<PartTree>>(alloc, "role-parts", &value.role_parts, &mut members)?;
         put_ending(
             alloc,
             properties,

@@ -53,7 +53,8 @@ fn print_file(alloc: Global, docs: &Docs, file: FileNo, out: &mut Text) -> Resul
 /// Appends a line with the name of the file and a line with the document.
 fn print_document(alloc: Global, file: FileNo, doc: &Doc, out: &mut Text) -> Result<(), NoMemory>
     requires { has_float doc.now ≡ false }
-    ensures { OnOk result (out.new.bytes ≡ out.old.bytes ++ file_text (file_name file) (Some doc.now)) }
+    ensures { OnOk result (out.new.bytes
+        ≡ out.old.bytes ++ file_text (file_name file) (Some doc.now)) }
 {
     out.push("# ")?;
     out.push(file.name())?;

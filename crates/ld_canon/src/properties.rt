@@ -5,7 +5,7 @@ ghost use Rattle.std.specs.Prelude.{◌≡◌, IfOk, OnOk, Some, map, option_map
 ghost use Rattle.serde_json.specs.Data.{string, put as with_member};
 ghost use Rattle.serde_json.specs.View.{view, members_view};
 ghost use Rattle.ld_canon.specs.Canonical.{canonical_text, canonical_restrictions, canonical_property};
-ghost use Rattle.ld_canon.specs.Lists.{array_unless_none};
+ghost use Rattle.ld_prints.specs.Lists.{array_unless_none};
 ghost use Rattle.ld_canon.specs.Properties.{restrictions, kind_word, datatype, role_by, uri_by, property};
 ghost use Rattle.ld_prints.specs.Objects.{given_tree};
 ghost use Rattle.ld_prints.specs.Rows.{members_into, put_if};
@@ -16,7 +16,7 @@ use ld_base::{Id, Items, NoMemory, PlainText};
 use ld_model::{Property, PropertyKind, Restrictions};
 use ld_prints::members::{needed, object_tree, optional};
 use ld_prints::prints::Prints;
-use ld_prints::values::{IdTree, NumberTree, TitleTree, UriTree};
+use ld_prints::values::{IdTree, NumberTree, TitleTree, UriTree, text_tree};
 use ld_value::Kind;
 use serde_json::{Map, Value, put};
 use std::alloc::Global;
@@ -76,7 +76,8 @@ fn trees_of_texts(alloc: Global, kind: Kind, texts: &[PlainText]) -> Result<Vec<
 
 /// What the values of a property of the datatype have to keep to.
 fn restrictions_tree(alloc: Global, kind: Kind, value: &Restrictions) -> Result<Value, NoMemory>
-    ensures { IfOk result (λ tree. view tree ≡ restrictions.print (canonical_restrictions kind value.now)) }
+    ensures { IfOk result (λ tree.
+        view tree ≡ restrictions.print (canonical_restrictions kind value.now)) }
 {
     let mut members = Map::new(alloc);
     put_text(
@@ -134,8 +135,7 @@ impl Prints for KindTree {
             PropertyKind::GlobPers => "globpers",
             PropertyKind::Glob => "glob",
         };
-        let tree = Value::try_from_str(alloc, word)?;
-        Ok(tree)
+        text_tree(alloc, word)
     }
 }
 
@@ -157,8 +157,7 @@ impl Prints for DatatypeTree {
             Kind::Datetime => "datetime",
             Kind::Duration => "duration",
         };
-        let tree = Value::try_from_str(alloc, word)?;
-        Ok(tree)
+        text_tree(alloc, word)
     }
 }
 

@@ -11,7 +11,7 @@ use ld_base::{NoMemory, PlainText};
 use ld_model::{CreateNew, MatchPersons, Role, RoleKind, RoleList};
 use ld_prints::members::{needed, object_tree, optional, unless};
 use ld_prints::prints::Prints;
-use ld_prints::values::{IdTree, NumberTree, TitleTree};
+use ld_prints::values::{IdTree, NumberTree, TitleTree, text_tree};
 use serde_json::{Map, Value, put};
 use std::alloc::Global;
 
@@ -28,8 +28,7 @@ impl Prints for KindTree {
             RoleKind::Learner => "learner",
             RoleKind::Staff => "staff",
         };
-        let tree = Value::try_from_str(alloc, word)?;
-        Ok(tree)
+        text_tree(alloc, word)
     }
 }
 
@@ -46,8 +45,7 @@ impl Prints for MatchTree {
             MatchPersons::ExclusivelyInRoles => "exclusively-in-roles",
             MatchPersons::NotExclusively => "not-exclusively",
         };
-        let tree = Value::try_from_str(alloc, word)?;
-        Ok(tree)
+        text_tree(alloc, word)
     }
 }
 
@@ -64,8 +62,7 @@ impl Prints for CreationTree {
             CreateNew::NotAllowed => "not-allowed",
             CreateNew::Allowed => "allowed",
         };
-        let tree = Value::try_from_str(alloc, word)?;
-        Ok(tree)
+        text_tree(alloc, word)
     }
 }
 

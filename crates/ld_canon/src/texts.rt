@@ -9,6 +9,7 @@ ghost use Rattle.ld_prints.specs.Forms.{seconds};
 
 use ld_base::{NoMemory, Text};
 use ld_prints::prints::Prints;
+use ld_prints::values::text_tree;
 use ld_value::{Kind, Value as Datum, ValueFault, print_value, read_value};
 use serde_json::Value;
 use std::alloc::Global;
@@ -19,7 +20,7 @@ pub(crate) fn value_text(alloc: Global, kind: Kind, text: &str) -> Result<Value,
 {
     match read_value(alloc, kind, text) {
         Ok(value) => printed(alloc, kind, text, &value),
-        Err(ValueFault::BadValue) => plain_text(alloc, text),
+        Err(ValueFault::BadValue) => text_tree(alloc, text),
         Err(ValueFault::NoMemory) => Err(NoMemory),
     }
 }
@@ -34,7 +35,7 @@ pub(crate) fn text_of_property(
 {
     match kind {
         Some(kind) => value_text(alloc, kind, text),
-        None => plain_text(alloc, text),
+        None => text_tree(alloc, text),
     }
 }
 
@@ -46,15 +47,7 @@ fn printed(alloc: Global, kind: Kind, text: &str, value: &Datum) -> Result<Value
 {
     let mut out = Text::new(alloc);
     print_value(value, &mut out)?;
-    plain_text(alloc, out.as_str())
-}
-
-/// The text itself.
-fn plain_text(alloc: Global, text: &str) -> Result<Value, NoMemory>
-    ensures { IfOk result (λ tree. view tree ≡ string text.now) }
-{
-    let tree = Value::try_from_str(alloc, text)?;
-    Ok(tree)
+    text_tree(alloc, out.as_str())
 }
 
 /// A span of time.
@@ -69,6 +62,6 @@ impl Prints for SpanTree {
     fn tree(alloc: Global, value: &u64) -> Result<Value, NoMemory> {
         let mut out = Text::new(alloc);
         print_value(&Datum::Span(*value), &mut out)?;
-        plain_text(alloc, out.as_str())
+        text_tree(alloc, out.as_str())
     }
 }

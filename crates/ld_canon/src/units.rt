@@ -5,7 +5,7 @@ ghost use Rattle.std.specs.Prelude.{◌≡◌, true, map, option_map, IfOk, OnOk
 ghost use Rattle.serde_json.specs.View.{view, members_view};
 ghost use Rattle.ld_canon.specs.Canonical.{canonical as canonical_unit, canonical_property, canonical_condition, canonical_activity, canonical_method, kinds_of};
 ghost use Rattle.ld_canon.specs.Conditions.{conditions_document};
-ghost use Rattle.ld_canon.specs.Documents.{StandFor, canonical_documents};
+ghost use Rattle.ld_canon.specs.Documents.{AreCanonical, StandFor, canonical_documents};
 ghost use Rattle.ld_canon.specs.Environments.{environments_document};
 ghost use Rattle.ld_canon.specs.Properties.{properties_document};
 ghost use Rattle.ld_canon.specs.Structures.{activities_document};
@@ -31,7 +31,7 @@ use ld_model::{
 use ld_prints::lists::list;
 use ld_prints::members::{needed, object_tree, optional, unless};
 use ld_prints::prints::Prints;
-use ld_prints::values::{IdTree, NumberTree, TextTree, TitleTree};
+use ld_prints::values::{IdTree, NumberTree, TextTree, TitleTree, text_tree};
 use serde_json::{Map, Value};
 use std::alloc::Global;
 
@@ -49,8 +49,7 @@ impl Prints for LevelTree {
             Level::B => "B",
             Level::C => "C",
         };
-        let tree = Value::try_from_str(alloc, word)?;
-        Ok(tree)
+        text_tree(alloc, word)
     }
 }
 
@@ -62,6 +61,8 @@ pub fn documents<'a>(alloc: Global, unit: &Unit) -> Result<Docs<'a>, NoMemory>
     ensures documents { IfOk result (λ docs. docs ≡ canonical_documents unit.now) }
     ensures stand { OnOk result (is_well_formed unit.now ≡ true
         → StandFor (canonical_documents unit.now) unit.now) }
+    ensures canonical { OnOk result (is_well_formed unit.now ≡ true
+        → AreCanonical (canonical_documents unit.now)) }
 {
     let roles = roles_tree(alloc, &unit.roles)?;
     let properties = properties_tree(alloc, &unit.properties)?;
@@ -95,7 +96,8 @@ fn doc_of<'a>(tree: Option<Value>) -> Option<Doc<'a>>
 /// The tree of the unit's own document.
 #[tactic(auto, unfolding(crate::specs::Canonical::canonical, crate::specs::Units::format, crate::specs::Units::head))]
 fn head_tree(alloc: Global, unit: &Unit) -> Result<Value, NoMemory>
-    ensures { IfOk result (λ tree. view tree ≡ head.print (head_and_conditions (canonical_unit unit.now)).0) }
+    ensures { IfOk result (λ tree.
+        view tree ≡ head.print (head_and_conditions (canonical_unit unit.now)).0) }
 {
     let mut members = Map::new(alloc);
     needed::<NumberTree<1, 1>>(alloc, "format", &unit.format, &mut members)?;
@@ -107,7 +109,8 @@ fn head_tree(alloc: Global, unit: &Unit) -> Result<Value, NoMemory>
 
 /// Puts in the members behind the level.
 fn put_content(alloc: Global, unit: &Unit, members: &mut Map<String, Value>) -> Result<(), NoMemory>
-    ensures { OnOk result (members_view members.new.entries ≡ members_into (members_view members.old.entries)
+    ensures { OnOk result (members_view members.new.entries
+        ≡ members_into (members_view members.old.entries)
         (content_members.rows (
           unit.now.title,
           (

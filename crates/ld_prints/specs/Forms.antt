@@ -16,7 +16,13 @@ use Rattle.ld_prints.specs.Printing.{Printed}
 
 -- True or false.
 abbrev pub flag : Printed Bool
-flag = record { shape = flag_shape; print = boolean; whole = λ _. refl; back = λ x is. record { reads = λ file place. refl } }
+flag = record {
+  shape = flag_shape;
+  print = boolean;
+  whole = λ _. refl;
+  back = λ x is. record { reads = λ file place. refl };
+  canonical = λ _ _. tt;
+}
 
 -- A flag that is true.
 pub true_back : true_of (boolean true) ≡ Some tt
@@ -25,7 +31,13 @@ true_back = refl
 
 -- The same.
 abbrev pub true_flag : Printed (Unit {0})
-true_flag = record { shape = true_shape; print = λ _. boolean true; whole = λ _. refl; back = λ x is. record { reads = λ file place. true_back } }
+true_flag = record {
+  shape = true_shape;
+  print = λ _. boolean true;
+  whole = λ _. refl;
+  back = λ x is. record { reads = λ file place. true_back };
+  canonical = λ _ _. tt;
+}
 
 -- A text of this many bytes is read from itself.
 pub text_back : (least most : ℕ) (text : List ℕ) → has_length least most text ≡ true
@@ -40,6 +52,7 @@ text least most = record {
   print = string;
   whole = λ _. refl;
   back = λ x is. record { reads = λ file place. text_back least most x is };
+  canonical = λ _ _. tt;
 }
 
 -- A title or a subject: 1 to 256 bytes.
@@ -59,6 +72,7 @@ identifier = record {
   print = string;
   whole = λ _. refl;
   back = λ x is. record { reads = λ file place. identifier_back x is };
+  canonical = λ _ _. tt;
 }
 
 -- Visible characters of ASCII are read from themselves.
@@ -74,6 +88,7 @@ address most = record {
   print = string;
   whole = λ _. refl;
   back = λ x is. record { reads = λ file place. address_back most x is };
+  canonical = λ _ _. tt;
 }
 
 -- An address: 1 to 1,024 visible characters of ASCII.
@@ -97,6 +112,7 @@ number_between least most = record {
   print = λ n. number (unsigned n);
   whole = λ _. refl;
   back = λ x is. record { reads = λ file place. number_back least most x is };
+  canonical = λ _ _. tt;
 }
 
 -- A span in range is read from its text.
@@ -111,11 +127,18 @@ seconds = record {
   print = λ n. string (span_text n);
   whole = λ _. refl;
   back = λ x is. record { reads = λ file place. span_back x is };
+  canonical = λ _ _. tt;
 }
 
 -- A text of any length.
 abbrev pub any_text : Printed (List ℕ)
-any_text = record { shape = plain as_str; print = string; whole = λ _. refl; back = λ x is. record { reads = λ file place. refl } }
+any_text = record {
+  shape = plain as_str;
+  print = string;
+  whole = λ _. refl;
+  back = λ x is. record { reads = λ file place. refl };
+  canonical = λ _ _. tt;
+}
 
 -- ---- words
 
@@ -131,6 +154,7 @@ one_of words word law = record {
   print = λ x. string (word x);
   whole = λ _. refl;
   back = λ x is. record { reads = λ file place. law x };
+  canonical = λ _ _. tt;
 }
 
 -- One of the words, which stand for the values of this form; the texts outside are left out of this engine.
@@ -142,4 +166,5 @@ one_of_but words form have outside word law = record {
   print = λ x. string (word x);
   whole = λ _. refl;
   back = λ x is. record { reads = λ file place. law x is };
+  canonical = λ _ _. tt;
 }

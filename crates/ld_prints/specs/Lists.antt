@@ -7,14 +7,19 @@ use Rattle.serde_json.specs.View.{items_of}
 use Rattle.serde_json.specs.Written.{has_float}
 use Rattle.ld_json.specs.Access.{nodes_from, item_nodes}
 use Rattle.ld_json.specs.Node.{Placed, item_node, member_node}
-use Rattle.ld_shape.specs.Forms.{is_between}
 use Rattle.ld_shape.specs.Lists.{each, list as list_members, list_of as list_of_shape, list_where as list_where_shape, pair_of as pair_shape}
 use Rattle.ld_shape.specs.Reading.{at_part, option_both, option_after, option_mapped}
 use Rattle.ld_shape.specs.Shapes.{Shape}
 use Rattle.ld_value.proofs.Choices.{and_left, and_right, eq_from, le_test}
-use Rattle.ld_prints.specs.Objects.{ReadsMembers, PrintedMembers, or_default}
+use Rattle.ld_prints.specs.Canonical.{IsCanonical}
+use Rattle.ld_prints.specs.CanonicalRows.{each_canonical}
+use Rattle.ld_prints.specs.Objects.{ReadsMembers, PrintedMembers, unless_default, or_default_of}
 use Rattle.ld_prints.specs.Printing.{placed, ReadsBack, Printed}
 use Rattle.ld_prints.specs.Whole.{neither, each_whole}
+
+-- The list has no element.
+abbrev pub is_nil : {A : Type 0} → List A → Bool
+is_nil xs = length xs == 0
 
 -- Each value is read from its tree.
 abbrev pub EachReads : {A : Type 0} → Shape A → List A → List Data → Type 0
@@ -75,37 +80,60 @@ each_printed p (x ∷ xs) is = (
   each_printed p xs (and_right (p.shape.has_form x) (list_all p.shape.has_form xs) is),
 )
 
--- A list whose number of elements passes the test.
-abbrev pub list_where : {A : Type 0} → (ℕ → Bool) → Printed A → Printed (List A)
-list_where fits p = record {
-  shape = list_where_shape fits p.shape;
-  print = λ xs. array (items_of (map p.print xs));
+-- The array of the trees of a list.
+abbrev pub array_of : {A : Type 0} → (A → Data) → List A → Data
+array_of print xs = array (items_of (map print xs))
+
+-- The trees of one element or more are a canonical list.
+pub filled_canonical : {A : Type 0} (p : Printed A) (x : A) (xs : List A)
+    → list_all p.shape.has_form (x ∷ xs) ≡ true → IsCanonical (array_of p.print (x ∷ xs))
+filled_canonical p x xs are = (tt, each_canonical p.shape.has_form p.print p.canonical (x ∷ xs) are)
+
+-- So are those of a list that is not empty.
+pub some_canonical : {A : Type 0} (p : Printed A) (xs : List A) → is_nil xs ≡ false
+    → list_all p.shape.has_form xs ≡ true → IsCanonical (array_of p.print xs)
+some_canonical p [] some are = cc
+some_canonical p (x ∷ xs) some are = filled_canonical p x xs are
+
+-- A list is read from its trees.
+pub array_back : {A : Type 0} (least : ℕ) (p : Printed A) (xs : List A)
+    → (list_of_shape least p.shape).has_form xs ≡ true
+    → ReadsBack (list_of_shape least p.shape) xs (array_of p.print xs)
+array_back least p xs is = list_back (nat_le least) p.shape xs (map p.print xs)
+    (and_left (nat_le least (length xs)) (list_all p.shape.has_form xs) is)
+    (each_printed p xs (and_right (nat_le least (length xs)) (list_all p.shape.has_form xs) is))
+
+-- The trees of a list of one element or more are canonical.
+pub one_canonical : {A : Type 0} (p : Printed A) (xs : List A) → (list_of_shape 1 p.shape).has_form xs ≡ true
+    → IsCanonical (array_of p.print xs)
+one_canonical p [] is = cc
+one_canonical p (x ∷ xs) is =
+    filled_canonical p x xs (and_right (nat_le 1 (length (x ∷ xs))) (list_all p.shape.has_form (x ∷ xs)) is)
+
+-- A list of one element or more. (An empty list is never printed.)
+abbrev pub list_of : {A : Type 0} → Printed A → Printed (List A)
+list_of p = record {
+  shape = list_of_shape 1 p.shape;
+  print = array_of p.print;
   whole = each_whole p.print p.whole;
-  back = λ xs is. list_back fits p.shape xs (map p.print xs)
-      (and_left (fits (length xs)) (list_all p.shape.has_form xs) is)
-      (each_printed p xs (and_right (fits (length xs)) (list_all p.shape.has_form xs) is));
+  back = array_back 1 p;
+  canonical = one_canonical p;
 }
-
--- A list of this many elements or more.
-abbrev pub list_of : {A : Type 0} → ℕ → Printed A → Printed (List A)
-list_of least = list_where (nat_le least)
-
--- A list of at least and at most this many elements.
-abbrev pub list_between : {A : Type 0} → ℕ → ℕ → Printed A → Printed (List A)
-list_between least most = list_where (is_between least most)
-
--- The list has no element.
-abbrev pub is_nil : {A : Type 0} → List A → Bool
-is_nil xs = length xs == 0
 
 -- A list without an element is the empty one.
 pub nil_is : {A : Type 0} (xs : List A) → is_nil xs ≡ true → xs ≡ []
 nil_is [] is = refl
 nil_is (x ∷ xs) is = let none : suc (length xs) ≡ 0 = eq_from (suc (length xs)) 0 is in cc
 
+-- The array of the trees of a list; nothing where the list is empty.
+abbrev pub array_unless_none : {A : Type 0} → (A → Data) → List A → Option Data
+array_unless_none print xs = unless_default (is_nil xs) (array_of print) xs
+
 -- The list at the member of this name; an empty one is left out.
 abbrev pub list : {A : Type 0} → List ℕ → Printed A → PrintedMembers (List A)
-list name p = or_default name [] (list_of 0 p) refl is_nil nil_is
+list name p = or_default_of name [] (list_of_shape 0 p.shape) (array_of p.print) refl is_nil nil_is
+    (each_whole p.print p.whole) (λ xs _ is. array_back 0 p xs is)
+    (λ xs some is. some_canonical p xs some (and_right (nat_le 0 (length xs)) (list_all p.shape.has_form xs) is))
 
 -- What stands at the member of a list of these trees: nothing for the empty one.
 abbrev pub some_trees : List Data → Option Data
@@ -144,6 +172,7 @@ pair_back {shape = shape} {x = x} {first = first} {second = second} here next = 
       ∙ ap (λ o. option_both (Some x) o) (next.reads file (item_node node 1 second).place);
 }
 
+-- An array of two trees without a number that has a point has none.
 pub both_whole : (first second : Data) → has_float first ≡ false → has_float second ≡ false
     → has_float (array (item first (item second no_items))) ≡ false
 both_whole first second here next =
@@ -158,4 +187,11 @@ pair_of p = record {
   back = λ two is. pair_back
       (p.back two.0 (and_left (p.shape.has_form two.0) (p.shape.has_form two.1) is))
       (p.back two.1 (and_right (p.shape.has_form two.0) (p.shape.has_form two.1) is));
+  canonical = λ two is. (
+    tt,
+    (
+      p.canonical two.0 (and_left (p.shape.has_form two.0) (p.shape.has_form two.1) is),
+      (p.canonical two.1 (and_right (p.shape.has_form two.0) (p.shape.has_form two.1) is), tt),
+    ),
+  );
 }

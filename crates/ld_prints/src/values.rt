@@ -1,4 +1,7 @@
 //! Single values.
+ghost use Rattle.std.specs.Prelude.{◌≡◌, IfOk};
+ghost use Rattle.serde_json.specs.Data.{string};
+ghost use Rattle.serde_json.specs.View.{view};
 ghost use Rattle.ld_prints.specs.Forms.{flag, text, identifier, href, uri, number_between};
 
 use crate::prints::Prints;
@@ -7,6 +10,13 @@ use ld_base::memory::NoMemory;
 use ld_base::plain_text::PlainText;
 use serde_json::Value;
 use std::alloc::Global;
+
+/// The tree of a text.
+pub fn text_tree(alloc: Global, text: &str) -> Result<Value, NoMemory>
+    ensures { IfOk result (λ tree. view tree ≡ string text.now) }
+{
+    Ok(Value::try_from_str(alloc, text)?)
+}
 
 /// An identifier or a reference.
 pub struct IdTree;
@@ -17,8 +27,7 @@ impl Prints for IdTree {
     ghost printed = { identifier };
 
     fn tree(alloc: Global, value: &Id) -> Result<Value, NoMemory> {
-        let tree = Value::try_from_str(alloc, value.as_str())?;
-        Ok(tree)
+        text_tree(alloc, value.as_str())
     }
 }
 
@@ -31,8 +40,7 @@ impl<const LEAST: usize, const MOST: usize> Prints for TextTree<LEAST, MOST> {
     ghost printed = { text LEAST MOST };
 
     fn tree(alloc: Global, value: &PlainText) -> Result<Value, NoMemory> {
-        let tree = Value::try_from_str(alloc, value.as_str())?;
-        Ok(tree)
+        text_tree(alloc, value.as_str())
     }
 }
 
@@ -48,8 +56,7 @@ impl Prints for HrefTree {
     ghost printed = { href };
 
     fn tree(alloc: Global, value: &PlainText) -> Result<Value, NoMemory> {
-        let tree = Value::try_from_str(alloc, value.as_str())?;
-        Ok(tree)
+        text_tree(alloc, value.as_str())
     }
 }
 
@@ -88,7 +95,6 @@ impl Prints for UriTree {
     ghost printed = { uri };
 
     fn tree(alloc: Global, value: &PlainText) -> Result<Value, NoMemory> {
-        let tree = Value::try_from_str(alloc, value.as_str())?;
-        Ok(tree)
+        text_tree(alloc, value.as_str())
     }
 }
