@@ -4,7 +4,7 @@ use Rattle.ld_base.specs.Maybe.{provided}
 use Rattle.ld_model.specs.declared.property.Property.{Property}
 use Rattle.ld_model.specs.declared.unit.Unit.{Unit}
 use Rattle.ld_lines.specs.declared.command.RunCommand.{RunCommand}
-use Rattle.ld_lines.specs.declared.command.RunCommand.TheVariants.{Enrol, Assign, Drop, Start, Open, Complete, Set, Clear, Get, Tree, Outbox, Report, Tick}
+use Rattle.ld_lines.specs.declared.command.RunCommand.TheVariants.{Enrol, Assign, Drop, Start, Open, Complete, Set, Clear, Get, Tree, Outbox, Report, Tick, Next}
 use Rattle.ld_names.specs.Names.{role_number}
 use Rattle.ld_expr.specs.Lookup.{is_some_and}
 use Rattle.ld_expr.specs.Membership.{is_member_of}
@@ -104,3 +104,4 @@ module _ (unit : Unit) (s : RunState) (moment : ℤ) where
   refused_by_first (Outbox person) = in_running _ _ (after_search (person_number s.persons person) UnknownPerson _ _ λ p has. refl)
   refused_by_first Report = in_running _ _ refl
   refused_by_first Tick = in_running _ _ refl
+  refused_by_first Next = in_running _ _ refl

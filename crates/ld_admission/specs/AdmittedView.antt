@@ -12,7 +12,7 @@ use Rattle.ld_rules.specs.LawWords.{is_property}
 use Rattle.ld_state.specs.RunCells.{all_cells, suits_cell, is_activity}
 use Rattle.ld_state.specs.RunState.{RunState}
 use Rattle.ld_admission.specs.Checks.{admitted, is_started}
-use Rattle.ld_admission.specs.Commands.{Admitted, enrols, assigns, drops, starts, opens, completes, sets, clears, gets, shows_tree, shows_outbox, reports, ticks}
+use Rattle.ld_admission.specs.Commands.{Admitted, enrols, assigns, drops, starts, opens, completes, sets, clears, gets, shows_tree, shows_outbox, reports, ticks, shows_next}
 use Rattle.ld_admission.specs.RefusalView.{RefusesWith, answer_of}
 use Rattle.ld_admission.specs.declared.admitted.Admitted.{Admitted as AdmittedOf}
 use Rattle.ld_admission.specs.declared.admitted.Admitted.TheVariants as given
@@ -35,6 +35,7 @@ admitted_of (given.ShowsTree p) = shows_tree p.0
 admitted_of (given.ShowsOutbox p) = shows_outbox p.0
 admitted_of given.Reports = reports
 admitted_of given.Ticks = ticks
+admitted_of given.ShowsNext = shows_next
 
 -- The run has the cell, and it is one of a property.
 pub record HasPropertyCell (unit : Unit) (s : RunState) (cell : CellName) : Type 0 where
@@ -51,8 +52,8 @@ pub record HasPersonAndActivity (unit : Unit) (s : RunState) (p thing : ℕ) : T
   pub has_person : p < length s.persons
   pub has_activity : is_activity unit thing ≡ true
 
--- All that the command names is there, nothing stands against what it changes of the persons, and a run that is to
--- start is not started.
+-- All that the command names is there, nothing stands against what it changes of the persons, a run that is to
+-- start is not started, and one whose next alarm is asked for is.
 abbrev pub IsPossible : Unit → RunState → Admitted → Type 0
 IsPossible unit s (enrols name) = enrol_fault SEATS s.persons name ≡ None
 IsPossible unit s (assigns p role) =
@@ -68,6 +69,7 @@ IsPossible unit s (shows_tree p) = p < length s.persons
 IsPossible unit s (shows_outbox p) = p < length s.persons
 IsPossible unit s reports = ⊤
 IsPossible unit s ticks = ⊤
+IsPossible unit s shows_next = is_started s ≡ true
 
 -- The program answers the command as its checks do, and what it admits can be done.
 abbrev pub Answers : Unit → RunState → ℤ → RunCommand → Result AdmittedOf RefusalOf → Type 0

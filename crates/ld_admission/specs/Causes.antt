@@ -7,7 +7,7 @@ use Rattle.ld_value.specs.Values.{value_of}
 use Rattle.ld_model.specs.declared.property.Property.{Property}
 use Rattle.ld_model.specs.declared.unit.Unit.{Unit}
 use Rattle.ld_lines.specs.declared.command.RunCommand.{RunCommand}
-use Rattle.ld_lines.specs.declared.command.RunCommand.TheVariants.{Enrol, Assign, Drop, Start, Open, Complete, Set, Clear, Get, Tree, Outbox, Report, Tick}
+use Rattle.ld_lines.specs.declared.command.RunCommand.TheVariants.{Enrol, Assign, Drop, Start, Open, Complete, Set, Clear, Get, Tree, Outbox, Report, Tick, Next}
 use Rattle.ld_names.specs.Names.{role_number}
 use Rattle.ld_expr.specs.Lookup.{is_some_and}
 use Rattle.ld_expr.specs.Membership.{is_member_of}
@@ -123,3 +123,4 @@ causes unit s moment (Outbox person) =
     too_early s moment ∷ not_started s ∷ unless_found (person_number s.persons person) UnknownPerson ∷ []
 causes unit s moment Report = too_early s moment ∷ not_started s ∷ []
 causes unit s moment Tick = too_early s moment ∷ not_started s ∷ []
+causes unit s moment Next = too_early s moment ∷ not_started s ∷ []

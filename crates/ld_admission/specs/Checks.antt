@@ -21,9 +21,9 @@ use Rattle.ld_model.specs.declared.unit.Unit.{Unit}
 use Rattle.ld_roles.specs.Roster.{Shortage, person_number, holds_role, has_no_room, is_excluded, short_at_start, short_once_dropped}
 use Rattle.ld_state.specs.RunState.{RunState, seen_in}
 use Rattle.ld_admission.specs.Found.{FoundActivity, FoundProperty, activity_found, property_found}
-use Rattle.ld_admission.specs.Commands.{Admitted, enrols, assigns, drops, starts, opens, completes, sets, clears, gets, shows_tree, shows_outbox, reports, ticks}
+use Rattle.ld_admission.specs.Commands.{Admitted, enrols, assigns, drops, starts, opens, completes, sets, clears, gets, shows_tree, shows_outbox, reports, ticks, shows_next}
 use Rattle.ld_lines.specs.declared.command.RunCommand.{RunCommand}
-use Rattle.ld_lines.specs.declared.command.RunCommand.TheVariants.{Enrol, Assign, Drop, Start, Open, Complete, Set, Clear, Get, Tree, Outbox, Report, Tick}
+use Rattle.ld_lines.specs.declared.command.RunCommand.TheVariants.{Enrol, Assign, Drop, Start, Open, Complete, Set, Clear, Get, Tree, Outbox, Report, Tick, Next}
 use Rattle.ld_admission.specs.Refusals.{Refusal, MomentBack, NotStarted, StartedAlready, UnknownPerson, PersonExists, RunFull, UnknownRole, HoldsAlready, NotHeld, RoleFull, RoleExclusive, RoleShort, UnknownActivity, NotByChoice, UnknownProperty, BadValue, NotAllowed, ◌unless_refused◌ as ◌>>=◌, ◌>>◌, refuse_if}
 
 -- A check: it passes, or it refuses.
@@ -222,3 +222,7 @@ admitted unit s moment Tick = do
   in_time s moment
   running s
   Ok ticks
+admitted unit s moment Next = do
+  in_time s moment
+  running s
+  Ok shows_next

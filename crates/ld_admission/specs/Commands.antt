@@ -19,3 +19,4 @@ pub data Admitted : Type 0 where
   shows_outbox : ℕ → Admitted
   reports : Admitted
   ticks : Admitted
+  shows_next : Admitted

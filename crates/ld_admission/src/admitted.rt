@@ -21,4 +21,5 @@ pub enum Admitted<'a> {
     ShowsOutbox(PersonNo),
     Reports,
     Ticks,
+    ShowsNext,
 }

@@ -1,7 +1,7 @@
 //! The checks of moments and persons.
 #![tactic(auto, using(crate::proofs::FaultChecks::exists_already, crate::proofs::FaultChecks::may_join, crate::proofs::FaultChecks::no_fault, crate::proofs::FaultChecks::seats_taken))]
 
-ghost use Rattle.std.specs.Prelude.{◌≡◌, ◌+◌, ◌<◌, ◌≤◌, ℕ, length, None, Err, IfOk, IfErr, OnOk, false};
+ghost use Rattle.std.specs.Prelude.{◌≡◌, ◌+◌, ◌<◌, ◌≤◌, ℕ, length, None, Err, IfOk, IfErr, OnOk, false, true};
 ghost use Rattle.ld_roles.specs.Refusals.{enrol_fault};
 ghost use Rattle.ld_firing.specs.RunSystem.{IsSoundRun};
 ghost use Rattle.ld_admission.specs.CheckStages.{Rest, acting, enrolling, in_running};
@@ -67,6 +67,7 @@ impl<'a, 's> Checker<'a, 's> {
     /// Passes where the run has been started.
     fn running<L: Ledger>(&self, steps: &mut Steps<L>) -> Result<(), Refusal<'a>>
         ensures passed { answer_of (λ _. tt) result ≡ running (run_of self.now.state.now) }
+        ensures started { IfOk result (λ _. is_started (run_of self.now.state.now) ≡ true) }
         ensures cost { steps.new ≡ steps.old + 1 }
     {
         if !self.is_started(steps) {
@@ -110,6 +111,7 @@ impl<'a, 's> Checker<'a, 's> {
         ensures refused { IfErr result (λ refusal. (next : Rest)
             → in_running (run_of self.now.state.now) moment.0 next
             ≡ Err (refusal_of refusal)) }
+        ensures started { IfOk result (λ _. is_started (run_of self.now.state.now) ≡ true) }
         ensures cost { steps.new ≤ steps.old + 2 }
     {
         self.in_time(moment, steps)?;

@@ -82,6 +82,7 @@ impl<'a, 's> Checker<'a, 's> {
             RunCommand::Outbox { person } => self.check_outbox(moment, person, steps),
             RunCommand::Report => self.check_report(moment, steps),
             RunCommand::Tick => self.check_tick(moment, steps),
+            RunCommand::Next => self.check_next(moment, steps),
         }
     }
 }

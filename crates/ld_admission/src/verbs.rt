@@ -234,4 +234,18 @@ impl<'a, 's> Checker<'a, 's> {
         self.in_running(moment, steps)?;
         Ok(Admitted::Ticks)
     }
+
+    /// Checks that the next alarm of the run may be told.
+    pub(crate) fn check_next<L: Ledger>(
+        &self,
+        moment: Moment,
+        steps: &mut Steps<L>,
+    ) -> Result<Admitted<'a>, Refusal<'a>>
+        ensures answer { Answers self.now.unit.now (run_of self.now.state.now) moment.0
+            asked.Next result }
+        ensures cost { steps.new ≤ steps.old + 2 }
+    {
+        self.in_running(moment, steps)?;
+        Ok(Admitted::ShowsNext)
+    }
 }

@@ -9,7 +9,7 @@ use Rattle.ld_lines.specs.Words.{Form, ◌followed_by◌ as ◌>>=◌, give, end
 use Rattle.ld_lines.specs.declared.line.Line.{Line}
 use Rattle.ld_lines.specs.declared.line.Line.TheVariants.{Create, OfRun, GlobalSet, GlobalGet}
 use Rattle.ld_lines.specs.declared.command.RunCommand.{RunCommand}
-use Rattle.ld_lines.specs.declared.command.RunCommand.TheVariants.{Enrol, Assign, Drop, Start, Open, Complete, Set, Clear, Get, Tree, Outbox, Report, Tick}
+use Rattle.ld_lines.specs.declared.command.RunCommand.TheVariants.{Enrol, Assign, Drop, Start, Open, Complete, Set, Clear, Get, Tree, Outbox, Report, Tick, Next}
 
 -- The verbs that show something, with the words behind the run's name.
 unfoldable pub showing_command : List ℕ → Form RunCommand
@@ -17,6 +17,7 @@ showing_command verb =
     if verb is "tree" then (do give (Tree (← one_identifier))) else
     if verb is "outbox" then (do give (Outbox (← one_identifier))) else
     if verb is "report" then give Report else
+    if verb is "next" then give Next else
     no_words
 
 -- The verbs of properties, and those.

@@ -58,4 +58,6 @@ pub enum RunCommand {
     Report,
     /// Time passes.
     Tick,
+    /// The first later moment at which time alone changes something is asked for.
+    Next,
 }

@@ -170,6 +170,7 @@ fn read_showing_verb(verb: &str, words: &mut Words<'_>) -> Result<RunCommand, Li
             person: words.identifier()?,
         }),
         "report" => Ok(RunCommand::Report),
+        "next" => Ok(RunCommand::Next),
         _ => Err(LineFault::BadLine),
     }
 }

@@ -93,6 +93,7 @@ fn push_command(told: &mut String, command: &RunCommand) -> Result<(), Fail> {
         RunCommand::Outbox { person } => push_words(told, "outbox", person, None),
         RunCommand::Report => push_verb(told, "report"),
         RunCommand::Tick => push_verb(told, "tick"),
+        RunCommand::Next => push_verb(told, "next"),
     }
 }
 
@@ -129,6 +130,7 @@ fn each_verb(rt: HostRuntime) -> Result<(), Fail> {
         (r#","outbox","r","ann""#, "60 r outbox ann"),
         (r#","report","r""#, "60 r report"),
         (r#","tick","r""#, "60 r tick"),
+        (r#","next","r""#, "60 r next"),
         (
             r#","global-set","urn:g","ann","5""#,
             "60 global-set urn:g ann [5]",

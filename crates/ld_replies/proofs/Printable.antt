@@ -5,7 +5,7 @@ use Rattle.ld_value.specs.Calendar.{IsMoment}
 use Rattle.ld_value.specs.Datum.{Datum, text_datum, truth_datum, number_datum, moment_datum, span_datum}
 use Rattle.ld_value.proofs.Laws.{IsMoment-from}
 use Rattle.ld_lines.specs.declared.command.RunCommand.{RunCommand}
-use Rattle.ld_lines.specs.declared.command.RunCommand.TheVariants.{Enrol, Assign, Drop, Start, Open, Complete, Set, Clear, Get, Tree, Outbox, Report, Tick}
+use Rattle.ld_lines.specs.declared.command.RunCommand.TheVariants.{Enrol, Assign, Drop, Start, Open, Complete, Set, Clear, Get, Tree, Outbox, Report, Tick, Next}
 use Rattle.ld_model.specs.declared.cell.CellName.TheVariants.{Now}
 use Rattle.ld_model.specs.declared.unit.Unit.{Unit}
 use Rattle.ld_expr.specs.Seen.{moment_of_value}
@@ -111,6 +111,7 @@ module _ (unit : Unit) (s : RunState) (formed : is_well_formed unit ≡ true) (d
       and_then _ _ timely (and_then _ _ (refuses _ NotStarted tt) (with_it (the_person s person) _ (finds _ UnknownPerson tt) (λ p. passes _)))
   prints Report = and_then _ _ timely (and_then _ _ (refuses _ NotStarted tt) (passes _))
   prints Tick = and_then _ _ timely (and_then _ _ (refuses _ NotStarted tt) (passes _))
+  prints Next = and_then _ _ timely (and_then _ _ (refuses _ NotStarted tt) (passes _))
 
 -- What a check refuses in a sound run has a text.
 pub refused_printable : (unit : Unit) (s : RunState) (moment : ℤ) (command : RunCommand) (refusal : Refusal)

@@ -1,5 +1,5 @@
 -- What has to be so for what is told to have a text.
-use Rattle.std.specs.Prelude.{◌≤◌, ◌<◌, List, length, IfSome, ⊤}
+use Rattle.std.specs.Prelude.{◌≡◌, ◌≤◌, ◌<◌, List, length, IfSome, Bool, true, false, ⊤}
 use Rattle.std.specs.List.{All}
 use Rattle.std.specs.Option.{ForSome}
 use Rattle.ld_value.specs.Calendar.{IsMoment}
@@ -10,7 +10,8 @@ use Rattle.ld_names.specs.Things.{things_of}
 use Rattle.ld_expr.specs.Seen.{moment_of_value}
 use Rattle.ld_state.specs.RunState.{NoticeState, RunState}
 use Rattle.ld_admission.specs.Refusals.{Refusal, MomentBack, RoleShort}
-use Rattle.ld_admission.specs.Commands.{Admitted, gets, shows_tree, shows_outbox}
+use Rattle.ld_admission.specs.Checks.{is_started}
+use Rattle.ld_admission.specs.Commands.{Admitted, gets, shows_tree, shows_outbox, shows_next}
 use Rattle.ld_admission.specs.AdmittedView.{HasPropertyCell}
 
 -- The moment that the refusal tells lies in the years 1 to 9999, and the identifier has at most 64 bytes.
@@ -37,4 +38,10 @@ abbrev pub IsTellable : Unit → RunState → Admitted → Type 0
 IsTellable unit s (gets cell) = HasPropertyCell unit s cell
 IsTellable unit s (shows_tree p) = p < length s.persons
 IsTellable unit s (shows_outbox p) = p < length s.persons
+IsTellable unit s shows_next = is_started s ≡ true
 IsTellable unit s _ = ⊤
+
+-- The command asks for the next alarm, which is not told from the run's state alone.
+abbrev pub asks_alarm : Admitted → Bool
+asks_alarm shows_next = true
+asks_alarm _ = false

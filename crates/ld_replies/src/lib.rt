@@ -11,6 +11,6 @@ mod role_lines;
 pub mod telling;
 pub mod value_text;
 
-pub use replies::{push_done, push_refusal};
+pub use replies::{push_done, push_next, push_refusal};
 pub use telling::{refuse, say_no_memory, tell_refusal};
 pub use value_text::push_value;

@@ -1,5 +1,5 @@
 //! The replies to the commands of a run.
-ghost use Rattle.std.specs.Prelude.{◌≡◌, ◌+◌, ◌≤◌, ◌++◌, codes, decimal, length, map, IsOk, OnOk};
+ghost use Rattle.std.specs.Prelude.{◌≡◌, ◌+◌, ◌≤◌, ◌++◌, codes, decimal, length, map, option_map, IfSome, IsOk, OnOk, false};
 ghost use Rattle.ld_base.specs.Roomy.{KeepsRoom};
 ghost use Rattle.ld_state.specs.RunState.{seen_in};
 ghost use Rattle.ld_state.specs.StateView.{IsStateOf, run_of};
@@ -9,9 +9,10 @@ ghost use Rattle.ld_tree.specs.Lines.{line_text, spaced};
 ghost use Rattle.ld_tree.specs.Tree.{tree_lines};
 ghost use Rattle.ld_tree.specs.TreeLooks.{tree_looks};
 ghost use Rattle.ld_admission.specs.AdmittedView.{HasPropertyCell, admitted_of};
-ghost use Rattle.ld_replies.specs.Printing.{AreNoticesOf, IsPrintable, IsTellable};
+ghost use Rattle.ld_value.specs.Calendar.{IsMoment};
+ghost use Rattle.ld_replies.specs.Printing.{AreNoticesOf, IsPrintable, IsTellable, asks_alarm};
 ghost use Rattle.ld_admission.specs.RefusalView.{refusal_of};
-ghost use Rattle.ld_replies.specs.Replies.{counted_lines, printed_value, refusal_text, sums_text, told_line, verb_of};
+ghost use Rattle.ld_replies.specs.Replies.{alarm_told, counted_lines, next_line, printed_value, refusal_text, sums_text, told_line, verb_of};
 ghost use Rattle.ld_replies.specs.Reports.{outbox_lines, report_lines};
 ghost use Rattle.ld_replies.specs.ShownSteps.{report_steps, shown_steps};
 
@@ -28,11 +29,12 @@ use ld_model::{CellName, View};
 use ld_rules::PreparedUnit;
 use ld_state::State;
 use ld_tree::tree_text;
+use ld_value::{Moment, print_moment};
 use std::alloc::Global;
 use std::sync::ledger::Ledger;
 
 /// Appends what is told of a command that was done: `ok`, the verb, the turns and the sums of its
-/// settlings, and what it asked for. (docs/COMMANDS.md, "Replies")
+/// settlings, and what it asked for. Of `next`, `push_next` tells. (docs/COMMANDS.md, "Replies")
 ///
 /// # Errors
 /// `NoMemory` leaves what stood in `out`, and behind it maybe a part of what is told.
@@ -49,6 +51,7 @@ pub fn push_done<L: Ledger>(
     requires sound { IsSoundRun unit.now (run_of state.now) }
     requires notices { AreNoticesOf unit.now state.now.outbox }
     requires told { IsTellable unit.now (run_of state.now) (admitted_of command.now) }
+    requires state_alone { asks_alarm (admitted_of command.now) ≡ false }
     ensures text { OnOk result (out.new.bytes ≡ out.old.bytes
         ++ (told_line unit.now (run_of state.now) (admitted_of command.now) totals.turns (sums_in totals))) }
     ensures room { KeepsRoom out.old out.new }
@@ -64,6 +67,21 @@ pub fn push_done<L: Ledger>(
         Admitted::Reports => push_report(alloc, unit, state, out, steps),
         _ => Ok(()),
     }
+}
+
+/// Appends what is told of a `next` that was done, with the alarm that it found.
+///
+/// # Errors
+/// As `push_done`.
+pub fn push_next(totals: Settled, next: Option<Moment>, out: &mut Text) -> Result<(), NoMemory>
+    requires dated { IfSome next (λ moment. IsMoment moment.0) }
+    ensures text { OnOk result (out.new.bytes ≡ out.old.bytes
+        ++ next_line (option_map (λ moment. moment.0) next) totals.turns (sums_in totals)) }
+    ensures room { KeepsRoom out.old out.new }
+{
+    out.push(beginning_of(&Admitted::ShowsNext))?;
+    push_sums(totals, out)?;
+    push_alarm(next, out)
 }
 
 /// Appends what is told of a command that was refused. It takes no memory where there is room for
@@ -103,6 +121,7 @@ fn beginning_of(command: &Admitted<'_>) -> &'static str
         Admitted::ShowsOutbox(_) => "ok outbox",
         Admitted::Reports => "ok report",
         Admitted::Ticks => "ok tick",
+        Admitted::ShowsNext => "ok next",
     }
 }
 
@@ -120,6 +139,22 @@ fn push_sums(totals: Settled, out: &mut Text) -> Result<(), NoMemory>
     push_named(" fired=", totals.fired, out)?;
     push_named(" rejected=", totals.rejected, out)?;
     push_named(" sent=", totals.sent, out)
+}
+
+/// Appends the alarm.
+fn push_alarm(next: Option<Moment>, out: &mut Text) -> Result<(), NoMemory>
+    requires dated { IfSome next (λ moment. IsMoment moment.0) }
+    ensures text { OnOk result (out.new.bytes
+        ≡ out.old.bytes ++ alarm_told (option_map (λ moment. moment.0) next)) }
+    ensures room { KeepsRoom out.old out.new }
+{
+    match next {
+        Some(moment) => {
+            out.push(" at=")?;
+            out.push_ascii(&print_moment(moment))
+        }
+        None => out.push(" at=none"),
+    }
 }
 
 /// Appends a name and a number behind it.

@@ -39,3 +39,6 @@ returns-in-Report-clause-answer g c = rw c.in-Report.is (by_checks _ _ _ _ c.che
 
 pub returns-in-Tick-clause-answer : goal.returns-in-Tick-clause-answer
 returns-in-Tick-clause-answer g c = rw c.in-Tick.is (by_checks _ _ _ _ c.check_tick.result c.check_tick.ensures.answer)
+
+pub returns-in-Next-clause-answer : goal.returns-in-Next-clause-answer
+returns-in-Next-clause-answer g c = rw c.in-Next.is (by_checks _ _ _ _ c.check_next.result c.check_next.ensures.answer)
