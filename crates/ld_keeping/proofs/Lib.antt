@@ -6,3 +6,4 @@ pub mod Turning
 pub mod TurnEnds
 pub mod Mapping
 pub mod Complete
+pub mod Working

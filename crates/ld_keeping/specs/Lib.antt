@@ -5,3 +5,4 @@ pub mod Applying
 pub mod Keeping
 pub mod Turns
 pub mod Endings
+pub mod Working

@@ -1,5 +1,5 @@
 //! One line of the input: it is answered, and kept where it is done.
-ghost use Rattle.std.specs.Prelude.{◌≡◌, ◌≤◌, ◌<◌, ◌+◌, ◌^◌, [], ℕ, List, IfErr, IfSome, OnOk, Err, length};
+ghost use Rattle.std.specs.Prelude.{◌≡◌, ◌≢◌, ◌≤◌, ◌<◌, ◌+◌, ◌^◌, [], ℕ, List, IfErr, IfSome, OnOk, Err, Ok, false, length, true};
 ghost use Rattle.ld_base.specs.Outside.{Rose};
 ghost use Rattle.ld_base.specs.Roomy.{room_of};
 ghost use Rattle.ld_keep.specs.Disk.{IsSettled};
@@ -7,6 +7,9 @@ ghost use Rattle.ld_keep.specs.Journal.{IsAtRest};
 ghost use Rattle.ld_keeping.specs.Journaling.{HasKept, HasKeptBut, size_of_records};
 ghost use Rattle.ld_keeping.specs.Turns.{KeepsLine, LineTurn, TakesTurn};
 ghost use Rattle.ld_lines.specs.Answer.{Answer, HandsOut};
+ghost use Rattle.ld_world.specs.Answers.{line_of};
+ghost use Rattle.ld_world.specs.Counting.{CountsTurn};
+ghost use Rattle.ld_world.specs.LineWork.{TakesLine, line_steps};
 ghost use Rattle.ld_world.specs.WorldView.{world_of};
 
 use ld_base::{Source, Steps, Text};
@@ -49,6 +52,8 @@ pub(crate) fn answer_next<S: Source, D: Disk, L: Ledger>(
         (λ last. HasKeptBut D.model disk.old disk.new [] last)
         (λ n. 2 ^ 40 < journal.old + n)
         (world_of world.old) answer result out.new.bytes done (world_of world.new) }
+    ensures work { CountsTurn lines.old (S.left source.old) world.old steps.old out.new.bytes
+        lines.new (S.left source.new) world.new steps.new (result ≡ Ok true) (result ≡ Ok false) }
     ensures room { 128 ≤ room_of out.new }
     ensures at_rest { OnOk result (IfSome (D.model.bytes disk.new) (IsAtRest journal.new)) }
     ensures settled { OnOk result (IsSettled D.model disk.new) }
@@ -95,6 +100,9 @@ fn answer_line<D: Disk, L: Ledger>(
         (λ last. HasKeptBut D.model disk.old disk.new [] last)
         (λ n. 2 ^ 40 < journal.old + n)
         (world_of world.old) line.now result out.new.bytes done (world_of world.new) }
+    ensures takes { TakesLine world.old (line_of line.now) out.new.bytes world.new }
+    ensures cost { steps.new ≤ steps.old + line_steps world.old (line_of line.now) }
+    ensures line { result ≢ Ok false }
     ensures room { 128 ≤ room_of out.new }
     ensures at_rest { OnOk result (IfSome (D.model.bytes disk.new) (IsAtRest journal.new)) }
     ensures settled { OnOk result (IsSettled D.model disk.new) }

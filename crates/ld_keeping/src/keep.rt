@@ -8,6 +8,8 @@ ghost use Rattle.ld_keep.specs.Kept.{last_gate};
 ghost use Rattle.ld_keeping.specs.Endings.{HasRoomFor, IsComplete, IsEndOfJournal, IsEndOfLines, KeepsAll, KeepsBefore, KeepsCut, KeepsTaken};
 ghost use Rattle.ld_keeping.specs.InJournal.{FromDiffering, FromJournal, after_journal, differing_text, text_of_differing};
 ghost use Rattle.ld_keeping.specs.Journaling.{HasKept, HasKeptBut, LosesNone, size_of_records};
+ghost use Rattle.ld_keeping.specs.Working.{WorkedKeeping};
+ghost use Rattle.ld_world.specs.Counting.{WorkedAll};
 ghost use Rattle.ld_world.specs.World.{WorldState};
 ghost use Rattle.ld_world.specs.WorldView.{world_of};
 
@@ -51,6 +53,8 @@ fn answer_lines<S: Source, K: Sink, D: Disk, L: Ledger>(
     ensures done { result ≡ KeepEnding.Done → KeepsAll (HasKept D.model disk.old disk.new)
         (world_of world.old) (S.left source.old) (K.written sink.old)
         (S.left source.new) (K.written sink.new) }
+    ensures work { result ≡ KeepEnding.Done → WorkedAll world.old (S.left source.old)
+        (K.written sink.old) (K.written sink.new) steps.old steps.new }
     ensures read { result ≡ KeepEnding.ReadFault
         → KeepsTaken (λ n. n < 2 ^ 40) (HasKept D.model disk.old disk.new)
         (world_of world.old) (S.left source.old) (K.written sink.old)
@@ -159,6 +163,9 @@ fn open_and_answer<S: Source, K: Sink, D: Disk, L: Ledger>(
         KeepsAll (λ done. IsSettled D.model disk.old → HasKept D.model disk.old disk.new done)
         after (S.left source.old) (K.written sink.old)
         (S.left source.new) (K.written sink.new)) }
+    ensures work { result ≡ KeepEnding.Done
+        → WorkedKeeping (D.model.bytes disk.old) world.old (S.left source.old)
+        (K.written sink.old) (K.written sink.new) steps.old steps.new }
     ensures read { result ≡ KeepEnding.ReadFault
         → FromJournal (D.model.bytes disk.old) (world_of world.old) (λ after.
         KeepsTaken (λ n. n < 2 ^ 40)
@@ -255,6 +262,9 @@ pub fn keep_lines<S: Source, K: Sink, D: Disk, L: Ledger>(
         KeepsAll (λ done. IsSettled D.model disk.old → HasKept D.model disk.old disk.new done)
         after (S.left source.old) (K.written sink.old)
         (S.left source.new) (K.written sink.new)) }
+    ensures work { result ≡ KeepEnding.Done
+        → WorkedKeeping (D.model.bytes disk.old) world (S.left source.old)
+        (K.written sink.old) (K.written sink.new) steps.old steps.new }
     ensures read { result ≡ KeepEnding.ReadFault
         → FromJournal (D.model.bytes disk.old) (world_of world) (λ after.
         KeepsTaken (λ n. n < 2 ^ 40)

@@ -9,6 +9,7 @@ ghost use Rattle.ld_keep.specs.Opening.{IsAtGate};
 ghost use Rattle.ld_keeping.specs.Applying.{AppliesNext, DiffersAt, IsBeforeLines};
 ghost use Rattle.ld_keeping.specs.InJournal.{after_journal};
 ghost use Rattle.ld_keeping.specs.Journaling.{HasKept, LosesNone};
+ghost use Rattle.ld_keeping.specs.Working.{WorkedJournal, WorksNext};
 ghost use Rattle.ld_world.specs.WorldView.{world_of};
 
 use ld_base::{Steps, Text};
@@ -65,6 +66,8 @@ fn apply_next<D: Disk, L: Ledger>(
     ensures room { 128 ≤ room_of out.new }
     ensures applies { AppliesNext number (D.model.bytes disk.old) opening.old (world_of world.old)
         result out.new.bytes opening.new (world_of world.new) }
+    ensures work { WorksNext (D.model.bytes disk.old) opening.old world.old steps.old
+        result out.new.bytes opening.new world.new steps.new }
     ensures quiet { IsQuiet D.model disk.old disk.new }
     ensures tells { D.model.tells_images disk.new ≡ D.model.tells_images disk.old }
     ensures cause { result ≡ Err OpenStop.DiskFault → Rose (D.faults disk.old) (D.faults disk.new) }
@@ -100,6 +103,8 @@ pub(crate) fn open_journal<D: Disk, L: Ledger>(
     ensures below { IfOk result (λ journal. journal < 2 ^ 40) }
     ensures world { OnOk result (IfSome (D.model.bytes disk.old)
         (λ file. after_journal (world_of world.old) file ≡ Ok (world_of world.new))) }
+    ensures work { OnOk result
+        (WorkedJournal (D.model.bytes disk.old) world.old world.new steps.old steps.new) }
     ensures differs { IfErr result (λ stop. DiffersAt stop (D.model.bytes disk.old)
         (world_of world.old) out.new.bytes) }
     ensures kept { OnOk result (IsSettled D.model disk.old

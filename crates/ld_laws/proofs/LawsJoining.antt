@@ -42,7 +42,7 @@ use Rattle.ld_tree.specs.Lines.{line_text, spaced}
 use Rattle.ld_tree.specs.Tree.{is_open, tree_lines}
 use Rattle.ld_run.specs.Changes.{directly_changed}
 use Rattle.ld_admission.specs.Checks.{admitted, in_time, not_enrolled, has_seat, is_started}
-use Rattle.ld_admission.specs.Commands.{Admitted, enrols, assigns, drops, starts, opens, completes, sets, clears, gets, shows_tree, shows_outbox, reports, ticks}
+use Rattle.ld_admission.specs.Commands.{Admitted, enrols, assigns, drops, starts, opens, completes, sets, clears, gets, shows_tree, shows_outbox, reports, ticks, shows_next}
 use Rattle.ld_replies.specs.Replies.{answer_told, counted_lines, printed_value}
 use Rattle.ld_replies.specs.Reports.{report_of_role, report_of_part, report_of_act, report_of_play, report_lines, done_or_open, progress_word, moment_word, WordLine}
 use Rattle.ld_run.specs.RunStep.{DoneCommand, run_step}
@@ -209,6 +209,7 @@ module _ (unit : Unit) (store : GlobalValues) (s : RunState) (moment : ℤ) (nam
   joining_tells_same (sets _ _) others = refl
   joining_tells_same (clears _) others = refl
   joining_tells_same ticks others = refl
+  joining_tells_same shows_next others = absurd others
 
 -- ---- an enrolment
 

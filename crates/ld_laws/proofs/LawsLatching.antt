@@ -21,7 +21,7 @@ use Rattle.ld_firing.proofs.LawsLatching.{firing_latches}
 use Rattle.ld_firing.proofs.LawsOpenings.{told_apart}
 use Rattle.ld_firing.proofs.SeatsKept.{persons_kept}
 use Rattle.ld_run.specs.Changes.{directly_changed, with_first}
-use Rattle.ld_admission.specs.Commands.{Admitted, enrols, assigns, drops, starts, opens, completes, sets, clears, gets, shows_tree, shows_outbox, reports, ticks}
+use Rattle.ld_admission.specs.Commands.{Admitted, enrols, assigns, drops, starts, opens, completes, sets, clears, gets, shows_tree, shows_outbox, reports, ticks, shows_next}
 use Rattle.ld_run.specs.RunStep.{DoneCommand, run_step}
 use Rattle.ld_run.proofs.Joining.{not_joining}
 use Rattle.ld_run.proofs.LawsKept.{Fits, touches, change_leaves, begun, IsLasting, step_keeps}
@@ -52,6 +52,7 @@ owner_after unit store s moment (shows_tree q) (Person p) has = has
 owner_after unit store s moment (shows_outbox q) (Person p) has = has
 owner_after unit store s moment reports (Person p) has = has
 owner_after unit store s moment ticks (Person p) has = has
+owner_after unit store s moment shows_next (Person p) has = has
 
 -- ---- marks
 
@@ -78,6 +79,7 @@ left_untouched s t (shows_tree p) cell fit left = refl
 left_untouched s t (shows_outbox p) cell fit left = refl
 left_untouched s t reports cell fit left = refl
 left_untouched s t ticks cell fit left = refl
+left_untouched s t shows_next cell fit left = refl
 
 pub mark_left : (s : RunState) (rule : ℕ) (owner : Owner) → HasOwner s owner → IsLeft s (mark_cell rule owner)
 mark_left s rule owner has = record {

@@ -21,7 +21,7 @@ use Rattle.ld_firing.proofs.LawsOpenings.{told_apart, firing_leaves, settling_le
 use Rattle.ld_state.proofs.SameCells.{one_cell}
 use Rattle.ld_firing.proofs.SeatsKept.{persons_kept}
 use Rattle.ld_run.specs.Changes.{directly_changed, with_first}
-use Rattle.ld_admission.specs.Commands.{Admitted, enrols, assigns, drops, starts, opens, completes, sets, clears, gets, shows_tree, shows_outbox, reports, ticks}
+use Rattle.ld_admission.specs.Commands.{Admitted, enrols, assigns, drops, starts, opens, completes, sets, clears, gets, shows_tree, shows_outbox, reports, ticks, shows_next}
 use Rattle.ld_run.specs.RunStep.{DoneCommand, run_step}
 use Rattle.ld_run.proofs.LawsKept.{Fits, touches, change_leaves, begun, IsLasting, step_keeps}
 use Rattle.ld_laws.proofs.LawsLatching.{owner_after}
@@ -47,6 +47,7 @@ start_untouched s t (shows_tree p) value fit was = refl
 start_untouched s t (shows_outbox p) value fit was = refl
 start_untouched s t reports value fit was = refl
 start_untouched s t ticks value fit was = refl
+start_untouched s t shows_next value fit was = refl
 
 start_lasts : (unit : Unit) (value : Datum) → IsLasting unit (λ s. s.cells Started ≡ Some value)
 start_lasts unit value = record {
@@ -100,6 +101,7 @@ opening_stays unit store s t moment (shows_tree p) thing owner value fit was = w
 opening_stays unit store s t moment (shows_outbox p) thing owner value fit was = was.opened
 opening_stays unit store s t moment reports thing owner value fit was = was.opened
 opening_stays unit store s t moment ticks thing owner value fit was = was.opened
+opening_stays unit store s t moment shows_next thing owner value fit was = was.opened
 
 opening_lasts : (unit : Unit) (thing : ℕ) (owner : Owner) (value : Datum) → IsLasting unit (WasOpened thing owner value)
 opening_lasts unit thing owner value = record {

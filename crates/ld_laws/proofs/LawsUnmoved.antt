@@ -18,7 +18,7 @@ use Rattle.ld_firing.proofs.LawsKept.{FiringsKeep, settling_keeps}
 use Rattle.ld_firing.proofs.LawsOpenings.{told_apart, settling_leaves_start}
 use Rattle.ld_run.specs.Changes.{directly_changed, has_change}
 use Rattle.ld_admission.specs.Checks.{admitted, is_started}
-use Rattle.ld_admission.specs.Commands.{Admitted, enrols, assigns, drops, starts, opens, completes, sets, clears, gets, shows_tree, shows_outbox, reports, ticks}
+use Rattle.ld_admission.specs.Commands.{Admitted, enrols, assigns, drops, starts, opens, completes, sets, clears, gets, shows_tree, shows_outbox, reports, ticks, shows_next}
 use Rattle.ld_admission.specs.Refusals.{Refusal}
 use Rattle.ld_run.specs.RunStep.{DoneCommand, done_by, run_step, settled}
 use Rattle.ld_run.proofs.LawsKept.{Fits, fits, touches, change_leaves, begun}
@@ -159,6 +159,7 @@ unstarted_untouched unit store s t moment (shows_tree p) cell fit before still n
 unstarted_untouched unit store s t moment (shows_outbox p) cell fit before still no_property joining = refl
 unstarted_untouched unit store s t moment reports cell fit before still no_property joining = refl
 unstarted_untouched unit store s t moment ticks cell fit before still no_property joining = refl
+unstarted_untouched unit store s t moment shows_next cell fit before still no_property joining = refl
 
 -- A command that leaves the run unstarted leaves each cell as it was but the moment, the values of properties, and
 -- the cells of a person who joins.

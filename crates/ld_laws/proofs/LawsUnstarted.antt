@@ -17,7 +17,7 @@ use Rattle.ld_state.proofs.Elements.{different}
 use Rattle.ld_firing.proofs.LawsOpenings.{told_apart, settling_leaves_start}
 use Rattle.ld_run.specs.Changes.{directly_changed}
 use Rattle.ld_admission.specs.Checks.{is_started}
-use Rattle.ld_admission.specs.Commands.{Admitted, enrols, assigns, drops, starts, opens, completes, sets, clears, gets, shows_tree, shows_outbox, reports, ticks}
+use Rattle.ld_admission.specs.Commands.{Admitted, enrols, assigns, drops, starts, opens, completes, sets, clears, gets, shows_tree, shows_outbox, reports, ticks, shows_next}
 use Rattle.ld_run.specs.Reached.{IsReached}
 use Rattle.ld_laws.specs.Untouched.{IsUntouched}
 use Rattle.ld_run.proofs.LawsKept.{Fits, touches, change_leaves, IsLasting}
@@ -107,6 +107,7 @@ changed_untouched unit store s t moment (shows_tree p) fit starting held still =
 changed_untouched unit store s t moment (shows_outbox p) fit starting held still = held still
 changed_untouched unit store s t moment reports fit starting held still = held still
 changed_untouched unit store s t moment ticks fit starting held still = held still
+changed_untouched unit store s t moment shows_next fit starting held still = held still
 
 untouched_lasts : (unit : Unit) → IsLasting unit UntouchedUntilStarted
 untouched_lasts unit = record {

@@ -4,6 +4,7 @@ pub mod AllSeats
 pub mod AnsweredLines
 pub mod EachLine
 pub mod LawsActs
+pub mod LawsAlarms
 pub mod LawsDone
 pub mod LawsJoining
 pub mod LawsLatching
@@ -17,6 +18,7 @@ pub mod LawsTree
 pub mod LawsUnmoved
 pub mod LawsUnstarted
 pub mod Meetings
+pub mod NamesReached
 pub mod OtherLines
 pub mod OwnLines
 pub mod SameRuns

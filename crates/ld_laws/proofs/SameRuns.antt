@@ -16,7 +16,7 @@ use Rattle.ld_names.specs.Holders.{holder_by_kind, holder_of, is_held_by_run}
 use Rattle.ld_expr.specs.Lookup.{is_some_and}
 use Rattle.ld_expr.specs.Owners.{is_global}
 use Rattle.ld_lines.specs.declared.command.RunCommand.{RunCommand}
-use Rattle.ld_lines.specs.declared.command.RunCommand.TheVariants.{Enrol, Assign, Drop, Start, Open, Complete, Set, Clear, Get, Tree, Outbox, Report, Tick}
+use Rattle.ld_lines.specs.declared.command.RunCommand.TheVariants.{Enrol, Assign, Drop, Start, Open, Complete, Set, Clear, Get, Tree, Outbox, Report, Tick, Next}
 use Rattle.ld_value.specs.declared.moment.Moment.{Moment}
 use Rattle.ld_cascade.specs.Settling.{plus}
 use Rattle.ld_state.specs.GlobalValues.{GlobalValues}
@@ -75,6 +75,7 @@ by_checked unit s moment (Tree person) = refl
 by_checked unit s moment (Outbox person) = refl
 by_checked unit s moment Report = refl
 by_checked unit s moment Tick = refl
+by_checked unit s moment Next = refl
 
 -- ---- what is done
 

@@ -9,7 +9,7 @@ use Rattle.ld_state.specs.RunState.{RunState, with_cell}
 use Rattle.ld_firing.specs.SiteWalk.{HasSeats}
 use Rattle.ld_firing.proofs.LawsKept.{settling_keeps}
 use Rattle.ld_firing.proofs.SeatsKept.{seats_kept}
-use Rattle.ld_admission.specs.Commands.{Admitted, enrols, assigns, drops, starts, opens, completes, sets, clears, gets, shows_tree, shows_outbox, reports, ticks}
+use Rattle.ld_admission.specs.Commands.{Admitted, enrols, assigns, drops, starts, opens, completes, sets, clears, gets, shows_tree, shows_outbox, reports, ticks, shows_next}
 use Rattle.ld_run.specs.Changes.{directly_changed}
 use Rattle.ld_run.specs.Reached.{IsReached, made, left_by}
 use Rattle.ld_run.proofs.LawsKept.{IsLasting, step_keeps}
@@ -36,6 +36,7 @@ changed_seats unit store s moment (shows_tree p) = refl
 changed_seats unit store s moment (shows_outbox p) = refl
 changed_seats unit store s moment reports = refl
 changed_seats unit store s moment ticks = refl
+changed_seats unit store s moment shows_next = refl
 
 abbrev HasMany : ℕ → RunState → Type 0
 HasMany n s = s.seats ≡ n

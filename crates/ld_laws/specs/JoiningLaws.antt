@@ -7,14 +7,16 @@ use Rattle.ld_state.specs.GlobalValues.{GlobalValues}
 use Rattle.ld_state.specs.RunState.{RunState, is_cell_of, joined, seen_in}
 use Rattle.ld_sharing.specs.Globals.{taking_in}
 use Rattle.ld_admission.specs.Checks.{is_started}
-use Rattle.ld_admission.specs.Commands.{Admitted, gets, shows_tree}
+use Rattle.ld_admission.specs.Commands.{Admitted, gets, shows_tree, shows_next}
 use Rattle.ld_replies.specs.Replies.{answer_told}
 use Rattle.ld_run.specs.RunStep.{DoneCommand, at_moment, run_step}
 
--- The command tells of nothing but the run and the persons that it has.
+-- The command tells of nothing but the run and the persons that it has. The next alarm is one of all sites, and a
+-- newcomer has sites, too.
 abbrev pub TellsOfPresent : RunState → Admitted → Type 0
 TellsOfPresent s (gets cell) = is_cell_of (length s.persons) cell ≡ false
 TellsOfPresent s (shows_tree p) = p < length s.persons
+TellsOfPresent s shows_next = ⊥
 TellsOfPresent s _ = ⊤
 
 -- What the run and its persons are told is the same just before a person joins and just after: values, trees,

@@ -1,4 +1,5 @@
 pub mod ActLaws
+pub mod AlarmLaws
 pub mod AllKindsOfLines
 pub mod AllMembers
 pub mod BudgetOfThree

@@ -4,6 +4,7 @@
 #![tactic(auto)]
 
 pub mod acts;
+pub mod alarms;
 pub mod histories;
 pub mod notices;
 pub mod refusals;

@@ -3,14 +3,14 @@ use Rattle.std.proofs.Common.{◌≡◌, refl, sym, ap, ◌∙◌, ℕ, ℤ, ◌
 use Rattle.std.proofs.lemmas.Bool.{false≢true}
 use Rattle.ld_model.specs.declared.unit.Unit.{Unit}
 use Rattle.ld_lines.specs.declared.command.RunCommand.{RunCommand}
-use Rattle.ld_lines.specs.declared.command.RunCommand.TheVariants.{Enrol, Assign, Drop, Start, Open, Complete, Set, Clear, Get, Tree, Outbox, Report, Tick}
+use Rattle.ld_lines.specs.declared.command.RunCommand.TheVariants.{Enrol, Assign, Drop, Start, Open, Complete, Set, Clear, Get, Tree, Outbox, Report, Tick, Next}
 use Rattle.ld_refs.specs.Checks.{IsValid}
 use Rattle.ld_roles.specs.Roster.{Shortage, short_at_start}
 use Rattle.ld_state.specs.GlobalValues.{GlobalValues}
 use Rattle.ld_state.specs.RunState.{RunState}
 use Rattle.ld_firing.specs.RunSettling.{Settlement, run_settling}
 use Rattle.ld_admission.specs.Checks.{admitted, in_time, running, not_running, the_person, not_enrolled, has_seat, the_role, does_not_hold, holds_it, has_room, keeps_apart, none_short, the_activity, only_by_choice, the_property, fitting_value, may_write, is_started, shortage_if_running}
-use Rattle.ld_admission.specs.Commands.{Admitted, opens, completes, enrols, assigns, drops, starts, sets, clears, gets, shows_tree, shows_outbox, reports, ticks}
+use Rattle.ld_admission.specs.Commands.{Admitted, opens, completes, enrols, assigns, drops, starts, sets, clears, gets, shows_tree, shows_outbox, reports, ticks, shows_next}
 use Rattle.ld_admission.specs.Refusals.{Refusal, TurnBudget, ◌unless_refused◌ as ◌>>=◌, ◌>>◌, refuse_if}
 use Rattle.ld_run.specs.Changes.{directly_changed, has_change}
 use Rattle.ld_run.specs.RunStep.{DoneCommand, run_step, settled, settled_after, done_by, open_for_it}
@@ -99,6 +99,7 @@ module _ (unit : Unit) (s : RunState) (moment : ℤ) where
   admitted_keeps (Outbox person) = begun_in_time _ (for_person person _ λ p. refl)
   admitted_keeps Report = begun_in_time _ refl
   admitted_keeps Tick = begun_in_time _ refl
+  admitted_keeps Next = begun_in_time _ refl
 
 open_keeps : (unit : Unit) (s : RunState) (command : Admitted) → keeps (open_for_it unit s command) ≡ true
 open_keeps unit s (opens p thing) = checked _ _ refl
@@ -114,6 +115,7 @@ open_keeps unit s (shows_tree p) = refl
 open_keeps unit s (shows_outbox p) = refl
 open_keeps unit s reports = refl
 open_keeps unit s ticks = refl
+open_keeps unit s shows_next = refl
 
 module _ (unit : Unit) (valid : IsValid unit) (ranks : List ℕ) (ranking : IsRanking unit ranks) (deep : depth_of ranks ≤ unit.turns) where
   settled_keeps : (b : Bool) (s : RunState) → keeps (settled b unit s) ≡ true

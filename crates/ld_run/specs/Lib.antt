@@ -1,4 +1,6 @@
+pub mod AlarmWork
 pub mod Changes
+pub mod CleanBefore
 pub mod CommandWork
 pub mod FittingCommands
 pub mod Linked

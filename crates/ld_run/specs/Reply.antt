@@ -31,3 +31,9 @@ IsRefusedWith refusal (Err given) = refusal_of given ≡ refusal
 abbrev pub reply_of : Result DoneCommand Refusal → Reply
 reply_of (Ok d) = reply.Done (numbers_of d.turns d.sums)
 reply_of (Err refusal) = reply_to_refusal refusal
+
+-- The stamp that a run keeps after the reply: the store's, where the command was done, and else the old one.
+abbrev pub StampAfter : Reply → ℕ → ℕ → ℕ → Type 0
+StampAfter (reply.Done totals) old store new = new ≡ store
+StampAfter (reply.Refused number) old store new = new ≡ old
+StampAfter reply.NoMemory old store new = new ≡ old

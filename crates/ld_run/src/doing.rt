@@ -1,12 +1,16 @@
 //! What an admitted command does to its run.
-ghost use Rattle.std.specs.Prelude.{◌≡◌, Err, IfErr, IfOk, Ok, OnOk, false, true};
+ghost use Rattle.std.specs.Prelude.{◌≡◌, ◌+◌, ◌*◌, ◌≤◌, ◌++◌, ◌&&◌, [], length, Err, IfErr, IfOk, Ok, OnOk, false, true};
+ghost use Rattle.ld_refs.specs.Checks.{IsValid};
+ghost use Rattle.ld_roles.specs.declared.limit.TheConstants.{SEATS};
+ghost use Rattle.ld_state.specs.RunState.{RunState};
 ghost use Rattle.ld_state.specs.StateView.{HasSavedPersons, IsStateOf, run_of};
 ghost use Rattle.ld_firing.specs.RunSystem.{IsSoundRun};
 ghost use Rattle.ld_firing.specs.SettledView.{settlement_of};
 ghost use Rattle.ld_firing.specs.Telling.{Tells};
 ghost use Rattle.ld_settling.specs.RunLinking.{RunLinksFollow};
 ghost use Rattle.ld_value.specs.Calendar.{IsMoment};
-ghost use Rattle.ld_sharing.specs.Current.{IsCurrentAsOf};
+ghost use Rattle.ld_sharing.specs.Changes.{IsGivenBut};
+ghost use Rattle.ld_sharing.specs.Current.{IsCurrentAsOf, written_count};
 ghost use Rattle.ld_sharing.specs.Fitting.{HasFittingGlobals, TakesFitting};
 ghost use Rattle.ld_sharing.specs.Globals.{taking_in};
 ghost use Rattle.ld_sharing.specs.StoreView.{Serves, values_of};
@@ -14,7 +18,9 @@ ghost use Rattle.ld_admission.specs.Checks.{is_started};
 ghost use Rattle.ld_admission.specs.Commands.{Admitted as Command};
 ghost use Rattle.ld_admission.specs.AdmittedView.{IsPossible, admitted_of};
 ghost use Rattle.ld_replies.specs.Printing.{IsPrintable, IsTellable};
-ghost use Rattle.ld_run.specs.Changes.{renews_sites};
+ghost use Rattle.ld_run.specs.Changes.{directly_changed, has_change, renews_sites, written_directly};
+ghost use Rattle.ld_run.specs.CleanBefore.{TellsChanges};
+ghost use Rattle.ld_run.specs.CommandWork.{changing_steps, doing_steps, opening_steps, refreshed, restoring, shared_among, slots_if, steps_if};
 ghost use Rattle.ld_run.specs.Running.{IsRunning, MayBeDone};
 ghost use Rattle.ld_admission.specs.RefusalView.{RefusesWith, refusal_of};
 ghost use Rattle.ld_admission.specs.Refusals.{NotOpen};
@@ -38,7 +44,8 @@ use ld_value::{Moment, Value};
 use std::alloc::Global;
 use std::sync::ledger::Ledger;
 
-/// Does an admitted command, and gives the turns and sums of its settlings.
+/// Does an admitted command, and gives the turns and sums of its settlings. The run has the store's
+/// values then, but in the slots that the scratch has as written.
 pub(crate) fn do_admitted<L: Ledger>(
     alloc: Global,
     unit: &PreparedUnit,
@@ -71,6 +78,17 @@ pub(crate) fn do_admitted<L: Ledger>(
     ensures kept { state.new.kept ≡ state.old.kept }
     ensures follows { renews_sites (admitted_of command.now) ≡ false
         → RunLinksFollow links.old links.new }
+    ensures given { OnOk result
+        (IsGivenBut unit.now (run_of state.new) globals.now scratch.new.written.items) }
+    ensures cost { steps.new + restoring unit.now (run_of state.old) links.new
+        ≤ steps.old + restoring unit.now (run_of state.old) links.old
+        + doing_steps unit.now (run_of state.old) (values_of globals.now)
+        (written_count globals.now stamp) moment.0 (admitted_of command.now) }
+    ensures gives { OnOk result (steps.new + restoring unit.now (run_of state.old) links.new
+        + 2 * shared_among unit.now scratch.new.written.items
+        ≤ steps.old + restoring unit.now (run_of state.old) links.old
+        + doing_steps unit.now (run_of state.old) (values_of globals.now)
+        (written_count globals.now stamp) moment.0 (admitted_of command.now)) }
 {
     let first = match settle_first(
         alloc, unit, state, links, globals, stamp, scratch, moment, steps,
@@ -94,7 +112,8 @@ pub(crate) fn do_admitted<L: Ledger>(
 }
 
 /// Keeps the moment as the run's last one, takes in the store's values that were written since the
-/// stamp, and settles a run that is started. What was possible stays possible.
+/// stamp, and settles a run that is started. What was possible stays possible. Then the run has the
+/// store's values but in the slots that the scratch has as written.
 fn settle_first<L: Ledger>(
     alloc: Global,
     unit: &PreparedUnit,
@@ -124,10 +143,22 @@ fn settle_first<L: Ledger>(
     ensures rows { state.new.rows ≡ state.old.rows }
     ensures kept { state.new.kept ≡ state.old.kept }
     ensures follows { RunLinksFollow links.old links.new }
+    ensures given { OnOk result
+        (IsGivenBut unit.now (run_of state.new) globals.now scratch.new.written.items) }
+    ensures fired { OnOk result (scratch.new.written.items
+        ≡ slots_if (is_started (run_of state.old)) unit.now
+        (refreshed unit.now (values_of globals.now) (run_of state.old) moment.0)) }
+    ensures cost { steps.new + restoring unit.now (run_of state.old) links.new
+        ≤ steps.old + restoring unit.now (run_of state.old) links.old
+        + (3 * written_count globals.now stamp + 1)
+        + steps_if (is_started (run_of state.old)) false unit.now (run_of state.old)
+        (run_of state.old)
+        (refreshed unit.now (values_of globals.now) (run_of state.old) moment.0) }
 {
-    scratch.changed.clear();
-    let refreshed = &mut scratch.changed;
-    if let Err(_) = refresh(alloc, unit, state, globals, stamp, moment, refreshed, steps) {
+    scratch.told.clear();
+    scratch.written.clear();
+    let told = &mut scratch.told;
+    if let Err(_) = refresh(alloc, unit, state, globals, stamp, moment, told, steps) {
         return Err(Refusal::NoMemory);
     }
     let started = is_started(unit, state, steps);
@@ -144,7 +175,7 @@ fn settle_first<L: Ledger>(
 }
 
 /// Makes the command's direct change, and settles the run after it, where there was one and the run
-/// is started.
+/// is started. What the scratch has as written stays there, with what is written now.
 fn settle_changed<L: Ledger>(
     alloc: Global,
     unit: &PreparedUnit,
@@ -161,6 +192,7 @@ fn settle_changed<L: Ledger>(
     requires serves { Serves globals.now unit.now }
     requires may { MayBeDone unit.now (run_of state.old) moment.0 (admitted_of command.now) }
     requires persons { HasSavedPersons state.old }
+    requires given { IsGivenBut unit.now (run_of state.old) globals.now scratch.old.written.items }
     ensures settled { IfOk result (λ totals. settled_after unit.now (values_of globals.now)
         (run_of state.old) moment.0 (admitted_of command.now)
         ≡ Ok (settlement_of totals (run_of state.new))) }
@@ -174,16 +206,58 @@ fn settle_changed<L: Ledger>(
     ensures kept { state.new.kept ≡ state.old.kept }
     ensures follows { renews_sites (admitted_of command.now) ≡ false
         → RunLinksFollow links.old links.new }
+    ensures given { OnOk result
+        (IsGivenBut unit.now (run_of state.new) globals.now scratch.new.written.items) }
+    ensures fired { let now = directly_changed unit.now (values_of globals.now)
+        (run_of state.old) moment.0 (admitted_of command.now) in
+        OnOk result (scratch.new.written.items ≡ (scratch.old.written.items
+        ++ written_directly (admitted_of command.now) scratch.new.told.items)
+        ++ slots_if (has_change (admitted_of command.now) && is_started now) unit.now now) }
+    ensures cost { let now = directly_changed unit.now (values_of globals.now)
+        (run_of state.old) moment.0 (admitted_of command.now) in
+        (begun : RunState) → begun.seats ≡ SEATS
+        → steps.new + restoring unit.now begun links.new
+        ≤ steps.old + restoring unit.now begun links.old
+        + (changing_steps unit.now (admitted_of command.now) + 1)
+        + steps_if (has_change (admitted_of command.now) && is_started now)
+        (renews_sites (admitted_of command.now)) unit.now begun (run_of state.old) now }
+    ensures gives { let now = directly_changed unit.now (values_of globals.now)
+        (run_of state.old) moment.0 (admitted_of command.now) in
+        (begun : RunState) → begun.seats ≡ SEATS
+        → OnOk result (steps.new + restoring unit.now begun links.new
+        + 2 * length (written_directly (admitted_of command.now) scratch.new.told.items)
+        ≤ steps.old + restoring unit.now begun links.old
+        + (changing_steps unit.now (admitted_of command.now) + 1)
+        + steps_if (has_change (admitted_of command.now) && is_started now)
+        (renews_sites (admitted_of command.now)) unit.now begun (run_of state.old) now) }
 {
     let before = state.persons();
-    scratch.changed.clear();
-    let changed = &mut scratch.changed;
-    if let Err(_) = change_directly(alloc, unit, state, globals, moment, command, changed, steps) {
+    scratch.told.clear();
+    let told = &mut scratch.told;
+    if let Err(_) = change_directly(alloc, unit, state, globals, moment, command, told, steps) {
+        return Err(Refusal::NoMemory);
+    }
+    if let Err(_) = add_written(command, &scratch.told, &mut scratch.written) {
         return Err(Refusal::NoMemory);
     }
     let settles = settles_after(unit, state, command, steps);
     let how = how_to_relink(command, before);
     settle_if(alloc, settles, how, unit, state, links, scratch, steps)
+}
+
+/// Adds the slots that the command changed directly, where it writes a property: any other leaves
+/// the values that the store may have.
+fn add_written(command: &Admitted<'_>, told: &[u32], written: &mut Vec<u32>) -> Result<(), NoMemory>
+    ensures { OnOk result (written.new.items
+        ≡ written.old.items ++ written_directly (admitted_of command.now) told.now) }
+{
+    match command {
+        Admitted::Sets(_, _) | Admitted::Clears(_) => {
+            written.extend_from_slice(told)?;
+            Ok(())
+        }
+        _ => Ok(()),
+    }
 }
 
 /// Keeps the moment as the run's last one, and takes in the store's values that were written since
@@ -213,6 +287,9 @@ fn refresh<L: Ledger>(
     ensures kept { state.new.kept ≡ state.old.kept }
     ensures told { OnOk result (Tells unit.now (run_of state.old) (run_of state.new)
         changed.old.items changed.new.items) }
+    ensures only { OnOk result (changed.old.items ≡ []
+        → TellsChanges unit.now (run_of state.old) (run_of state.new) changed.new.items) }
+    ensures cost { steps.new ≤ steps.old + 3 * written_count globals.now stamp }
 {
     set_moment(unit, state, moment, changed)?;
     take_in(alloc, unit, state, globals, stamp, changed, steps)
@@ -235,6 +312,8 @@ fn set_moment(
     ensures kept { state.new.kept ≡ state.old.kept }
     ensures told { OnOk result (Tells unit.now (run_of state.old) (run_of state.new)
         changed.old.items changed.new.items) }
+    ensures only { OnOk result (changed.old.items ≡ []
+        → TellsChanges unit.now (run_of state.old) (run_of state.new) changed.new.items) }
 {
     state.set(CellName::Now, Some(Value::Moment(moment)), changed)
 }
@@ -247,11 +326,13 @@ fn is_open_for<L: Ledger>(
     steps: &mut Steps<L>,
 ) -> bool
     requires own { IsStateOf unit.now state.now }
+    requires valid { IsValid unit.now }
     requires possible { IsPossible unit.now (run_of state.now) (admitted_of command.now) }
     ensures open { result ≡ true
         → open_for_it unit.now (run_of state.now) (admitted_of command.now) ≡ Ok tt }
     ensures closed { result ≡ false
         → open_for_it unit.now (run_of state.now) (admitted_of command.now) ≡ Err NotOpen }
+    ensures cost { steps.new ≤ steps.old + opening_steps unit.now (admitted_of command.now) }
 {
     match command {
         Admitted::Opens(person, thing) | Admitted::Completes(person, thing) => {

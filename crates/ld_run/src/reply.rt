@@ -1,6 +1,7 @@
 //! What is answered to a command, as a value.
 ghost use Rattle.std.specs.Prelude.{◌≡◌};
 ghost use Rattle.ld_admission.specs.RefusalView.{refusal_of};
+ghost use Rattle.ld_cascade.specs.declared.settled.Settled.{Settled as SettledAs};
 ghost use Rattle.ld_run.specs.Reply.{done_alone, reply_to_refusal};
 
 use ld_admission::Refusal;
@@ -33,7 +34,8 @@ impl Reply {
 
     /// The reply where this refuses the line.
     pub fn refused(refusal: Refusal<'_>) -> Reply
-        ensures { result ≡ reply_to_refusal (refusal_of refusal.entry) }
+        ensures value { result ≡ reply_to_refusal (refusal_of refusal.entry) }
+        ensures not_done { (totals : SettledAs) → result ≡ Reply.Done totals → ⊥ }
     {
         match refusal {
             Refusal::NoMemory => Reply::NoMemory,

@@ -1,5 +1,5 @@
 //! A run of a unit.
-ghost use Rattle.std.specs.Prelude.{◌≡◌, ◌≤◌, Err, IfOk, None, false};
+ghost use Rattle.std.specs.Prelude.{◌≡◌, ◌+◌, ◌≤◌, Err, IfOk, None, false};
 ghost use Rattle.ld_base.specs.Roomy.{room_of};
 ghost use Rattle.ld_globals.specs.Store.{KeepsWrites};
 ghost use Rattle.ld_roles.specs.declared.limit.TheConstants.{SEATS};
@@ -7,11 +7,12 @@ ghost use Rattle.ld_state.specs.RunState.{made_at};
 ghost use Rattle.ld_state.specs.StateView.{IsStateOf, run_of};
 ghost use Rattle.ld_value.specs.Calendar.{IsMoment};
 ghost use Rattle.ld_sharing.specs.Current.{IsCurrentAsOf};
-ghost use Rattle.ld_sharing.specs.StoreView.{Serves, values_of};
+ghost use Rattle.ld_sharing.specs.StoreView.{Serves, shared_count, values_of};
 ghost use Rattle.ld_admission.specs.AdmittedView.{wants_memory};
 ghost use Rattle.ld_admission.specs.Checks.{admitted};
 ghost use Rattle.ld_admission.specs.Refusals.{Refusal};
-ghost use Rattle.ld_run.specs.Reply.{reply_to_refusal};
+ghost use Rattle.ld_run.specs.CommandWork.{command_steps};
+ghost use Rattle.ld_run.specs.Reply.{StampAfter, reply_to_refusal};
 ghost use Rattle.ld_run.specs.Linked.{HasLinks as AreLinked};
 ghost use Rattle.ld_run.specs.Reached.{IsReached};
 ghost use Rattle.ld_run.specs.Running.{IsInOrder};
@@ -105,6 +106,8 @@ impl Run {
         ensures linked { IfOk result (λ run. AreLinked run.unit (run_of run.state) run.links) }
         ensures current { IfOk result (λ run.
             IsCurrentAsOf run.unit (run_of run.state) run.stamp globals.now) }
+        ensures stamp { IfOk result (λ run. run.stamp ≡ globals.now.stamp) }
+        ensures cost { steps.new ≤ steps.old + shared_count unit.value false }
     {
         let links = RunLinks::new(alloc);
         let state = begin(alloc, &unit, globals, moment, steps)?;
@@ -125,6 +128,9 @@ impl Run {
     /// Where memory runs out the reply says so, and the command counts as not given. What a check
     /// refuses is answered by that refusal, with or without memory; the value of a `set` alone may
     /// want some before.
+    ///
+    /// The steps are within `command_steps`, whatever it answers. A `start` judges every site of the
+    /// run; any other command those that read what changed, and those of a person who joins.
     pub fn apply<L: Ledger>(
         &mut self,
         alloc: Global,
@@ -155,6 +161,9 @@ impl Run {
         ensures linked { AreLinked self.new.unit (run_of self.new.state) self.new.links }
         ensures room { 128 ≤ room_of out.new }
         ensures own { self.new.state.spare ≡ self.old.state.spare }
+        ensures stamp { StampAfter result self.old.stamp globals.new.stamp self.new.stamp }
+        ensures cost { steps.new
+            ≤ steps.old + command_steps self.old globals.old moment.0 command.now }
     {
         self.exchange(&mut lent.undo_log);
         let scratch = &mut lent.scratch;
@@ -204,6 +213,9 @@ impl Run {
         ensures reached { IsReached self.new.unit (run_of self.new.state) }
         ensures linked { AreLinked self.new.unit (run_of self.new.state) self.new.links }
         ensures room { 128 ≤ room_of out.new }
+        ensures stamp { StampAfter result self.old.stamp globals.new.stamp self.new.stamp }
+        ensures cost { steps.new
+            ≤ steps.old + command_steps self.old globals.old moment.0 command.now }
     {
         let refusal = match step(
             alloc,
@@ -244,6 +256,7 @@ fn begin<L: Ledger>(
     ensures no_savepoint { IfOk result (λ state. state.kept ≡ None) }
     ensures state { IfOk result (λ state. run_of state
         ≡ made_at SEATS unit.now (values_of globals.now) moment.0) }
+    ensures cost { steps.new ≤ steps.old + shared_count unit.now false }
 {
     // The unit is valid, as the call of `unit` says.
     let _unit = unit.unit();

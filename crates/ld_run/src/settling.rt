@@ -1,15 +1,16 @@
 //! The settlings of a command.
-ghost use Rattle.std.specs.Prelude.{◌≡◌, ◌+◌, ◌≤◌, ◌&&◌, ◌==◌, ℕ, not, IfErr, IfOk, Ok, OnOk, false, true};
+ghost use Rattle.std.specs.Prelude.{◌≡◌, ◌+◌, ◌++◌, ◌≤◌, ◌&&◌, ℕ, IfErr, IfOk, Ok, OnOk, false, true};
 ghost use Rattle.ld_graph.specs.Table.{has};
 ghost use Rattle.ld_state.specs.StateView.{IsStateOf, run_of};
-ghost use Rattle.ld_firing.specs.RunSystem.{IsSoundRun, run_system};
+ghost use Rattle.ld_firing.specs.RunSystem.{IsSoundRun};
 ghost use Rattle.ld_roles.specs.declared.limit.TheConstants.{SEATS};
 ghost use Rattle.ld_state.specs.RunState.{RunState};
-ghost use Rattle.ld_cascade.specs.SettlingWork.{relinked_weight};
-ghost use Rattle.ld_run.specs.CommandWork.{MayCount, judged_first, steps_settling};
+ghost use Rattle.ld_run.specs.CleanBefore.{MayCount};
+ghost use Rattle.ld_run.specs.CommandWork.{judged_first, restoring, slots_if, steps_if};
 ghost use Rattle.ld_firing.specs.SettledView.{settlement_of, sums_in};
 ghost use Rattle.ld_cascade.specs.Settling.{plus};
 ghost use Rattle.ld_settling.specs.RunLinking.{AreCleanLinks, AreLinksOf, RunLinksFollow, RunWiring};
+ghost use Rattle.ld_settling.specs.SettlingTold.{TellsSlots};
 ghost use Rattle.ld_admission.specs.AdmittedView.{admitted_of};
 ghost use Rattle.ld_admission.specs.Checks.{is_started};
 ghost use Rattle.ld_run.specs.Changes.{has_change};
@@ -41,7 +42,8 @@ pub(crate) enum Relinking {
 }
 
 /// Settles the run, where it is to. Its links are told what changed before, which the scratch
-/// has, or all of its sites are renewed.
+/// has, or all of its sites are renewed. What changes now is added to what the scratch has as
+/// written.
 pub(crate) fn settle_if<L: Ledger>(
     alloc: Global,
     settles: bool,
@@ -56,7 +58,7 @@ pub(crate) fn settle_if<L: Ledger>(
     requires order { IsInOrder unit.now (run_of state.old) }
     requires started { settles ≡ true → is_started (run_of state.old) ≡ true }
     requires told { settles ≡ true
-        → MayRelink how unit.now (run_of state.old) scratch.old.changed.items links.old }
+        → MayRelink how unit.now (run_of state.old) scratch.old.told.items links.old }
     requires linked { settles ≡ false → HasLinks unit.now (run_of state.old) links.old }
     ensures settled { IfOk result (λ totals. settled settles unit.now (run_of state.old)
         ≡ Ok (settlement_of totals (run_of state.new))) }
@@ -67,20 +69,25 @@ pub(crate) fn settle_if<L: Ledger>(
     ensures rows { state.new.rows ≡ state.old.rows }
     ensures kept { state.new.kept ≡ state.old.kept }
     ensures follows { relinks_all how ≡ false → RunLinksFollow links.old links.new }
-    ensures idle { settles ≡ false → steps.new ≡ steps.old }
+    ensures written { OnOk result (TellsSlots unit.now (run_of state.old) (run_of state.new)
+        scratch.old.written.items scratch.new.written.items) }
+    ensures fired { OnOk result (scratch.new.written.items ≡ scratch.old.written.items
+        ++ slots_if settles unit.now (run_of state.old)) }
+    ensures told { scratch.new.told.items ≡ scratch.old.told.items }
     ensures cost { (begun before : RunState) → begun.seats ≡ SEATS
-        → MayCount how unit.now before links.old
-        → steps.new + relinked_weight (run_system unit.now) begun links.new.wiring.relinked
-        ≤ steps.old + relinked_weight (run_system unit.now) begun links.old.wiring.relinked
-        + steps_settling how unit.now begun before (run_of state.old) scratch.old.changed.items }
+        → (settles ≡ true → MayCount how unit.now before (run_of state.old)
+        scratch.old.told.items links.old)
+        → steps.new + restoring unit.now begun links.new
+        ≤ steps.old + restoring unit.now begun links.old
+        + steps_if settles (relinks_all how) unit.now begun before (run_of state.old) }
 {
     if !settles {
         return Ok(NO_SETTLING);
     }
-    if let Err(_) = relink(how, unit, state, links, &scratch.changed) {
+    if let Err(_) = relink(how, unit, state, links, &scratch.told) {
         return Err(Refusal::NoMemory);
     }
-    match settle(alloc, unit, state, links, steps) {
+    match settle(alloc, unit, state, links, &mut scratch.written, steps) {
         Ok(totals) => Ok(totals),
         Err(stop) => Err(refusal_of_stop(stop)),
     }
@@ -112,9 +119,10 @@ fn relink(
     requires told { MayRelink how unit.now (run_of state.now) changed.now links.old }
     ensures linked { OnOk result (AreLinksOf unit.now (run_of state.now) links.new) }
     ensures follows { relinks_all how ≡ false → RunLinksFollow links.old links.new }
-    ensures dirties { (before : RunState) → MayCount how unit.now before links.old → (i : ℕ)
+    ensures dirties { (before : RunState)
+        → MayCount how unit.now before (run_of state.now) changed.now links.old → (i : ℕ)
         → has links.new.wiring.dirty i ≡ true
-        → judged_first how unit.now before changed.now i ≡ true }
+        → judged_first (relinks_all how) unit.now before (run_of state.now) i ≡ true }
     ensures relinked { (i : ℕ) → has links.new.wiring.relinked i ≡ true
         → has links.old.wiring.relinked i ≡ true }
 {
@@ -146,8 +154,7 @@ pub(crate) fn take_back<L: Ledger>(
     ensures own { IsStateOf unit.now state.new }
     ensures kept { state.new.kept ≡ state.old.kept }
     ensures linked { HasLinks unit.now (run_of state.new) links.new }
-    ensures cost { steps.new ≤ steps.old + 1
-        + relinked_weight (run_system unit.now) (run_of state.old) links.old.wiring.relinked }
+    ensures cost { steps.new ≤ steps.old + 1 + restoring unit.now (run_of state.old) links.old }
 {
     if is_started(unit, state, steps) {
         restore(alloc, unit, state, links, steps);
@@ -172,20 +179,13 @@ pub(crate) fn settles_after<L: Ledger>(
     steps: &mut Steps<L>,
 ) -> bool
     requires { IsStateOf unit.now state.now }
-    ensures { result ≡ has_change (admitted_of command.now) && is_started (run_of state.now) }
+    ensures value { result ≡ has_change (admitted_of command.now) && is_started (run_of state.now) }
+    ensures cost { steps.new ≤ steps.old + 1 }
 {
     if !has_change(command) {
         return false;
     }
     is_started(unit, state, steps)
-}
-
-/// Whether the command left the run as it was when it had taken in the moment and the store's
-/// values: it changes nothing, and no rule fired.
-pub(crate) fn leaves_unmoved(command: &Admitted<'_>, totals: Settled) -> bool
-    ensures { result ≡ not (has_change (admitted_of command.now)) && (totals.turns == 0) }
-{
-    !has_change(command) && totals.turns == 0
 }
 
 /// Whether the command changes the run directly, and not by what it sets off alone.
@@ -197,7 +197,8 @@ fn has_change(command: &Admitted<'_>) -> bool
         | Admitted::ShowsTree(_)
         | Admitted::ShowsOutbox(_)
         | Admitted::Reports
-        | Admitted::Ticks => false,
+        | Admitted::Ticks
+        | Admitted::ShowsNext => false,
         _ => true,
     }
 }

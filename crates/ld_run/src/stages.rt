@@ -1,18 +1,19 @@
 //! What a command does to its run and to the store, in stages.
-ghost use Rattle.std.specs.Prelude.{◌≡◌, ◌++◌, ◌∷◌, [], false, Err, IfErr, IfOk, None, Ok, OnErr, OnOk};
+ghost use Rattle.std.specs.Prelude.{◌≡◌, ◌+◌, ◌≤◌, ◌++◌, ◌∷◌, [], false, Err, IfErr, IfOk, None, Ok, OnErr, OnOk};
 ghost use Rattle.ld_base.specs.Roomy.{KeepsRoom};
 ghost use Rattle.ld_globals.specs.Store.{KeepsWrites};
 ghost use Rattle.ld_state.specs.GlobalValues.{GlobalValues};
 ghost use Rattle.ld_state.specs.StateView.{HasSavedPersons, IsStateOf, run_of};
 ghost use Rattle.ld_settling.specs.RunLinking.{RunLinksFollow};
 ghost use Rattle.ld_value.specs.Calendar.{IsMoment};
-ghost use Rattle.ld_sharing.specs.Current.{IsCurrentAsOf};
+ghost use Rattle.ld_sharing.specs.Current.{IsCurrentAsOf, written_count};
 ghost use Rattle.ld_sharing.specs.Globals.{giving_back};
 ghost use Rattle.ld_sharing.specs.StoreView.{Serves, values_of};
 ghost use Rattle.ld_sharing.specs.Writes.{AreWritesOf};
 ghost use Rattle.ld_admission.specs.AdmittedView.{admitted_of, wants_memory};
-ghost use Rattle.ld_replies.specs.Printing.{IsPrintable, IsTellable};
+ghost use Rattle.ld_replies.specs.Printing.{IsPrintable, IsTellable, asks_alarm};
 ghost use Rattle.ld_run.specs.Changes.{renews_sites};
+ghost use Rattle.ld_run.specs.CommandWork.{admitted_steps, command_steps_of, doing_steps, restoring, showing_steps, telling_steps};
 ghost use Rattle.ld_admission.specs.RefusalView.{RefusesWith, refusal_of};
 ghost use Rattle.ld_admission.specs.Checks.{admitted};
 ghost use Rattle.ld_admission.specs.Refusals.{Refusal as Reason};
@@ -22,9 +23,10 @@ ghost use Rattle.ld_run.specs.Running.{IsInOrder, IsRunning, MayBeDone};
 ghost use Rattle.ld_run.specs.RunStep.{DoneCommand, done_by, run_step};
 ghost use Rattle.ld_run.specs.StageView.{done_with};
 
+use crate::alarm::tell_next;
 use crate::command_room::Scratch;
 use crate::doing::do_admitted;
-use crate::settling::{leaves_unmoved, take_back};
+use crate::settling::take_back;
 use ld_admission::{Admitted, Refusal, admit};
 use ld_base::{NoMemory, Steps, Text};
 use ld_cascade::Settled;
@@ -81,6 +83,8 @@ pub(crate) fn step<'a, L: Ledger>(
     ensures printable { IfErr result (λ refusal. IsPrintable (refusal_of refusal)) }
     ensures no_savepoint { state.new.kept ≡ None }
     ensures room { KeepsRoom out.old out.new }
+    ensures cost { steps.new ≤ steps.old + command_steps_of unit.now (run_of state.old)
+        (values_of globals.old) (written_count globals.old stamp) moment.0 command.now }
 {
     match admit(alloc, unit, state, moment, command, steps) {
         Ok(admitted) => try_admitted(
@@ -129,6 +133,9 @@ fn try_admitted<'a, L: Ledger>(
     ensures printable { IfErr result (λ refusal. IsPrintable (refusal_of refusal)) }
     ensures no_savepoint { state.new.kept ≡ None }
     ensures room { KeepsRoom out.old out.new }
+    ensures cost { steps.new ≤ steps.old + admitted_steps unit.now (run_of state.old)
+        (values_of globals.old) (written_count globals.old stamp) moment.0
+        (admitted_of command.now) }
 {
     state.mark();
     links.begin();
@@ -189,6 +196,12 @@ fn do_and_tell<'u, L: Ledger>(
     ensures room { KeepsRoom out.old out.new }
     ensures follows { renews_sites (admitted_of command.now) ≡ false
         → RunLinksFollow links.old links.new }
+    ensures cost { steps.new + restoring unit.now (run_of state.old) links.new
+        ≤ steps.old + restoring unit.now (run_of state.old) links.old
+        + doing_steps unit.now (run_of state.old) (values_of globals.old)
+        (written_count globals.old stamp) moment.0 (admitted_of command.now)
+        + telling_steps unit.now (done_by unit.now (run_of state.old) (values_of globals.old)
+        moment.0 (admitted_of command.now)) }
 {
     let totals = match do_admitted(
         alloc, unit, state, links, globals, stamp, scratch, moment, command, steps,
@@ -196,14 +209,10 @@ fn do_and_tell<'u, L: Ledger>(
         Ok(totals) => totals,
         Err(refusal) => return Err(refusal),
     };
-    if let Err(_) = tell(alloc, unit, state, command, totals, out, steps) {
+    if let Err(_) = tell(alloc, unit, state, links, command, totals, out, steps) {
         return Err(Refusal::NoMemory);
     }
-    if leaves_unmoved(command, totals) {
-        // The store has the values of a run that is as it was when it had taken them in.
-        return Ok((totals, Vec::new(alloc)));
-    }
-    match prepare(alloc, unit, state, globals, steps) {
+    match prepare(alloc, unit, state, globals, &scratch.written, steps) {
         Ok(writes) => Ok((totals, writes)),
         Err(_) => Err(Refusal::NoMemory),
     }
@@ -211,6 +220,32 @@ fn do_and_tell<'u, L: Ledger>(
 
 /// Empties the text and tells a command that was done.
 fn tell<L: Ledger>(
+    alloc: Global,
+    unit: &PreparedUnit,
+    state: &State,
+    links: &RunLinks,
+    command: &Admitted<'_>,
+    totals: Settled,
+    out: &mut Text,
+    steps: &mut Steps<L>,
+) -> Result<(), NoMemory>
+    requires own { IsStateOf unit.now state.now }
+    requires running { IsRunning unit.now (run_of state.now) links.now }
+    requires told { IsTellable unit.now (run_of state.now) (admitted_of command.now) }
+    ensures text { (store : GlobalValues) → OnOk result (out.new.bytes ≡ done_text unit.now
+        (done_with unit.now store (admitted_of command.now) totals (run_of state.now)) ++ 10 ∷ []) }
+    ensures room { KeepsRoom out.old out.new }
+    ensures cost { steps.new ≤ steps.old
+        + showing_steps unit.now (run_of state.now) (admitted_of command.now) }
+{
+    match command {
+        Admitted::ShowsNext => tell_next(alloc, unit, state, links, totals, out, steps),
+        _ => tell_done(alloc, unit, state, command, totals, out, steps),
+    }
+}
+
+/// The same of a command that is no `next`.
+fn tell_done<L: Ledger>(
     alloc: Global,
     unit: &PreparedUnit,
     state: &State,
@@ -222,9 +257,12 @@ fn tell<L: Ledger>(
     requires own { IsStateOf unit.now state.now }
     requires order { IsInOrder unit.now (run_of state.now) }
     requires told { IsTellable unit.now (run_of state.now) (admitted_of command.now) }
+    requires state_alone { asks_alarm (admitted_of command.now) ≡ false }
     ensures text { (store : GlobalValues) → OnOk result (out.new.bytes ≡ done_text unit.now
         (done_with unit.now store (admitted_of command.now) totals (run_of state.now)) ++ 10 ∷ []) }
     ensures room { KeepsRoom out.old out.new }
+    ensures cost { steps.new ≤ steps.old
+        + showing_steps unit.now (run_of state.now) (admitted_of command.now) }
 {
     out.clear();
     push_done(alloc, unit, state, command, totals, out, steps)?;

@@ -9,7 +9,7 @@ use Rattle.ld_value.specs.Datum.{moment_datum}
 use Rattle.ld_model.specs.declared.cell.CellName.TheVariants.{Now}
 use Rattle.ld_model.specs.declared.unit.Unit.{Unit}
 use Rattle.ld_lines.specs.declared.command.RunCommand.{RunCommand}
-use Rattle.ld_lines.specs.declared.command.RunCommand.TheVariants.{Enrol, Assign, Drop, Start, Open, Complete, Set, Clear, Get, Tree, Outbox, Report, Tick}
+use Rattle.ld_lines.specs.declared.command.RunCommand.TheVariants.{Enrol, Assign, Drop, Start, Open, Complete, Set, Clear, Get, Tree, Outbox, Report, Tick, Next}
 use Rattle.ld_lines.specs.declared.line.Line.{Line}
 use Rattle.ld_lines.specs.declared.line.Line.TheVariants.{Create, OfRun, GlobalSet, GlobalGet}
 use Rattle.ld_roles.specs.Roster.{Shortage, short_at_start}
@@ -20,7 +20,7 @@ use Rattle.ld_firing.specs.RunSettling.{Settlement, run_settling}
 use Rattle.ld_firing.proofs.LawsOpenings.{settling_leaves, told_apart}
 use Rattle.ld_run.specs.Changes.{directly_changed, has_change}
 use Rattle.ld_admission.specs.Checks.{admitted, in_time, running, last_moment, is_started, none_short, shortage_if_running, fitting_value, may_write, the_person, the_role, the_activity, the_property, does_not_hold, holds_it, has_room, keeps_apart, only_by_choice, not_enrolled, has_seat, not_running}
-use Rattle.ld_admission.specs.Commands.{Admitted, enrols, assigns, drops, starts, opens, completes, sets, clears, gets, shows_tree, shows_outbox, reports, ticks}
+use Rattle.ld_admission.specs.Commands.{Admitted, enrols, assigns, drops, starts, opens, completes, sets, clears, gets, shows_tree, shows_outbox, reports, ticks, shows_next}
 use Rattle.ld_admission.specs.Refusals.{Refusal, BadLine, UnknownUnit, RunExists, UnknownRun, MomentBack, NotStarted, StartedAlready, UnknownPerson, PersonExists, RunFull, UnknownRole, HoldsAlready, NotHeld, RoleFull, RoleExclusive, RoleShort, UnknownActivity, NotByChoice, UnknownProperty, UnknownGlobal, BadValue, NotAllowed, TurnBudget, NotOpen, NoMemory, ◌unless_refused◌ as ◌>>=◌, ◌>>◌, refuse_if}
 use Rattle.ld_replies.specs.Replies.{refusal_text}
 use Rattle.ld_run.specs.RunStep.{DoneCommand, run_step, settled, open_for_it}
@@ -63,6 +63,7 @@ admitted_later unit s moment (Tree person) = in_time_first s moment _
 admitted_later unit s moment (Outbox person) = in_time_first s moment _
 admitted_later unit s moment Report = in_time_first s moment _
 admitted_later unit s moment Tick = in_time_first s moment _
+admitted_later unit s moment Next = in_time_first s moment _
 
 -- The last moment of the run is this one.
 abbrev IsAt : ℤ → RunState → Type 0
@@ -82,6 +83,7 @@ now_untouched s t (shows_tree p) fit = refl
 now_untouched s t (shows_outbox p) fit = refl
 now_untouched s t reports fit = refl
 now_untouched s t ticks fit = refl
+now_untouched s t shows_next fit = refl
 
 settled_at : (unit : Unit) (moment : ℤ) (b : Bool) (t : RunState) → IsAt moment t → Each (λ (x : Settlement). IsAt moment x.state) (settled b unit t)
 settled_at unit moment false t at = at
@@ -179,6 +181,7 @@ module _ (unit : Unit) (s : RunState) (moment : ℤ) where
   admitted_by_line (Outbox person) = started _ (and_with (the_person s person) _ (stops_without _ _ refl) λ p. tt)
   admitted_by_line Report = started _ tt
   admitted_by_line Tick = started _ tt
+  admitted_by_line Next = started _ tt
 
 settled_by_line : (b : Bool) (unit : Unit) (s : RunState) → IsOfLine (settled b unit s)
 settled_by_line true unit s = stops_without (run_settling unit s) TurnBudget refl
@@ -198,6 +201,7 @@ open_by_line unit s (shows_tree p) = tt
 open_by_line unit s (shows_outbox p) = tt
 open_by_line unit s reports = tt
 open_by_line unit s ticks = tt
+open_by_line unit s shows_next = tt
 
 step_by_line : (unit : Unit) (s : RunState) (store : GlobalValues) (moment : ℤ) (asked : RunCommand) → IsOfLine (run_step unit s store moment asked)
 unfolding run_step

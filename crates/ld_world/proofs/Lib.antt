@@ -9,6 +9,8 @@ mod PropertyWalk
 mod Published
 mod Serving
 mod Setting
+mod Stamps
+pub mod Counting
 pub mod Isolation
 pub mod LawsRefused
 pub mod LawsReplies

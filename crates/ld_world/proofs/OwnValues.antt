@@ -8,7 +8,7 @@ use Rattle.ld_model.specs.declared.property.Property.{Property}
 use Rattle.ld_model.specs.declared.unit.Unit.{Unit}
 use Rattle.ld_expr.specs.Owners.{is_global}
 use Rattle.ld_lines.specs.declared.command.RunCommand.{RunCommand}
-use Rattle.ld_lines.specs.declared.command.RunCommand.TheVariants.{Enrol, Assign, Drop, Start, Open, Complete, Set, Clear, Get, Tree, Outbox, Report, Tick}
+use Rattle.ld_lines.specs.declared.command.RunCommand.TheVariants.{Enrol, Assign, Drop, Start, Open, Complete, Set, Clear, Get, Tree, Outbox, Report, Tick, Next}
 use Rattle.ld_cascade.specs.Settling.{plus}
 use Rattle.ld_roles.specs.Roster.{short_at_start}
 use Rattle.ld_state.specs.GlobalValues.{GlobalValues}
@@ -17,7 +17,7 @@ use Rattle.ld_state.specs.RunState.{RunState, is_kept_for, joined}
 use Rattle.ld_firing.specs.RunSettling.{Settlement}
 use Rattle.ld_run.specs.Changes.{directly_changed, has_change}
 use Rattle.ld_admission.specs.Checks.{admitted, fitting_value, in_time, is_started, keeps_apart, does_not_hold, has_room, has_seat, holds_it, may_write, none_short, not_enrolled, not_running, only_by_choice, running, shortage_if_running, the_activity, the_person, the_property, the_role}
-use Rattle.ld_admission.specs.Commands.{Admitted, enrols, assigns, drops, starts, opens, completes, sets, clears, gets, shows_tree, shows_outbox, reports, ticks}
+use Rattle.ld_admission.specs.Commands.{Admitted, enrols, assigns, drops, starts, opens, completes, sets, clears, gets, shows_tree, shows_outbox, reports, ticks, shows_next}
 use Rattle.ld_admission.specs.Refusals.{Refusal, ◌unless_refused◌ as ◌>>=◌, ◌>>◌}
 use Rattle.ld_run.specs.RunStep.{DoneCommand, at_moment, done_by, open_for_it, run_step, settled}
 use Rattle.ld_run.proofs.SeatsOfChecks.{Each, each_bound, each_then}
@@ -61,14 +61,14 @@ module _ (unit : Unit) (store other : GlobalValues) (name : List ℕ)
   }
 
 -- The person who joins by an admitted command.
-abbrev joins : Admitted → Option (List ℕ)
+abbrev pub joins : Admitted → Option (List ℕ)
 joins (enrols name) = Some name
 joins _ = None
 
-abbrev IsOf : RunCommand → Admitted → Type 0
+abbrev pub IsOf : RunCommand → Admitted → Type 0
 IsOf asked command = joins command ≡ newcomer_of asked
 
-admitted_is : (unit : Unit) (s : RunState) (moment : ℤ) (asked : RunCommand) → Each (IsOf asked) (admitted unit s moment asked)
+pub admitted_is : (unit : Unit) (s : RunState) (moment : ℤ) (asked : RunCommand) → Each (IsOf asked) (admitted unit s moment asked)
 unfolding admitted
 admitted_is unit s moment (Enrol person) =
     each_then (IsOf (Enrol person)) (in_time s moment) _ (each_then (IsOf (Enrol person)) (not_enrolled s person) _ (each_then (IsOf (Enrol person)) (has_seat s) _ refl))
@@ -104,6 +104,7 @@ admitted_is unit s moment (Outbox person) =
     each_then P (in_time s moment) _ (each_then P (running s) _ (each_bound P (the_person s person) _ λ p. refl))
 admitted_is unit s moment Report = each_then (IsOf Report) (in_time s moment) _ (each_then (IsOf Report) (running s) _ refl)
 admitted_is unit s moment Tick = each_then (IsOf Tick) (in_time s moment) _ (each_then (IsOf Tick) (running s) _ refl)
+admitted_is unit s moment Next = each_then (IsOf Next) (in_time s moment) _ (each_then (IsOf Next) (running s) _ refl)
 
 -- ---- the step
 
@@ -136,6 +137,7 @@ module _ (unit : Unit) (s : RunState) (store other : GlobalValues) (moment : ℤ
   changed_alike t (shows_outbox p) is = refl
   changed_alike t reports is = refl
   changed_alike t ticks is = refl
+  changed_alike t shows_next is = refl
 
   -- What is done over a store once the run has settled for the first time, and for the second.
   abbrev done_so : GlobalValues → Admitted → Settlement → Settlement → Result DoneCommand Refusal

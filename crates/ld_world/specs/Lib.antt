@@ -1,7 +1,9 @@
 pub mod Answers
+pub mod Counting
 pub mod Declaring
 pub mod GlobalFaults
 pub mod Isolation
+pub mod LineWork
 pub mod Published
 pub mod SameWorlds
 pub mod World

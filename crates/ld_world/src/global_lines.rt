@@ -1,5 +1,5 @@
 //! Lines that ask the store of global values for something.
-ghost use Rattle.std.specs.Prelude.{◌≡◌, ◌≢◌, ◌≤◌, ◌++◌, ◌∷◌, [], List, ℕ, Some, codes, option_copied, option_map, IfOk, IfSome, OnErr, OnOk};
+ghost use Rattle.std.specs.Prelude.{◌≡◌, ◌≢◌, ◌≤◌, ◌+◌, ◌++◌, ◌∷◌, [], List, ℕ, Some, codes, option_copied, option_map, IfOk, IfSome, OnErr, OnOk};
 ghost use Rattle.ld_base.specs.Roomy.{KeepsRoom, room_of};
 ghost use Rattle.ld_globals.specs.Store.{KeepsWrites};
 ghost use Rattle.ld_lines.specs.declared.line.Line.TheVariants as line;
@@ -68,6 +68,7 @@ pub(crate) fn get_global<L: Ledger>(
         (Some (line.GlobalGet moment uri.now (option_copied person.entry)))
         reply out.new.bytes (world_with units globals.now runs)) }
     ensures room { KeepsRoom out.old out.new }
+    ensures cost { steps.new ≤ steps.old + 1 }
 {
     let key = Text::of(alloc, uri.as_str())?;
     match globals.get(&key, person, steps) {

@@ -1,10 +1,12 @@
 //! Runs by their names: making one, and asking one.
-ghost use Rattle.std.specs.Prelude.{◌≡◌, ◌≤◌, Some, List, map, IfOk, OnErr};
+ghost use Rattle.std.specs.Prelude.{◌≡◌, ◌≤◌, ◌+◌, Some, List, map, IfOk, OnErr};
 ghost use Rattle.ld_base.specs.Roomy.{room_of, KeepsRoom};
+ghost use Rattle.ld_globals.specs.Store.{KeepsWrites};
 ghost use Rattle.ld_lines.specs.declared.line.Line.TheVariants as line;
 ghost use Rattle.ld_model.specs.declared.unit.Unit.{Unit};
 ghost use Rattle.ld_value.specs.Calendar.{IsMoment};
 ghost use Rattle.ld_world.specs.Answers.{RepliesTo};
+ghost use Rattle.ld_world.specs.LineWork.{StampsAfter, asking_steps, making_steps};
 ghost use Rattle.ld_world.specs.WorldView.{AreCurrent, ServesAll, ServesRuns, world_with};
 
 use crate::publishing::find_unit;
@@ -45,7 +47,11 @@ pub(crate) fn make_run<L: Ledger>(
     ensures err { OnErr result (runs.new.entries ≡ runs.old.entries) }
     ensures runs { ServesRuns globals.now runs.new.entries }
     ensures current { AreCurrent globals.now runs.new.entries }
+    ensures stamps { IfOk result (λ reply. StampsAfter runs.old.entries
+        (Some (line.Create moment name unit.now)) reply globals.now.stamp runs.new.entries) }
     ensures room { KeepsRoom out.old out.new }
+    ensures cost { steps.new ≤ steps.old
+        + making_steps (map (λ unit. unit.value) units.now) unit.now }
 {
     let Some(unit) = find_unit(units, unit) else {
         return refuse_line(Refusal::UnknownUnit, out);
@@ -85,7 +91,13 @@ pub(crate) fn ask_run<L: Ledger>(
     ensures same { OnErr result (runs.new.entries ≡ runs.old.entries) }
     ensures runs { ServesRuns globals.new runs.new.entries }
     ensures current { AreCurrent globals.new runs.new.entries }
+    ensures kept { KeepsWrites globals.old globals.new }
+    ensures stamps { IfOk result (λ reply. StampsAfter runs.old.entries
+        (Some (line.OfRun moment name.now command.now)) reply
+        globals.new.stamp runs.new.entries) }
     ensures room { 128 ≤ room_of out.new }
+    ensures cost { steps.new ≤ steps.old
+        + asking_steps globals.old runs.old.entries moment name.now command.now }
 {
     let Some(run) = runs.get_mut(name) else {
         return refuse_line(Refusal::UnknownRun, out);

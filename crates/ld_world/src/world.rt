@@ -1,6 +1,7 @@
 //! The world of published units, the store of global values, and the runs.
-ghost use Rattle.std.specs.Prelude.{◌≡◌, ◌≤◌, ◌++◌, [], ◌∷◌, None, Some, IfErr, IfOk, OnErr, OnOk};
+ghost use Rattle.std.specs.Prelude.{◌≡◌, ◌≤◌, ◌+◌, ◌++◌, [], ◌∷◌, None, Some, IfErr, IfOk, OnErr, OnOk};
 ghost use Rattle.ld_base.specs.Roomy.{room_of, KeepsRoom};
+ghost use Rattle.ld_globals.specs.Store.{KeepsWrites};
 ghost use Rattle.ld_json.specs.Fault.{SaysFirst};
 ghost use Rattle.ld_lines.specs.LineMoment.{moment_of_line};
 ghost use Rattle.ld_lines.specs.declared.line.Line.TheVariants as line;
@@ -8,6 +9,7 @@ ghost use Rattle.ld_value.specs.Calendar.{IsMoment};
 ghost use Rattle.ld_admission.specs.Refusals.{BadLine};
 ghost use Rattle.ld_run.specs.Reply.{reply_to_refusal};
 ghost use Rattle.ld_world.specs.Answers.{RepliesTo, line_of};
+ghost use Rattle.ld_world.specs.LineWork.{StampsAfter, asking_steps, line_steps, making_steps};
 ghost use Rattle.ld_world.specs.Published.{faults_beside};
 ghost use Rattle.ld_world.specs.World.{first_world};
 ghost use Rattle.ld_world.specs.WorldView.{world_of};
@@ -131,7 +133,11 @@ impl World {
         requires room { 128 ≤ room_of out.old }
         ensures answers { RepliesTo (world_of self.old) (line_of line.now) result
             out.new.bytes (world_of self.new) }
+        ensures stamps { StampsAfter self.old.runs (line_of line.now) result
+            self.new.store.stamp self.new.runs }
+        ensures kept { KeepsWrites self.old.store self.new.store }
         ensures room { 128 ≤ room_of out.new }
+        ensures cost { steps.new ≤ steps.old + line_steps self.old (line_of line.now) }
     {
         match self.try_answer(alloc, line, out, steps) {
             Ok(reply) => reply,
@@ -148,6 +154,7 @@ impl World {
         ensures answers { RepliesTo (world_of self.old) None result
             out.new.bytes (world_of self.new) }
         ensures refused { result ≡ reply_to_refusal BadLine }
+        ensures same { self.new ≡ self.old }
         ensures room { 128 ≤ room_of out.new }
     {
         tell_refusal(Refusal::BadLine, out);
@@ -165,8 +172,12 @@ impl World {
         requires room { 128 ≤ room_of out.old }
         ensures ok { IfOk result (λ reply. RepliesTo (world_of self.old) (line_of line.now) reply
             out.new.bytes (world_of self.new)) }
+        ensures stamps { IfOk result (λ reply. StampsAfter self.old.runs (line_of line.now) reply
+            self.new.store.stamp self.new.runs) }
+        ensures kept { OnOk result (KeepsWrites self.old.store self.new.store) }
         ensures err { OnErr result (self.new ≡ self.old) }
         ensures room { 128 ≤ room_of out.new }
+        ensures cost { steps.new ≤ steps.old + line_steps self.old (line_of line.now) }
     {
         if line.len() > LINE_LIMIT {
             return refuse_line(Refusal::BadLine, out);
@@ -190,8 +201,12 @@ impl World {
         requires room { 128 ≤ room_of out.old }
         ensures ok { IfOk result (λ reply. RepliesTo (world_of self.old) (Some line) reply
             out.new.bytes (world_of self.new)) }
+        ensures stamps { IfOk result (λ reply. StampsAfter self.old.runs (Some line) reply
+            self.new.store.stamp self.new.runs) }
+        ensures kept { OnOk result (KeepsWrites self.old.store self.new.store) }
         ensures err { OnErr result (self.new ≡ self.old) }
         ensures room { 128 ≤ room_of out.new }
+        ensures cost { steps.new ≤ steps.old + line_steps self.old (Some line) }
     {
         match line {
             Line::Create { moment, run, unit } => {
@@ -229,8 +244,12 @@ impl World {
         requires { IsMoment moment.0 }
         ensures ok { IfOk result (λ reply. RepliesTo (world_of self.old)
             (Some (line.Create moment name unit.now)) reply out.new.bytes (world_of self.new)) }
+        ensures stamps { IfOk result (λ reply. StampsAfter self.old.runs
+            (Some (line.Create moment name unit.now)) reply self.new.store.stamp self.new.runs) }
+        ensures kept { OnOk result (KeepsWrites self.old.store self.new.store) }
         ensures err { OnErr result (self.new ≡ self.old) }
         ensures room { KeepsRoom out.old out.new }
+        ensures cost { steps.new ≤ steps.old + making_steps self.old.units unit.now }
     {
         let (units, globals, runs) = (&self.units, &self.globals, &mut self.runs);
         make_run(alloc, units, globals, runs, moment, name, unit, out, steps)
@@ -251,8 +270,14 @@ impl World {
         ensures ok { IfOk result (λ reply. RepliesTo (world_of self.old)
             (Some (line.OfRun moment name.now command.now)) reply out.new.bytes
             (world_of self.new)) }
+        ensures stamps { IfOk result (λ reply. StampsAfter self.old.runs
+            (Some (line.OfRun moment name.now command.now)) reply
+            self.new.store.stamp self.new.runs) }
+        ensures kept { OnOk result (KeepsWrites self.old.store self.new.store) }
         ensures err { OnErr result (self.new ≡ self.old) }
         ensures room { 128 ≤ room_of out.new }
+        ensures cost { steps.new ≤ steps.old
+            + asking_steps self.old.store self.old.runs moment name.now command.now }
     {
         let (globals, runs) = (&mut self.globals, &mut self.runs);
         let room = &mut self.command_room;

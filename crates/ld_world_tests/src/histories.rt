@@ -118,15 +118,21 @@ fn time_passes_and_roles_change(rt: HostRuntime) -> Result<(), Fail> {
     tell(rt.alloc(), &STARTED, &MOMENTS)
 }
 
-const MOMENTS: [&str; 12] = [
+const MOMENTS: [&str; 14] = [
     r#"["2024-01-01T09:10:00Z","open","r","tom","watch"]
 ok open turns=0 fired=0 rejected=0 sent=0
+"#,
+    r#"["2024-01-01T09:10:00Z","next","r"]
+ok next turns=0 fired=0 rejected=0 sent=0 at=2024-01-01T10:10:00Z
 "#,
     r#"["2024-01-01T10:09:59Z","tick","r"]
 ok tick turns=0 fired=0 rejected=0 sent=0
 "#,
     r#"["2024-01-01T10:10:00Z","tick","r"]
 ok tick turns=1 fired=2 rejected=0 sent=0
+"#,
+    r#"["2024-01-01T10:10:00Z","next","r"]
+ok next turns=0 fired=0 rejected=0 sent=0 at=none
 "#,
     r#"["2024-01-01T10:11:00Z","drop","r","ann","learner"]
 ok drop turns=0 fired=0 rejected=0 sent=0

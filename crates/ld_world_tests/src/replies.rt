@@ -12,7 +12,9 @@ use ld_base::{NoMemory, Steps, Text};
 use ld_cascade::Settled;
 use ld_globals::Globals;
 use ld_lines::RunCommand;
-use ld_replies::{push_done, push_refusal, push_value, refuse, say_no_memory, tell_refusal};
+use ld_replies::{
+    push_done, push_next, push_refusal, push_value, refuse, say_no_memory, tell_refusal,
+};
 use ld_rules::PreparedUnit;
 use ld_state::State;
 use ld_value::{Moment, Value};
@@ -39,6 +41,10 @@ fn tell_refusals(alloc: Global, out: &mut Text) -> Result<(), Fail>
     push_value(alloc, Some(&Value::Int(-7)), out)?;
     push_value(alloc, None, out)?;
     check(out.as_str() == TOLD, "refused")?;
+    out.clear();
+    push_next(TOTALS, Some(Moment(60)), out)?;
+    push_next(TOTALS, None, out)?;
+    check(out.as_str() == ALARMS, "alarms")?;
     check(
         Refusal::NotAllowed.number() == 22,
         "the number of a refusal",
@@ -47,6 +53,16 @@ fn tell_refusals(alloc: Global, out: &mut Text) -> Result<(), Fail>
 
 const TOLD: &str = "no 10 run-full
 no 5 moment-back 1970-01-01T00:00:00Z\"-7\"none";
+
+const ALARMS: &str = "ok next turns=1 fired=12 rejected=0 sent=345 at=1970-01-01T00:01:00Z\
+ok next turns=1 fired=12 rejected=0 sent=345 at=none";
+
+const TOTALS: Settled = Settled {
+    turns: 1,
+    fired: 12,
+    rejected: 0,
+    sent: 345,
+};
 
 #[test]
 fn commands_are_admitted_and_told(rt: HostRuntime) -> Result<(), Fail> {
@@ -114,19 +130,13 @@ fn tells<L: Ledger>(
     requires sound { IsSoundRun unit.now (run_of state.now) }
     requires silent { state.now.outbox ≡ [] }
 {
-    let totals = Settled {
-        turns: 1,
-        fired: 12,
-        rejected: 0,
-        sent: 345,
-    };
     let mut out = Text::new(alloc);
     push_done(
         alloc,
         unit,
         state,
         &Admitted::Ticks,
-        totals,
+        TOTALS,
         &mut out,
         steps,
     )?;

@@ -1,16 +1,17 @@
 //! A run and the store take each other's values.
-ghost use Rattle.std.specs.Prelude.{OnOk};
+ghost use Rattle.std.specs.Prelude.{◌<◌, ℕ, length, Contains, IfOk, OnOk};
 ghost use Rattle.ld_firing.specs.RunSystem.{IsSoundRun};
 ghost use Rattle.ld_globals.specs.Store.{KeepsWrites};
 ghost use Rattle.ld_model.specs.declared.unit.Unit.{Unit};
 ghost use Rattle.ld_sharing.specs.Current.{IsCurrentAsOf};
 ghost use Rattle.ld_sharing.specs.Fitting.{HasFittingGlobals};
 ghost use Rattle.ld_sharing.specs.StoreView.{Serves};
+ghost use Rattle.ld_state.specs.Layout.{cells_in};
 ghost use Rattle.ld_state.specs.StateView.{IsStateOf, run_of};
 
 use crate::begun::{Subject, begin, test};
 use crate::units::check;
-use ld_base::{PropNo, Steps, Text};
+use ld_base::{NoMemory, PropNo, Steps, Text};
 use ld_globals::Globals;
 use ld_model::{CellName, Owner, View};
 use ld_rules::PreparedUnit;
@@ -135,7 +136,8 @@ fn give<L: Ledger>(
     ensures current { OnOk result
         (IsCurrentAsOf unit.now (run_of state.now) globals.new.stamp globals.new) }
 {
-    let writes = prepare(alloc, unit, state, globals, steps)?;
+    let slots = all_slots(alloc, state)?;
+    let writes = prepare(alloc, unit, state, globals, &slots, steps)?;
     let one = writes.len() == 1;
     give_back(globals, writes);
     check(one, "one write")?;
@@ -144,4 +146,17 @@ fn give<L: Ledger>(
         matches!(value, Ok(Some(Value::Bool(true)))),
         "the store takes the value",
     )
+}
+
+/// The slots of all cells of the run, any of which may have another value than the store.
+fn all_slots(alloc: Global, state: &State) -> Result<Vec<u32>, NoMemory>
+    ensures { IfOk result (λ slots. (k : ℕ)
+        → k < length (cells_in state.now.layout (length state.now.rows))
+        → Contains slots.items k) }
+{
+    let mut slots = Vec::new(alloc);
+    for slot in 0..state.slot_count() {
+        slots.push(slot)?;
+    }
+    Ok(slots)
 }

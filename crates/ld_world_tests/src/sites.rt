@@ -213,7 +213,8 @@ fn go_joined<L: Ledger>(
     settle_so(alloc, unit, state, links, 0, steps)
 }
 
-/// Settles the run, where this many sites fire, in one turn at most. Its links are clean then.
+/// Settles the run, where this many sites fire, in one turn at most. It tells slots where one fires,
+/// such as that of its mark, and else none. Its links are clean then.
 fn settle_so<L: Ledger>(
     alloc: Global,
     unit: &PreparedUnit,
@@ -229,12 +230,14 @@ fn settle_so<L: Ledger>(
     ensures sound { OnOk result (IsSoundRun unit.now (run_of state.new)) }
     ensures clean { OnOk result (AreCleanLinks unit.now (run_of state.new) links.new) }
 {
-    let settled = settle(alloc, unit, state, links, steps)?;
+    let mut told = Vec::new(alloc);
+    let settled = settle(alloc, unit, state, links, &mut told, steps)?;
     let wanted = Settled {
         turns: fired,
         fired: fired as u64,
         rejected: 0,
         sent: 0,
     };
-    check(settled == wanted, "a settling")
+    check(settled == wanted, "a settling")?;
+    check(told.is_empty() == (fired == 0), "what a settling tells")
 }

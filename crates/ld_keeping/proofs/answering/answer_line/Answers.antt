@@ -35,3 +35,27 @@ returns-in-NoMemory-clause-turn g c = (
     (kept_none g.D.Disk.model g.met.D.Disk.lawful c.args.disk.now c.args.journal.now c.requires.settled c.requires.at_rest c.requires.below, omega arith),
   ),
 )
+
+pub returns-in-Done-clause-takes : goal.returns-in-Done-clause-takes
+returns-in-Done-clause-takes g c = record {
+  reply = c.answer.result;
+  replies = c.answer.ensures.answers;
+  stamps = c.answer.ensures.stamps;
+  writes = c.answer.ensures.kept;
+}
+
+pub returns-in-Refused-clause-takes : goal.returns-in-Refused-clause-takes
+returns-in-Refused-clause-takes g c = record {
+  reply = c.answer.result;
+  replies = c.answer.ensures.answers;
+  stamps = c.answer.ensures.stamps;
+  writes = c.answer.ensures.kept;
+}
+
+pub returns-in-NoMemory-clause-takes : goal.returns-in-NoMemory-clause-takes
+returns-in-NoMemory-clause-takes g c = record {
+  reply = c.answer.result;
+  replies = c.answer.ensures.answers;
+  stamps = c.answer.ensures.stamps;
+  writes = c.answer.ensures.kept;
+}

@@ -1,13 +1,15 @@
-use Rattle.std.proofs.Common.{◌≡◌, true, refl, arith, ◌∙◌}
+use Rattle.std.proofs.Common.{◌≡◌, true, false, Ok, refl, sym, arith, ◌∙◌, append-nil, ap}
 use Rattle.ld_keeping.proofs.TurnEnds.{KeptSo, ends, ends_unread, ends_too_long, ends_unwritten, ends_unkept, ends_full, goes_on, gets_fewer}
 use Rattle.ld_keeping.proofs.Journals.{kept_none}
 use Rattle.ld_keeping.proofs.Turning.{IsUnderWay-first}
+use Rattle.ld_world.proofs.Counting.{IsCounted-first, IsCounted-next, worked_all}
 use Rattle.ld_keeping.proofs.keep.answer_lines.Goals as goal
 
 pub turns-init : goal.turns-init
 turns-init g c =
     record {
       under_way = IsUnderWay-first _ _ _ _ _ c.requires.held c.requires.taken c.requires.going (kept_none g.D.Disk.model g.met.D.Disk.lawful c.args.disk.now c.args.journal.now c.requires.settled c.requires.at_rest c.requires.below, omega arith);
+      counted = IsCounted-first _ _ _ _ _ _ c.requires.held c.requires.taken c.requires.going refl;
       at_rest = c.requires.at_rest;
       settled = c.requires.settled;
       below = c.requires.below;
@@ -52,6 +54,8 @@ turns-preserved g c =
     let bytes : c.as_bytes.result.now ≡ c.answer_next.new.out.bytes = c.as_bytes.ensures.value ∙ c.as_str.ensures.bytes in
     record {
       under_way = goes_on g.D.Disk.model g.met.D.Disk.lawful c.args.disk.now c.turns.disk c.answer_next.new.disk c.args.journal.now c.turns.journal c.answer_next.new.journal c.requires.at_rest c.turns.invariant.at_rest c.turns.invariant.tells c.turns.invariant.under_way _ _ _ _ _ turn (rw bytes at c.in_default.ensures.ok);
+      counted = IsCounted-next c.turns.invariant.counted c.in-Ok-true.ensures.work c.answer_next.new.out.bytes
+          (ap Ok is) (sym (append-nil c.answer_next.new.out.bytes)) (rw bytes at c.in_default.ensures.ok);
       at_rest = c.in-Ok-true.ensures.at_rest;
       settled = c.in-Ok-true.ensures.settled;
       below = c.in-Ok-true.ensures.below;
@@ -62,3 +66,8 @@ turns-preserved g c =
       sink_counts = omega (arith, c.write_all.ensures.counts, c.turns.invariant.sink_counts);
       disk_counts = omega (arith, c.answer_next.ensures.disk_counts, c.turns.invariant.disk_counts);
     }
+
+pub returns-in-Ok-false-clause-work : goal.returns-in-Ok-false-clause-work
+returns-in-Ok-false-clause-work g c =
+    let is : c.in-Ok-false.field-0 ≡ false = cc in
+    λ _. worked_all c.turns.invariant.counted c.in-Ok-false.ensures.work (ap Ok is) (λ piece none. refl)

@@ -53,3 +53,6 @@ returns-clause-full g c =
     let d1 = c.open_journal.new.disk in
     let d2 = c.answer_lines.new.disk in
     λ is. (world_of c.open_journal.new.world, c.in-Ok.ensures.world, before_since (λ done last. HasKept M d1 d2 done × (2 ^ 40 < c.in-Ok.journal + size_of_records (done ++ last ∷ []) + 1)) (λ done last. (IsSettled M d0 → HasKept M d0 d2 done) × IfSome (M.bytes d0) (λ file. 2 ^ 40 < last_gate file + size_of_records (done ++ last ∷ []) + 1)) (full_since M g.met.D.Disk.lawful d0 d1 d2 c.in-Ok.journal c.in-Ok.ensures.kept c.in-Ok.ensures.gate c.in-Ok.ensures.at_rest c.open_journal.ensures.tells) (world_of c.open_journal.new.world) (g.S.Source.left c.args.source.now) (g.K.Sink.written c.args.sink.now) (g.S.Source.left c.answer_lines.new.source) (g.K.Sink.written c.answer_lines.new.sink) (c.answer_lines.ensures.full is))
+
+pub returns-clause-work : goal.returns-clause-work
+returns-clause-work g c = λ is. (c.open_journal.new.world, c.open_journal.new.steps, c.in-Ok.ensures.work, c.answer_lines.ensures.work is)

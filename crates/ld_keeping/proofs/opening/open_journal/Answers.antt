@@ -8,7 +8,9 @@ use Rattle.ld_keep.proofs.Told.{told_more, told_same}
 use Rattle.ld_world.specs.WorldView.{world_of}
 use Rattle.ld_keeping.specs.InJournal.{after_journal}
 use Rattle.ld_keeping.specs.Journaling.{HasKept}
+use Rattle.ld_keeping.specs.Working.{WorkedJournal}
 use Rattle.ld_keeping.proofs.Journals.{kept_nothing}
+use Rattle.ld_keeping.proofs.Working.{worked_last, worked_next}
 use Rattle.ld_keeping.proofs.Openings.{world_next, world_last, differs_at, finished, always, loses_quiet, loses_on}
 use Rattle.ld_keeping.proofs.opening.open_journal.Goals as goal
 
@@ -62,9 +64,20 @@ lines-preserved g c =
       any_moment = λ settled. loses_quiet M lawful d d0 d1 (c.lines.invariant.any_moment settled) c.apply_next.ensures.quiet;
       world = world_next (M.bytes d) (M.bytes d0) c.lines.invariant.bytes (world_of c.args.world.now) c.lines.number c.lines.opening (world_of c.lines.world)
           c.lines.invariant.world c.apply_next.new.out.bytes c.apply_next.new.opening (world_of c.apply_next.new.world) applies;
+      worked = worked_next (M.bytes d) (M.bytes d0) c.lines.invariant.bytes c.args.world.now c.lines.world c.apply_next.new.world c.args.steps.now c.lines.steps c.apply_next.new.steps
+          c.lines.opening c.apply_next.new.opening c.apply_next.new.out.bytes c.lines.invariant.worked (rw c.in-Ok-true.field-0-test at c.in-Ok-true.ensures.work);
       number = omega (arith, c.lines.invariant.number, applies.2);
       place = omega (arith, applies.3, applies.4, c.lines.invariant.limit);
       limit = omega (arith, applies.4, c.lines.invariant.limit);
       room = c.apply_next.ensures.room;
       counts = omega (arith, c.apply_next.ensures.counts, c.lines.invariant.counts);
     }
+
+pub returns-in-Ok-false-clause-work : goal.returns-in-Ok-false-clause-work
+returns-in-Ok-false-clause-work g c =
+    let M = g.D.Disk.model in
+    let Works : Type 0 = WorkedJournal (M.bytes c.args.disk.now) c.args.world.now c.apply_next.new.world c.args.steps.now c.apply_next.new.steps in
+    let works : Works =
+    worked_last (M.bytes c.args.disk.now) (M.bytes c.lines.disk) c.lines.invariant.bytes c.args.world.now c.lines.world c.apply_next.new.world c.args.steps.now c.lines.steps c.apply_next.new.steps
+    c.lines.opening c.apply_next.new.opening c.apply_next.new.out.bytes c.lines.invariant.worked (rw c.in-Ok-false.field-0-test at c.in-Ok-false.ensures.work) in
+    always c.finish.result Works works

@@ -1,4 +1,4 @@
-use Rattle.std.proofs.Common.{◌∙◌, ℕ, Ok, Result, ap₂, sym}
+use Rattle.std.proofs.Common.{◌∙◌, ◌&&◌, ℕ, Ok, Result, ap, ap₂, arith, refl, sym}
 use Rattle.ld_cascade.specs.Settling.{Sums}
 use Rattle.ld_firing.specs.SettledView.{settlement_of}
 use Rattle.ld_state.specs.StateView.{run_of}
@@ -8,7 +8,11 @@ use Rattle.ld_sharing.specs.StoreView.{values_of}
 use Rattle.ld_admission.specs.AdmittedView.{admitted_of}
 use Rattle.ld_admission.specs.Refusals.{NotOpen, Refusal}
 use Rattle.ld_admission.specs.RefusalView.{refusal_of}
+use Rattle.ld_admission.specs.Checks.{is_started}
+use Rattle.ld_run.specs.Changes.{directly_changed, has_change, written_directly}
+use Rattle.ld_run.specs.CommandWork.{second_work, shared_among, slots_if}
 use Rattle.ld_run.specs.RunStep.{DoneCommand}
+use Rattle.ld_run.proofs.CommandSums.{shared_in_all}
 use Rattle.ld_run.proofs.StepStages.{first_refused, is_done, not_open, second_refused}
 use Rattle.ld_run.proofs.doing.do_admitted.Goals as goal
 
@@ -68,3 +72,65 @@ returns-in-Err-settle_changed-clause-follows g c plain =
 pub returns-in-Ok-both-clause-follows : goal.returns-in-Ok-both-clause-follows
 returns-in-Ok-both-clause-follows g c plain =
     run_follows_then c.settle_first.ensures.follows (c.settle_changed.ensures.follows plain)
+
+-- ---- what it takes
+
+pub is_open_for-requires-clause-valid : goal.is_open_for-requires-clause-valid
+is_open_for-requires-clause-valid g c = c.in-Ok.ensures.running.order.sound.valid
+
+pub returns-in-Err-clause-cost : goal.returns-in-Err-clause-cost
+returns-in-Err-clause-cost g c = omega (arith, c.settle_first.ensures.cost)
+
+pub returns-then-not-is_open_for-clause-cost : goal.returns-then-not-is_open_for-clause-cost
+returns-then-not-is_open_for-clause-cost g c = omega (arith, c.settle_first.ensures.cost, c.is_open_for.ensures.cost)
+
+pub returns-in-Err-settle_changed-clause-cost : goal.returns-in-Err-settle_changed-clause-cost
+returns-in-Err-settle_changed-clause-cost g c =
+    let unit = c.args.unit.now in
+    let store = values_of c.args.globals.now in
+    let s = run_of c.args.state.now in
+    let command = admitted_of c.args.command.now in
+    let second = ap (second_work unit store s c.args.moment.0 command) c.in-Ok.ensures.settled in
+    omega (arith, c.settle_first.ensures.cost, c.is_open_for.ensures.cost, c.settle_changed.ensures.cost s refl, second)
+
+pub returns-in-Ok-both-clause-cost : goal.returns-in-Ok-both-clause-cost
+returns-in-Ok-both-clause-cost g c =
+    let unit = c.args.unit.now in
+    let store = values_of c.args.globals.now in
+    let s = run_of c.args.state.now in
+    let command = admitted_of c.args.command.now in
+    let second = ap (second_work unit store s c.args.moment.0 command) c.in-Ok.ensures.settled in
+    omega (arith, c.settle_first.ensures.cost, c.is_open_for.ensures.cost, c.settle_changed.ensures.cost s refl, second)
+
+pub returns-in-Err-both-clause-cost : goal.returns-in-Err-both-clause-cost
+returns-in-Err-both-clause-cost g c =
+    let unit = c.args.unit.now in
+    let store = values_of c.args.globals.now in
+    let s = run_of c.args.state.now in
+    let command = admitted_of c.args.command.now in
+    let second = ap (second_work unit store s c.args.moment.0 command) c.in-Ok.ensures.settled in
+    omega (arith, c.settle_first.ensures.cost, c.is_open_for.ensures.cost, c.settle_changed.ensures.cost s refl, second)
+
+pub returns-in-Ok-both-clause-gives : goal.returns-in-Ok-both-clause-gives
+returns-in-Ok-both-clause-gives g c =
+    let unit = c.args.unit.now in
+    let store = values_of c.args.globals.now in
+    let s = run_of c.args.state.now in
+    let command = admitted_of c.args.command.now in
+    let second = ap (second_work unit store s c.args.moment.0 command) c.in-Ok.ensures.settled in
+    let first = c.settle_first.new.scratch.written.items in
+    let direct = written_directly command c.settle_changed.new.scratch.told.items in
+    let now = directly_changed unit store (run_of c.settle_first.new.state) c.args.moment.0 command in
+    let fired = slots_if (has_change command && is_started now) unit now in
+    let all = ap (shared_among unit) c.in-Ok-settle_changed.ensures.fired in
+    let early = ap (shared_among unit) c.in-Ok.ensures.fired in
+    omega (
+      arith,
+      c.settle_first.ensures.cost,
+      c.is_open_for.ensures.cost,
+      c.in-Ok-settle_changed.ensures.gives s refl,
+      second,
+      all,
+      early,
+      shared_in_all unit first direct fired,
+    )

@@ -1,14 +1,17 @@
-use Rattle.std.proofs.Common.{◌≡◌, ◌∙◌, ap, arith, is_some, refl, subst, sym, true}
+use Rattle.std.proofs.Common.{◌≡◌, ◌∙◌, ◌+◌, ◌++◌, ◌≤◌, ap, arith, is_some, refl, subst, sym}
+use Rattle.std.proofs.lemmas.List.{append-nil}
 use Rattle.ld_state.specs.StateView.{run_of}
 use Rattle.ld_firing.specs.RunSystem.{run_system}
-use Rattle.ld_run.specs.CommandWork.{judged_first}
-use Rattle.ld_run.specs.Linked.{MayRelink}
+use Rattle.ld_run.specs.CleanBefore.{MayCount}
+use Rattle.ld_run.specs.CommandWork.{restoring, slots_if, steps_if}
+use Rattle.ld_run.specs.Linked.{MayRelink, relinks_all}
 use Rattle.ld_run.specs.RunStep.{settled}
 use Rattle.ld_firing.specs.SettledView.{settlement_of}
 use Rattle.ld_state.proofs.Elements.{different}
 use Rattle.ld_firing.proofs.LawsOpenings.{settling_leaves_start}
 use Rattle.ld_settling.proofs.CleanLinks.{run_follows_self, run_follows_then}
 use Rattle.ld_run.proofs.FittingRuns.{settling_fits}
+use Rattle.ld_run.proofs.GivenRuns.{settles_not}
 use Rattle.ld_run.proofs.NoticesTold.{settling_told}
 use Rattle.ld_cascade.proofs.Spending.{relinked_less}
 use Rattle.ld_run.proofs.Stirring.{settled_cost}
@@ -57,21 +60,42 @@ returns-in-Ok-clause-follows g c plain = run_follows_then (c.relink.ensures.foll
 pub returns-in-Err-settle-clause-follows : goal.returns-in-Err-settle-clause-follows
 returns-in-Err-settle-clause-follows g c plain = run_follows_then (c.relink.ensures.follows plain) c.settle.ensures.follows
 
+pub returns-then-not-settles-clause-written : goal.returns-then-not-settles-clause-written
+returns-then-not-settles-clause-written g c = settles_not c.args.unit.now (run_of c.args.state.now) c.args.scratch.now.written.items
+
+-- ---- what it changes, and what it takes
+
+pub returns-then-not-settles-clause-fired : goal.returns-then-not-settles-clause-fired
+returns-then-not-settles-clause-fired g c =
+    let written = c.args.scratch.now.written.items in
+    subst (λ b. written ≡ written ++ slots_if b c.args.unit.now (run_of c.args.state.now)) (sym c.if-not-settles.true) (sym (append-nil written))
+
+pub returns-in-Ok-clause-fired : goal.returns-in-Ok-clause-fired
+returns-in-Ok-clause-fired g c =
+    subst (λ b. c.settle.new.changed.items ≡ c.args.scratch.now.written.items ++ slots_if b c.args.unit.now (run_of c.args.state.now))
+    (sym c.if-not-settles.false) c.in-Ok.ensures.changed
+
 pub returns-in-Ok-clause-cost : goal.returns-in-Ok-clause-cost
 returns-in-Ok-clause-cost g c begun before seats may =
-    settled_cost c.args.unit.now (run_of c.args.state.now) begun before c.args.how c.args.scratch.now.changed.items c.args.links.now
-    c.relink.new.links c.settle.new.links c.args.steps.now c.settle.new.steps c.requires.order.sound refl seats c.settle.ensures.spends
-    (λ i is_in. subst (λ slots. judged_first c.args.how c.args.unit.now before slots i ≡ true) c.deref.ensures.value
-    (c.relink.ensures.dirties before may i is_in))
-    c.relink.ensures.relinked
+    let unit = c.args.unit.now in
+    let s = run_of c.args.state.now in
+    let now = c.settle.new.links in
+    let told = subst (λ slots. MayCount c.args.how unit before s slots c.args.links.now) (sym c.deref.ensures.value) (may c.if-not-settles.false) in
+    subst (λ b. c.settle.new.steps + restoring unit begun now ≤ c.args.steps.now + restoring unit begun c.args.links.now + steps_if b (relinks_all c.args.how) unit begun before s)
+    (sym c.if-not-settles.false)
+    (settled_cost unit s begun before (relinks_all c.args.how) c.args.links.now c.relink.new.links now c.args.steps.now c.settle.new.steps
+    c.requires.order.sound refl seats c.settle.ensures.spends (c.relink.ensures.dirties before told) c.relink.ensures.relinked)
 
 pub returns-in-Err-settle-clause-cost : goal.returns-in-Err-settle-clause-cost
 returns-in-Err-settle-clause-cost g c begun before seats may =
-    settled_cost c.args.unit.now (run_of c.args.state.now) begun before c.args.how c.args.scratch.now.changed.items c.args.links.now
-    c.relink.new.links c.settle.new.links c.args.steps.now c.settle.new.steps c.requires.order.sound refl seats c.settle.ensures.spends
-    (λ i is_in. subst (λ slots. judged_first c.args.how c.args.unit.now before slots i ≡ true) c.deref.ensures.value
-    (c.relink.ensures.dirties before may i is_in))
-    c.relink.ensures.relinked
+    let unit = c.args.unit.now in
+    let s = run_of c.args.state.now in
+    let now = c.settle.new.links in
+    let told = subst (λ slots. MayCount c.args.how unit before s slots c.args.links.now) (sym c.deref.ensures.value) (may c.if-not-settles.false) in
+    subst (λ b. c.settle.new.steps + restoring unit begun now ≤ c.args.steps.now + restoring unit begun c.args.links.now + steps_if b (relinks_all c.args.how) unit begun before s)
+    (sym c.if-not-settles.false)
+    (settled_cost unit s begun before (relinks_all c.args.how) c.args.links.now c.relink.new.links now c.args.steps.now c.settle.new.steps
+    c.requires.order.sound refl seats c.settle.ensures.spends (c.relink.ensures.dirties before told) c.relink.ensures.relinked)
 
 -- Where there is no room for the links, they are not asked what they read.
 pub returns-in-Err-clause-cost : goal.returns-in-Err-clause-cost

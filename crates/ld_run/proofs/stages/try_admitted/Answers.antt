@@ -1,7 +1,7 @@
-use Rattle.std.proofs.Common.{◌≡◌, ◌∙◌, ap, subst, sym, true}
+use Rattle.std.proofs.Common.{◌≡◌, ◌∙◌, ◌+◌, ◌≤◌, ap, arith, subst, sym, true}
 use Rattle.ld_firing.specs.RunSystem.{IsSoundRun}
 use Rattle.ld_settling.specs.RunLinking.{AreCleanLinks}
-use Rattle.ld_sharing.specs.Current.{IsCurrentAsOf}
+use Rattle.ld_sharing.specs.Current.{IsCurrentAsOf, written_count}
 use Rattle.ld_sharing.specs.Globals.{giving_back}
 use Rattle.ld_sharing.specs.StoreView.{values_of}
 use Rattle.ld_sharing.proofs.GivingStores.{keeps_on}
@@ -9,8 +9,10 @@ use Rattle.ld_state.specs.RunState.{RunState}
 use Rattle.ld_state.specs.StateView.{StateView, run_of}
 use Rattle.ld_admission.specs.AdmittedView.{admitted_of}
 use Rattle.ld_admission.specs.Checks.{is_started}
+use Rattle.ld_run.specs.CommandWork.{doing_steps, restoring, telling_steps}
 use Rattle.ld_run.specs.Running.{IsInOrder, IsRunning, MayBeDone}
 use Rattle.ld_run.specs.RunStep.{done_by}
+use Rattle.ld_run.proofs.CommandSums.{restores_none}
 use Rattle.ld_run.proofs.LinkedRuns.{renews_none}
 use Rattle.ld_run.proofs.StepStages.{undone_is}
 use Rattle.ld_run.proofs.stages.try_admitted.Goals as goal
@@ -113,3 +115,42 @@ pub returns-in-Ok-clause-running : goal.returns-in-Ok-clause-running
 returns-in-Ok-clause-running g c =
     subst (λ (s : StateView). IsRunning c.args.unit.now (run_of s) c.do_and_tell.new.links) (sym c.keep.ensures.rest)
     c.in-Ok.ensures.running
+
+-- ---- what it takes
+
+pub returns-in-Ok-clause-cost : goal.returns-in-Ok-clause-cost
+returns-in-Ok-clause-cost g c =
+    let unit = c.args.unit.now in
+    let store = values_of c.args.globals.now in
+    let command = admitted_of c.args.command.now in
+    let none = restores_none unit (run_of c.args.state.now) c.begin.new.self c.begin.ensures.relinked in
+    let written = written_count c.args.globals.now c.args.stamp in
+    let now = run_of c.args.state.now in
+    let cost : c.do_and_tell.new.steps + restoring unit now c.do_and_tell.new.links
+    ≤ c.args.steps.now + restoring unit now c.begin.new.self + doing_steps unit now store written c.args.moment.0 command
+    + telling_steps unit (done_by unit now store c.args.moment.0 command) =
+    subst (λ (s : StateView). c.do_and_tell.new.steps + restoring unit (run_of s) c.do_and_tell.new.links
+    ≤ c.args.steps.now + restoring unit (run_of s) c.begin.new.self + doing_steps unit (run_of s) store written c.args.moment.0 command
+    + telling_steps unit (done_by unit (run_of s) store c.args.moment.0 command))
+    c.mark.ensures c.do_and_tell.ensures.cost in
+    omega (arith, cost, none)
+
+pub returns-in-Err-clause-cost : goal.returns-in-Err-clause-cost
+returns-in-Err-clause-cost g c =
+    let unit = c.args.unit.now in
+    let store = values_of c.args.globals.now in
+    let command = admitted_of c.args.command.now in
+    let none = restores_none unit (run_of c.args.state.now) c.begin.new.self c.begin.ensures.relinked in
+    let written = written_count c.args.globals.now c.args.stamp in
+    let now = run_of c.args.state.now in
+    let cost : c.do_and_tell.new.steps + restoring unit now c.do_and_tell.new.links
+    ≤ c.args.steps.now + restoring unit now c.begin.new.self + doing_steps unit now store written c.args.moment.0 command
+    + telling_steps unit (done_by unit now store c.args.moment.0 command) =
+    subst (λ (s : StateView). c.do_and_tell.new.steps + restoring unit (run_of s) c.do_and_tell.new.links
+    ≤ c.args.steps.now + restoring unit (run_of s) c.begin.new.self + doing_steps unit (run_of s) store written c.args.moment.0 command
+    + telling_steps unit (done_by unit (run_of s) store c.args.moment.0 command))
+    c.mark.ensures c.do_and_tell.ensures.cost in
+    let back = undone_is unit c.args.state.now c.do_and_tell.new.state c.undo.new.self c.requires.own
+    c.do_and_tell.ensures.own (c.do_and_tell.ensures.kept ∙ ap (λ (s : StateView). s.kept) c.mark.ensures) c.undo.ensures.run in
+    let again = ap (λ (s : RunState). restoring unit s c.do_and_tell.new.links) back in
+    omega (arith, cost, none, c.take_back.ensures.cost, again)

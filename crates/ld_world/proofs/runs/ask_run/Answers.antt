@@ -1,4 +1,4 @@
-use Rattle.std.proofs.Common.{Some, sym, subst}
+use Rattle.std.proofs.Common.{Some, ap, refl, sym, subst}
 use Rattle.ld_lines.specs.declared.line.Line.TheVariants as line
 use Rattle.ld_admission.specs.Refusals.{UnknownRun}
 use Rattle.ld_run.specs.RunView.{RunView}
@@ -9,6 +9,9 @@ use Rattle.ld_world.specs.WorldView.{world_with}
 use Rattle.ld_world.proofs.Answering.{asked_run, if_ok, refused_line, unknown_run}
 use Rattle.ld_world.proofs.Named.{found_one, no_run, set_one}
 use Rattle.ld_world.proofs.Serving.{all_stay_current, runs_alike}
+use Rattle.ld_world.proofs.Setting.{keeps_unchanged}
+use Rattle.ld_world.proofs.Stamps.{asks, stamps_set, stamps_stay}
+use Rattle.ld_world.specs.LineWork.{tells_done}
 use Rattle.ld_world.proofs.runs.ask_run.Goals as goal
 
 pub returns-in_default-clause-ok : goal.returns-in_default-clause-ok
@@ -52,3 +55,23 @@ returns-clause-current g c =
     let others = all_stay_current old new runs c.apply.ensures.kept c.requires.runs c.requires.current in
     rw (c.get_mut.follows.holds c.apply.new.self).0
     (set_one (λ (run : RunView). IsCurrentAsOf run.unit (run_of run.state) run.stamp new) c.args.name.now runs c.apply.new.self others c.apply.ensures.current)
+
+pub returns-in_default-clause-stamps : goal.returns-in_default-clause-stamps
+returns-in_default-clause-stamps g c =
+    let asked = Some (line.OfRun c.args.moment c.args.name.now c.args.command.now) in
+    rw c.get_mut.follows.holds-at-none (if_ok c.refuse_line.result c.refuse_line.ensures.refused (λ reply told.
+    stamps_stay c.args.runs.now.entries asked reply c.args.globals.now.stamp (ap tells_done told.0)))
+
+pub returns-in_default-clause-kept : goal.returns-in_default-clause-kept
+returns-in_default-clause-kept g c = keeps_unchanged c.args.globals.now c.args.globals.now refl
+
+pub returns-clause-stamps : goal.returns-clause-stamps
+returns-clause-stamps g c =
+    rw (c.get_mut.follows.holds c.apply.new.self).0
+    (stamps_set c.args.runs.now.entries c.args.moment c.args.name.now c.args.command.now c.in-Some.run'.now c.apply.new.self c.apply.result
+    c.apply.new.globals.stamp (sym c.in-Some.ensures.value) c.apply.ensures.stamp)
+
+pub returns-clause-cost : goal.returns-clause-cost
+returns-clause-cost g c =
+    rw (asks c.args.globals.now c.args.runs.now.entries c.args.moment c.args.name.now c.args.command.now c.in-Some.run'.now (sym c.in-Some.ensures.value))
+    c.apply.ensures.cost

@@ -4,6 +4,7 @@ use Rattle.indexmap.proofs.CallerLemmas.{insert_entry-new}
 use Rattle.ld_lines.specs.declared.line.Line.TheVariants as line
 use Rattle.ld_roles.specs.declared.limit.TheConstants.{SEATS}
 use Rattle.ld_admission.specs.Refusals.{RunExists, UnknownUnit}
+use Rattle.ld_run.specs.Reply.{done_alone}
 use Rattle.ld_sharing.specs.Current.{IsCurrentAsOf}
 use Rattle.ld_sharing.specs.StoreView.{Serves, values_of}
 use Rattle.ld_state.specs.RunState.{made_at}
@@ -11,6 +12,8 @@ use Rattle.ld_state.specs.StateView.{run_of}
 use Rattle.ld_world.specs.WorldView.{AreCurrent, ServesRuns, world_with}
 use Rattle.ld_world.proofs.Answering.{made_run, if_ok, refused_line, run_exists, unknown_unit}
 use Rattle.ld_world.proofs.Named.{all_found, all_with, is_there, none_there}
+use Rattle.ld_world.proofs.Stamps.{making, stamps_stay, stamps_with}
+use Rattle.ld_world.specs.LineWork.{StampsAfter, tells_done}
 use Rattle.ld_world.proofs.runs.make_run.Goals as goal
 
 pub returns-in_default-clause-ok : goal.returns-in_default-clause-ok
@@ -61,3 +64,45 @@ returns-clause-current g c =
     let fresh = sym c.contains_key.ensures ∙ c.if-contains_key.false in
     let behind = c.in_ok-insert.ensures.entries ∙ insert_entry-new bytes_eq c.args.runs.now c.args.name c.in_ok-run.run' (none_there _ fresh) in
     subst (AreCurrent store) (sym behind) (all_with (λ entry. IsCurrentAsOf entry.1.unit (run_of entry.1.state) entry.1.stamp store) c.args.runs.now.entries (c.args.name, c.in_ok-run.run') c.requires.current c.in_ok-run.ensures.current)
+
+pub returns-in_default-clause-stamps : goal.returns-in_default-clause-stamps
+returns-in_default-clause-stamps g c =
+    let asked = Some (line.Create c.args.moment c.args.name c.args.unit.now) in
+    if_ok c.refuse_line.result c.refuse_line.ensures.refused (λ reply told.
+    stamps_stay c.args.runs.now.entries asked reply c.args.globals.now.stamp (ap tells_done told.0))
+
+pub returns-then-contains_key-clause-stamps : goal.returns-then-contains_key-clause-stamps
+returns-then-contains_key-clause-stamps g c =
+    let asked = Some (line.Create c.args.moment c.args.name c.args.unit.now) in
+    if_ok c.refuse_line-then-contains_key.result c.refuse_line-then-contains_key.ensures.refused (λ reply told.
+    stamps_stay c.args.runs.now.entries asked reply c.args.globals.now.stamp (ap tells_done told.0))
+
+pub returns-clause-stamps : goal.returns-clause-stamps
+returns-clause-stamps g c =
+    let store = c.args.globals.now in
+    let runs = c.args.runs.now.entries in
+    let asked = Some (line.Create c.args.moment c.args.name c.args.unit.now) in
+    let fresh = none_there _ (sym c.contains_key.ensures ∙ c.if-contains_key.false) in
+    let behind = c.in_ok-insert.ensures.entries ∙ insert_entry-new bytes_eq c.args.runs.now c.args.name c.in_ok-run.run' fresh in
+    rw c.done_alone.ensures (subst (StampsAfter runs asked done_alone store.stamp) (sym behind)
+    (stamps_with runs c.args.name c.in_ok-run.run' store.stamp fresh c.in_ok-run.ensures.stamp))
+
+pub returns-in_err-run-clause-cost : goal.returns-in_err-run-clause-cost
+returns-in_err-run-clause-cost g c =
+    making (map (λ unit. unit.value) c.args.units.now) c.args.unit.now c.in-Some.unit.now.value c.in_ok-clone.field-0.value c.args.steps.now c.new.new.steps
+    (sym c.in-Some.ensures) c.in_ok-clone.ensures.cases c.new.ensures.cost
+
+pub returns-in_err-push-clause-cost : goal.returns-in_err-push-clause-cost
+returns-in_err-push-clause-cost g c =
+    making (map (λ unit. unit.value) c.args.units.now) c.args.unit.now c.in-Some.unit.now.value c.in_ok-clone.field-0.value c.args.steps.now c.new.new.steps
+    (sym c.in-Some.ensures) c.in_ok-clone.ensures.cases c.new.ensures.cost
+
+pub returns-in_err-insert-clause-cost : goal.returns-in_err-insert-clause-cost
+returns-in_err-insert-clause-cost g c =
+    making (map (λ unit. unit.value) c.args.units.now) c.args.unit.now c.in-Some.unit.now.value c.in_ok-clone.field-0.value c.args.steps.now c.new.new.steps
+    (sym c.in-Some.ensures) c.in_ok-clone.ensures.cases c.new.ensures.cost
+
+pub returns-clause-cost : goal.returns-clause-cost
+returns-clause-cost g c =
+    making (map (λ unit. unit.value) c.args.units.now) c.args.unit.now c.in-Some.unit.now.value c.in_ok-clone.field-0.value c.args.steps.now c.new.new.steps
+    (sym c.in-Some.ensures) c.in_ok-clone.ensures.cases c.new.ensures.cost

@@ -1,6 +1,6 @@
-use Rattle.std.proofs.Common.{◌≡◌, ◌∙◌, Err, ap, ap₂, subst, sym, ℕ, ℤ}
+use Rattle.std.proofs.Common.{◌≡◌, ◌∙◌, ◌+◌, ◌≤◌, Err, ap, ap₂, subst, sym, ℕ, ℤ}
 use Rattle.ld_model.specs.declared.unit.Unit.{Unit}
-use Rattle.ld_sharing.specs.Current.{IsCurrentAsOf}
+use Rattle.ld_sharing.specs.Current.{IsCurrentAsOf, written_count}
 use Rattle.ld_sharing.specs.StoreView.{Serves, values_of}
 use Rattle.ld_sharing.proofs.Currents.{current_now, stays_current}
 use Rattle.ld_state.specs.StateView.{IsStateOf, run_of}
@@ -8,13 +8,14 @@ use Rattle.ld_lines.specs.declared.command.RunCommand.{RunCommand}
 use Rattle.ld_admission.specs.Checks.{admitted}
 use Rattle.ld_admission.specs.Refusals.{Refusal}
 use Rattle.ld_state.specs.RunState.{RunState}
+use Rattle.ld_run.specs.CommandWork.{command_steps, command_steps_of}
 use Rattle.ld_run.specs.Linked.{HasLinks}
 use Rattle.ld_run.specs.Reply.{reply_to_refusal}
 use Rattle.ld_run.specs.Reached.{IsReached, left_by}
 use Rattle.ld_run.specs.Running.{IsRunning}
 use Rattle.ld_run.specs.RunView.{AnswersCommand, RunView}
 use Rattle.ld_run.specs.declared.reply.Reply.TheVariants.{Done}
-use Rattle.ld_run.proofs.Answered.{answered_done, answered_refused}
+use Rattle.ld_run.proofs.Answered.{answered_done, answered_refused, keeps_stamp}
 use Rattle.ld_run.proofs.run.Run.answer.Goals as goal
 
 -- What the step asks for is what is always so of a run.
@@ -110,7 +111,7 @@ returns-clause-answers g c =
     subst (λ (run : RunView). AnswersCommand run.unit (run_of run.state) store moment asked reply text new left) c.self.view_is
     (subst (λ (unit : Unit). AnswersCommand unit (run_of c.self.inside.state) store moment asked reply text new left) c.deref.ensures
     (answered_refused c.deref.result.now (run_of c.self.inside.state) store moment asked reply text new left c.in-Err.refusal
-    c.in-Err.ensures.refused c.refused.ensures c.in-Err.ensures.back c.in-Err.ensures.untouched c.tell_refusal.ensures.text))
+    c.in-Err.ensures.refused c.refused.ensures.value c.in-Err.ensures.back c.in-Err.ensures.untouched c.tell_refusal.ensures.text))
 
 -- What a check refuses is refused by the step.
 checks-inside : {unit view : Unit} {s t : RunState} (moment : ℤ) (asked : RunCommand) (refusal : Refusal) → view ≡ unit → t ≡ s
@@ -126,7 +127,7 @@ returns-in-Ok-clause-checked g c refusal is other =
 pub returns-clause-checked : goal.returns-clause-checked
 returns-clause-checked g c refusal is other =
     let run = sym c.self.view_is in
-    c.refused.ensures ∙ ap reply_to_refusal (c.in-Err.ensures.checked refusal
+    c.refused.ensures.value ∙ ap reply_to_refusal (c.in-Err.ensures.checked refusal
     (checks-inside c.args.moment.0 c.args.command.now refusal (ap (λ (r : RunView). r.unit) run ∙ sym c.deref.ensures) (ap (λ (r : RunView). run_of r.state) run) is) other)
 
 -- The links are those of the run, whatever is answered.
@@ -137,3 +138,25 @@ returns-in-Ok-clause-linked g c =
 pub returns-clause-linked : goal.returns-clause-linked
 returns-clause-linked g c =
     subst (λ (unit : Unit). HasLinks unit (run_of c.step.new.state) c.step.new.links) c.deref.ensures c.step.ensures.running.linked
+
+-- ---- its stamp, and what it takes
+
+pub returns-in-Ok-clause-stamp : goal.returns-in-Ok-clause-stamp
+returns-in-Ok-clause-stamp g c = c.stamp-self-inside.ensures
+
+pub returns-clause-stamp : goal.returns-clause-stamp
+returns-clause-stamp g c =
+    keeps_stamp c.refused.result c.args.self.now.stamp c.step.new.globals.stamp c.self.inside.stamp c.refused.ensures.not_done
+    (ap (λ (run : RunView). run.stamp) c.self.view_is)
+
+pub returns-in-Ok-clause-cost : goal.returns-in-Ok-clause-cost
+returns-in-Ok-clause-cost g c =
+    subst (λ (run : RunView). c.step.new.steps ≤ c.args.steps.now + command_steps run c.args.globals.now c.args.moment.0 c.args.command.now) c.self.view_is
+    (subst (λ (unit : Unit). c.step.new.steps ≤ c.args.steps.now + command_steps_of unit (run_of c.self.inside.state) (values_of c.args.globals.now)
+    (written_count c.args.globals.now c.self.inside.stamp) c.args.moment.0 c.args.command.now) c.deref.ensures c.step.ensures.cost)
+
+pub returns-clause-cost : goal.returns-clause-cost
+returns-clause-cost g c =
+    subst (λ (run : RunView). c.step.new.steps ≤ c.args.steps.now + command_steps run c.args.globals.now c.args.moment.0 c.args.command.now) c.self.view_is
+    (subst (λ (unit : Unit). c.step.new.steps ≤ c.args.steps.now + command_steps_of unit (run_of c.self.inside.state) (values_of c.args.globals.now)
+    (written_count c.args.globals.now c.self.inside.stamp) c.args.moment.0 c.args.command.now) c.deref.ensures c.step.ensures.cost)

@@ -1,8 +1,8 @@
-use Rattle.std.proofs.Common.{◌∙◌, ℕ, ap, subst, sym}
+use Rattle.std.proofs.Common.{◌∙◌, ℕ, ap, arith, false, subst, sym}
 use Rattle.ld_model.specs.declared.unit.Unit.{Unit}
 use Rattle.ld_roles.specs.declared.limit.TheConstants.{SEATS}
 use Rattle.ld_sharing.specs.Current.{IsCurrentAsOf}
-use Rattle.ld_sharing.specs.StoreView.{Serves, values_of}
+use Rattle.ld_sharing.specs.StoreView.{Serves, shared_count, values_of}
 use Rattle.ld_state.specs.RunState.{RunState, made_at}
 use Rattle.ld_state.specs.StateView.{IsStateOf, run_of}
 use Rattle.ld_run.specs.Reached.{IsReached, made}
@@ -51,3 +51,6 @@ invariant_of-result g c = (
   c.in_ok-state.ensures.no_savepoint,
   returns-clause-reached g c,
 )
+
+pub returns-clause-cost : goal.returns-clause-cost
+returns-clause-cost g c = omega (arith, c.begin.ensures.cost, ap (λ (unit : Unit). shared_count unit false) c.deref.ensures)
