@@ -3,6 +3,7 @@ pub mod Behind
 pub mod Completing
 pub mod CutReplies
 pub mod FolderFiles
+pub mod Generating
 pub mod HeldLines
 pub mod JournalEnds
 pub mod Publishing

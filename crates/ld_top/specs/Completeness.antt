@@ -1,6 +1,6 @@
 -- Which status a replay ends with where nothing of the outside failed: the folders and the input tell it, but that
 -- memory may run out.
-use Rattle.std.specs.Prelude.{ℕ, List, [], ◌∷◌, ◌++◌, ◌≡◌, ◌<◌, ◌≤◌, ◌^◌, length, Option, Some, Result, Ok, Err}
+use Rattle.std.specs.Prelude.{ℕ, List, [], ◌∷◌, ◌++◌, ◌≡◌, ◌<◌, ◌≤◌, ◌^◌, length, Option, Some, Result, Ok, Err, ⊤}
 use Rattle.ld_base.specs.Outside.{Files, Rose}
 use Rattle.ld_json.specs.Fault.{Told}
 use Rattle.ld_model.specs.declared.unit.Unit.{Unit}
@@ -8,7 +8,7 @@ use Rattle.ld_world.specs.Published.{RefusedFolder}
 use Rattle.ld_top.specs.Endings.{IsOneOf}
 use Rattle.ld_top.specs.InFolder.{IsReading}
 use Rattle.ld_top.specs.Replay.{Publishes}
-use Rattle.ld_top.specs.Tasks.{Task, replays, reports}
+use Rattle.ld_top.specs.Tasks.{Task, replays, reports, generates}
 
 -- The count of faults did not rise, and does not stand at its last value.
 abbrev pub DidNotFail : ℕ → ℕ → Type 0
@@ -57,11 +57,13 @@ ReportEndsRefused folder files status =
 abbrev pub TaskEndsWell : Option Files → Option (List ℕ) → ℕ → Task → Type 0
 TaskEndsWell files left status (replays folders) = EndsWell folders files left status
 TaskEndsWell files left status (reports report folder) = ReportEndsWell folder files status
+TaskEndsWell files left status (generates number persons) = IsOneOf (0 ∷ 7 ∷ []) status
 
--- A folder is refused.
+-- A folder is refused; what reads no folder refuses none.
 abbrev pub TaskEndsRefused : Option Files → ℕ → Task → Type 0
 TaskEndsRefused files status (replays folders) = EndsRefused folders files status
 TaskEndsRefused files status (reports report folder) = ReportEndsRefused folder files status
+TaskEndsRefused files status (generates number persons) = ⊤
 
 -- ---- the files alone tell what is published
 

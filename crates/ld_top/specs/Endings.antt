@@ -80,6 +80,10 @@ IsCallEnding = EndsWith (0 ∷ 3 ∷ 4 ∷ 5 ∷ 6 ∷ 7 ∷ 8 ∷ [])
 abbrev pub IsReportEnding : Ending → Type 0
 IsReportEnding = EndsWith (0 ∷ 3 ∷ 4 ∷ 6 ∷ 7 ∷ [])
 
+-- How a call of the generator can end.
+abbrev pub IsGeneratorEnding : Ending → Type 0
+IsGeneratorEnding = EndsWith (0 ∷ 6 ∷ 7 ∷ [])
+
 -- How a call that answers lines over a journal can end.
 abbrev pub IsKeepEnding : Ending → Type 0
 IsKeepEnding = EndsWith (0 ∷ 3 ∷ 4 ∷ 5 ∷ 6 ∷ 7 ∷ 8 ∷ 9 ∷ 10 ∷ 11 ∷ [])

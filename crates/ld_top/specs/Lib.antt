@@ -10,3 +10,4 @@ pub mod Replay
 pub mod Reports
 pub mod Sending
 pub mod Tasks
+pub mod Working

@@ -1,11 +1,13 @@
 //! Publishing the units of folders and answering lines over a journal.
 ghost use Rattle.std.specs.Prelude.{◌≡◌, ◌≤◌, ◌<◌, ◌^◌, ◌∷◌, []};
 ghost use Rattle.ld_base.specs.Outside.{Rose};
+ghost use Rattle.ld_keeping.specs.Working.{WorkedKeeping};
 ghost use Rattle.ld_top.specs.Completeness.{DidNotFail, EndsRefused};
 ghost use Rattle.ld_top.specs.Endings.{IsJournalEnding, IsKeepEnding, IsOneOf, NotOpened, NothingKept, NothingTaken, NothingWritten, number_of};
 ghost use Rattle.ld_top.specs.JournalEndings.{ending_of as ending_for};
 ghost use Rattle.ld_top.specs.Journaled.{HasGoodJournal, IsGivenToKeep, JournaledAll, JournaledCut, JournaledDiffers, JournaledFull, JournaledLost, JournaledTaken, KeptAll, KeptCut, KeptDiffers, KeptFull, KeptLost, KeptTaken, journaled};
 ghost use Rattle.ld_top.specs.Replay.{Refused};
+ghost use Rattle.ld_top.specs.Working.{WorkedKeep};
 ghost use Rattle.ld_words.specs.Words.{words_of};
 ghost use Rattle.ld_world.specs.World.{first_world};
 ghost use Rattle.ld_world.specs.WorldView.{world_of};
@@ -51,6 +53,9 @@ fn keep_units<S: Source, K: Sink, D: Disk, L: Ledger>(
     ensures done { result ≡ Ending.Done → JournaledAll (journaled D.model disk.old disk.new)
         (D.model.bytes disk.old) (first_world world.units)
         (S.left input.old) (S.left input.new) (K.written output.old) (K.written output.new) }
+    ensures work { result ≡ Ending.Done
+        → WorkedKeeping (D.model.bytes disk.old) world (S.left input.old)
+        (K.written output.old) (K.written output.new) steps.old steps.new }
     ensures read { result ≡ Ending.ReadFault
         → JournaledTaken (λ n. n < 2 ^ 40) (journaled D.model disk.old disk.new)
         (D.model.bytes disk.old) (first_world world.units)
@@ -111,6 +116,9 @@ pub(crate) fn keep_folders<H: Shelf, S: Source, K: Sink, D: Disk, L: Ledger>(
     ensures done { result ≡ Ending.Done → KeptAll (journaled D.model disk.old disk.new)
         (H.files shelf.old) (D.model.bytes disk.old) (S.left input.old) (S.left input.new)
         (K.written output.old) (K.written output.new) (words_of folders.now) }
+    ensures work { result ≡ Ending.Done → WorkedKeep (H.files shelf.old) (D.model.bytes disk.old)
+        (S.left input.old) (K.written output.old) (K.written output.new) steps.old steps.new
+        (words_of folders.now) }
     ensures refused { result ≡ Ending.UnitRefused
         → Refused (words_of folders.now) (H.files shelf.old)
         (K.written output.old) (K.written output.new) }

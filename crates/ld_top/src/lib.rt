@@ -7,6 +7,7 @@
 #![tactic(auto)]
 
 pub mod ending;
+mod generate;
 mod keep_folders;
 pub mod laws;
 pub mod publish;

@@ -5,6 +5,7 @@ ghost use Rattle.ld_base.specs.Roomy.{room_of};
 ghost use Rattle.ld_lines.specs.Answer.{Answer, HandsOut};
 ghost use Rattle.ld_top.specs.Answering.{AnswersWhat, AnsweredAll, AnsweredTaken, AnsweredCut, IsEndOfLines};
 ghost use Rattle.ld_top.specs.Endings.{IsReplayEnding};
+ghost use Rattle.ld_world.specs.Counting.{CountsTurn, WorkedAll};
 ghost use Rattle.ld_world.specs.World.{first_world};
 ghost use Rattle.ld_world.specs.WorldView.{world_of};
 
@@ -30,6 +31,8 @@ fn answer_next<S: Source, L: Ledger>(
     ensures turn { (answer : Answer)
         × HandsOut lines.old (S.left source.old) answer lines.new (S.left source.new)
         × AnswersWhat (world_of world.old) answer result out.new.bytes (world_of world.new) }
+    ensures work { CountsTurn lines.old (S.left source.old) world.old steps.old out.new.bytes
+        lines.new (S.left source.new) world.new steps.new (result ≡ Ok true) (result ≡ Ok false) }
     ensures room { 128 ≤ room_of out.new }
     ensures read_fault { result ≡ Err LineStop.ReadFault
         → Rose (S.faults source.old) (S.faults source.new) }
@@ -68,6 +71,8 @@ fn answer_lines<S: Source, K: Sink, L: Ledger>(
     requires going { lines.old.ended ≡ false }
     ensures done { result ≡ Ending.Done → AnsweredAll (world_of world.old)
         (S.left source.old) (S.left source.new) (K.written sink.old) (K.written sink.new) }
+    ensures work { result ≡ Ending.Done → WorkedAll world.old (S.left source.old)
+        (K.written sink.old) (K.written sink.new) steps.old steps.new }
     ensures read { result ≡ Ending.ReadFault → AnsweredTaken (λ n. n < 2 ^ 40) (world_of world.old)
         (S.left source.old) (S.left source.new) (K.written sink.old) (K.written sink.new) }
     ensures long { result ≡ Ending.InputTooLong
@@ -125,6 +130,8 @@ pub fn replay<S: Source, K: Sink, L: Ledger>(
     ensures done { result ≡ Ending.Done
         → AnsweredAll (first_world world.units)
         (S.left source.old) (S.left source.new) (K.written sink.old) (K.written sink.new) }
+    ensures work { result ≡ Ending.Done → WorkedAll world (S.left source.old)
+        (K.written sink.old) (K.written sink.new) steps.old steps.new }
     ensures read { result ≡ Ending.ReadFault
         → AnsweredTaken (λ n. n < 2 ^ 40) (first_world world.units)
         (S.left source.old) (S.left source.new) (K.written sink.old) (K.written sink.new) }

@@ -4,6 +4,7 @@ ghost use Rattle.ld_base.specs.Outside.{Rose};
 ghost use Rattle.ld_top.specs.Completeness.{DidNotFail, EndsAtLimit, EndsRefused, EndsWell};
 ghost use Rattle.ld_top.specs.Endings.{IsCallEnding, NothingTaken, NothingWritten, number_of};
 ghost use Rattle.ld_top.specs.Replay.{CutShort, Refused, ReplayedAll, ReplayedTaken};
+ghost use Rattle.ld_top.specs.Working.{WorkedReplay};
 ghost use Rattle.ld_words.specs.Words.{words_of};
 
 use crate::ending::Ending;
@@ -28,6 +29,9 @@ pub(crate) fn replay_folders<H: Shelf, S: Source, K: Sink, L: Ledger>(
     ensures done { result ≡ Ending.Done
         → ReplayedAll (words_of folders.now) (H.files shelf.old)
         (S.left input.old) (S.left input.new) (K.written output.old) (K.written output.new) }
+    ensures work { result ≡ Ending.Done
+        → WorkedReplay (words_of folders.now) (H.files shelf.old) (S.left input.old)
+        (K.written output.old) (K.written output.new) steps.old steps.new }
     ensures refused { result ≡ Ending.UnitRefused
         → Refused (words_of folders.now) (H.files shelf.old)
         (K.written output.old) (K.written output.new) }

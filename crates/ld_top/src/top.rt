@@ -6,10 +6,12 @@ ghost use Rattle.ld_top.specs.Endings.{IsOneOf, IsPlainStatus, IsStatus, NotOpen
 ghost use Rattle.ld_top.specs.Journaled.{IsGivenToKeep, KeptAll, KeptCut, KeptDiffers, KeptFull, KeptLost, KeptTaken, journaled};
 ghost use Rattle.ld_top.specs.Replay.{Refused};
 ghost use Rattle.ld_top.specs.Tasks.{OfAsked, TaskCut, TaskDone, TaskRefused, TaskStopped, WantsNoInput, keep_in, task_in};
+ghost use Rattle.ld_top.specs.Working.{TaskWorked, WorkedKeep};
 ghost use Rattle.ld_words.specs.Forms.{form_in};
 ghost use Rattle.ld_words.specs.Words.{words_of};
 
 use crate::ending::Ending;
+use crate::generate::generate;
 use crate::keep_folders::keep_folders;
 use crate::replay_folders::replay_folders;
 use crate::report::{Report, report_on};
@@ -70,6 +72,9 @@ pub fn ld_main<H: Shelf, S: Source, K: Sink, L: Ledger>(
     ensures done { result.0 ≡ 0
         → OfAsked (task_in (words_of words.now)) (TaskDone (H.files shelf.old)
         (S.left input.old) (S.left input.new) (K.written output.old) (K.written output.new)) }
+    ensures work { result.0 ≡ 0
+        → OfAsked (task_in (words_of words.now)) (TaskWorked (H.files shelf.old) (S.left input.old)
+        (K.written output.old) (K.written output.new) steps.old steps.new) }
     ensures refused { result.0 ≡ 4
         → OfAsked (task_in (words_of words.now)) (TaskRefused (H.files shelf.old)
         (K.written output.old) (K.written output.new)) }
@@ -127,6 +132,10 @@ pub fn ld_main<H: Shelf, S: Source, K: Sink, L: Ledger>(
             let ending = report_on(alloc, Report::Rank, folder, shelf, output);
             return Status(ending.number());
         }
+        Some(Form::Gen { number, persons }) => {
+            let ending = generate(alloc, number, persons, output, steps);
+            return Status(ending.number());
+        }
         Some(Form::Keep(_)) | None => {
             return Status(Ending::BadWords.number());
         }
@@ -163,6 +172,12 @@ pub fn ld_top<H: Shelf, S: Source, K: Sink, D: Disk, L: Ledger>(
         ⊎ OfAsked (keep_in (words_of words.now)) (KeptAll (journaled D.model disk.old disk.new)
         (H.files shelf.old) (D.model.bytes disk.old)
         (S.left input.old) (S.left input.new) (K.written output.old) (K.written output.new)) }
+    ensures work { result.0 ≡ 0
+        → OfAsked (task_in (words_of words.now)) (TaskWorked (H.files shelf.old) (S.left input.old)
+        (K.written output.old) (K.written output.new) steps.old steps.new)
+        ⊎ OfAsked (keep_in (words_of words.now)) (WorkedKeep (H.files shelf.old)
+        (D.model.bytes disk.old) (S.left input.old)
+        (K.written output.old) (K.written output.new) steps.old steps.new) }
     ensures refused { result.0 ≡ 4
         → OfAsked (task_in (words_of words.now)) (TaskRefused (H.files shelf.old)
         (K.written output.old) (K.written output.new))

@@ -12,7 +12,7 @@ fn status<'a>(alloc: Global, words: &'a [&'static str]) -> Result<u8, NoMemory> 
 
 #[test]
 fn words_of_no_form_are_refused(rt: HostRuntime) -> Result<(), Fail> {
-    let table: [(&[&str], u8); 17] = [
+    let table: [(&[&str], u8); 19] = [
         (&[], 2),
         (&["replay"], 2),
         (&["play", "u1"], 2),
@@ -27,6 +27,8 @@ fn words_of_no_form_are_refused(rt: HostRuntime) -> Result<(), Fail> {
         (&["keep", "u1"], 2),
         (&["canon"], 2),
         (&["canon", "u1", "u2"], 2),
+        (&["gen", "7", "0"], 2),
+        (&["gen", "7", "1"], 0),
         (&["check", "u1"], 0),
         (&["replay", "u1", "u2"], 0),
         (&["replay", "replay"], 4),

@@ -1,5 +1,5 @@
 -- `clap` refuses nothing exactly where there is a verb with as many words as it wants.
-use Rattle.std.proofs.Common.{◌≡◌, ◌∙◌, ℕ, Bool, true, false, List, [], ◌∷◌, length, inl, inr, refl, sym, subst, codes, bytes_eq}
+use Rattle.std.proofs.Common.{◌≡◌, ◌∙◌, ℕ, ◌==◌, Bool, true, false, not, ◌||◌, nat_lt, List, [], ◌∷◌, length, inl, inr, refl, sym, subst, codes, bytes_eq}
 use Rattle.std.specs.List.{list_all}
 use Rattle.std.proofs.lemmas.Slice.Eq.{bytes_eq-Decides}
 use Rattle.clap.specs.Faults.{fault_of, level_fault, defaults_fault, walk_fault}
@@ -10,7 +10,7 @@ use Rattle.clap.specs.Walk.{Text, nothing_held, walked}
 use Rattle.clap.specs.declared.error.kind.ErrorKind.{ErrorKind}
 use Rattle.clap.specs.declared.error.kind.ErrorKind.TheVariants.{OutOfMemory}
 use Rattle.ld_words.proofs.Counts.{many_free, free_many, more_than_one}
-use Rattle.ld_words.proofs.Taken.{IsNoVerb, either_way, fault_of_replay, fault_of_check, fault_of_canon, fault_of_rank, fault_of_keep, stray_fault}
+use Rattle.ld_words.proofs.Taken.{IsNoVerb, either_way, fault_of_replay, fault_of_check, fault_of_canon, fault_of_rank, fault_of_keep, fault_of_gen, stray_fault}
 use Rattle.ld_words.proofs.Walks.{first_plain, leaf_of, others_plain, several_fault, none_fault, one_fault, more_fault}
 use Rattle.ld_words.specs.App.{ld_app}
 use Rattle.ld_words.specs.Forms.{is_up_to}
@@ -29,19 +29,20 @@ LeavesWords verb most =
 
 -- ---- each verb
 
--- One that takes 1 to 64 words.
-several_decided : (verb : Text) → LeavesWords verb 64 → ((n : ℕ) → takes_words verb n ≡ is_up_to 64 n)
-    → (rest : List Text) → list_all is_plain_word rest ≡ true → Decided (verb ∷ rest)
+-- One that takes several words.
+several_decided : (most : ℕ) → (not (1 == most) || nat_lt 1 1) ≡ true → (1 == most) ≡ false
+    → (verb : Text) → LeavesWords verb most → ((n : ℕ) → takes_words verb n ≡ is_up_to most n)
+    → is_up_to most 0 ≡ false → (rest : List Text) → list_all is_plain_word rest ≡ true → Decided (verb ∷ rest)
 unfolding are_taken
-several_decided verb leaves takes [] plain = record {
-  free = λ is. let none = sym (takes 0) ∙ is in cc;
-  taken = λ is. let none = sym (leaves [] ∙ none_fault verb 64) ∙ is in cc;
+several_decided most many several verb leaves takes zero [] plain = record {
+  free = λ is. let none = sym (takes 0 ∙ zero) ∙ is in cc;
+  taken = λ is. let none = sym (leaves [] ∙ none_fault verb most) ∙ is in cc;
 }
-several_decided verb leaves takes (word ∷ words) plain =
-    let same = leaves (word ∷ words) ∙ several_fault 64 refl verb word words plain in
+several_decided most many several verb leaves takes zero (word ∷ words) plain =
+    let same = leaves (word ∷ words) ∙ several_fault most many verb word words plain in
     record {
-      free = λ is. same ∙ many_free (length words) (sym (takes (length (word ∷ words))) ∙ is);
-      taken = λ is. takes (length (word ∷ words)) ∙ free_many (length words) (sym same ∙ is);
+      free = λ is. same ∙ many_free most (length words) several (sym (takes (length (word ∷ words))) ∙ is);
+      taken = λ is. takes (length (word ∷ words)) ∙ free_many most (length words) several (sym same ∙ is);
     }
 
 -- One that takes just one word.
@@ -74,6 +75,7 @@ stray_decided word rest is plain =
       either_way (codes "canon") word is.canon,
       either_way (codes "rank") word is.rank,
       either_way (codes "keep") word is.keep,
+      either_way (codes "gen") word is.gen,
     ) refl in
     record {
       free = λ taken. let wrong = sym not_taken ∙ taken in cc;
@@ -83,27 +85,30 @@ stray_decided word rest is plain =
 -- ---- all words
 
 by_verb : (verb : Text) (rest : List Text) → list_all is_plain_word (verb ∷ rest) ≡ true
-    → (a b c d e : Bool) → bytes_eq (codes "replay") verb ≡ a → bytes_eq (codes "check") verb ≡ b
+    → (a b c d e f : Bool) → bytes_eq (codes "replay") verb ≡ a → bytes_eq (codes "check") verb ≡ b
     → bytes_eq (codes "canon") verb ≡ c → bytes_eq (codes "rank") verb ≡ d → bytes_eq (codes "keep") verb ≡ e
-    → Decided (verb ∷ rest)
-by_verb verb rest plain true b c d e is_a is_b is_c is_d is_e =
+    → bytes_eq (codes "gen") verb ≡ f → Decided (verb ∷ rest)
+by_verb verb rest plain true b c d e f is_a is_b is_c is_d is_e is_f =
     subst (λ v. Decided (v ∷ rest)) ((bytes_eq-Decides (codes "replay") verb).0 is_a)
-    (several_decided (codes "replay") fault_of_replay (λ n. refl) rest (others_plain verb rest plain))
-by_verb verb rest plain false true c d e is_a is_b is_c is_d is_e =
+    (several_decided 64 refl refl (codes "replay") fault_of_replay (λ n. refl) refl rest (others_plain verb rest plain))
+by_verb verb rest plain false true c d e f is_a is_b is_c is_d is_e is_f =
     subst (λ v. Decided (v ∷ rest)) ((bytes_eq-Decides (codes "check") verb).0 is_b)
     (one_decided (codes "check") fault_of_check (λ n. refl) rest (others_plain verb rest plain))
-by_verb verb rest plain false false true d e is_a is_b is_c is_d is_e =
+by_verb verb rest plain false false true d e f is_a is_b is_c is_d is_e is_f =
     subst (λ v. Decided (v ∷ rest)) ((bytes_eq-Decides (codes "canon") verb).0 is_c)
     (one_decided (codes "canon") fault_of_canon (λ n. refl) rest (others_plain verb rest plain))
-by_verb verb rest plain false false false true e is_a is_b is_c is_d is_e =
+by_verb verb rest plain false false false true e f is_a is_b is_c is_d is_e is_f =
     subst (λ v. Decided (v ∷ rest)) ((bytes_eq-Decides (codes "rank") verb).0 is_d)
     (one_decided (codes "rank") fault_of_rank (λ n. refl) rest (others_plain verb rest plain))
-by_verb verb rest plain false false false false true is_a is_b is_c is_d is_e =
+by_verb verb rest plain false false false false true f is_a is_b is_c is_d is_e is_f =
     subst (λ v. Decided (v ∷ rest)) ((bytes_eq-Decides (codes "keep") verb).0 is_e)
-    (several_decided (codes "keep") fault_of_keep (λ n. refl) rest (others_plain verb rest plain))
-by_verb verb rest plain false false false false false is_a is_b is_c is_d is_e =
+    (several_decided 64 refl refl (codes "keep") fault_of_keep (λ n. refl) refl rest (others_plain verb rest plain))
+by_verb verb rest plain false false false false false true is_a is_b is_c is_d is_e is_f =
+    subst (λ v. Decided (v ∷ rest)) ((bytes_eq-Decides (codes "gen") verb).0 is_f)
+    (several_decided 2 refl refl (codes "gen") fault_of_gen (λ n. refl) refl rest (others_plain verb rest plain))
+by_verb verb rest plain false false false false false false is_a is_b is_c is_d is_e is_f =
     stray_decided verb rest
-    (record { replay = is_a; check = is_b; canon = is_c; rank = is_d; keep = is_e })
+    (record { replay = is_a; check = is_b; canon = is_c; rank = is_d; keep = is_e; gen = is_f })
     (first_plain verb rest plain)
 
 -- Of plain words `clap` refuses just those that are not taken.
@@ -113,7 +118,7 @@ decided [] plain = record { free = λ is. cc; taken = λ is. cc }
 decided (verb ∷ rest) plain =
     by_verb verb rest plain (bytes_eq (codes "replay") verb) (bytes_eq (codes "check") verb)
     (bytes_eq (codes "canon") verb) (bytes_eq (codes "rank") verb) (bytes_eq (codes "keep") verb)
-    refl refl refl refl refl
+    (bytes_eq (codes "gen") verb) refl refl refl refl refl refl
 
 -- ---- what the answers of a parse say
 

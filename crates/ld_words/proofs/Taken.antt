@@ -93,6 +93,11 @@ pub fault_of_keep : (rest : List Text) → fault_of ld_app (codes "keep" ∷ res
 unfolding walked defaults_fault
 fault_of_keep rest = verb_fault (codes "keep") (leaf_of (codes "keep") 64) rest refl refl refl
 
+pub fault_of_gen : (rest : List Text) → fault_of ld_app (codes "gen" ∷ rest)
+    ≡ level_fault (leaf_of (codes "gen") 2) [] nothing_held rest false []
+unfolding walked defaults_fault
+fault_of_gen rest = verb_fault (codes "gen") (leaf_of (codes "gen") 2) rest refl refl refl
+
 -- ---- other words in the place of a verb
 
 unlike : (a b : List ℕ) (test : Bool) → bytes_eq a b ≡ test → (b ≡ a → ⊥) → test ≡ false
@@ -109,9 +114,10 @@ pub record IsNoVerb (word : Text) : Type 0 where
   pub canon : bytes_eq (codes "canon") word ≡ false
   pub rank : bytes_eq (codes "rank") word ≡ false
   pub keep : bytes_eq (codes "keep") word ≡ false
+  pub gen : bytes_eq (codes "gen") word ≡ false
 
 not_met : (word : Text) → IsNoVerb word → subcommand_met (names_of whole_app) idle word ≡ None
-not_met word is = rw (is.replay, is.check, is.canon, is.rank, is.keep) refl
+not_met word is = rw (is.replay, is.check, is.canon, is.rank, is.keep, is.gen) refl
 
 stray_turn : (word : Text) → IsNoVerb word → is_plain_word word ≡ true
     → turn_fault whole_app.top (names_of whole_app) (walk_from nothing_held) word

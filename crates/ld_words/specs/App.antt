@@ -1,4 +1,4 @@
--- The program as `clap` sees it: five verbs, each with words behind it.
+-- The program as `clap` sees it: six verbs, each with words behind it.
 use Rattle.std.specs.Prelude.{ℕ, List, [], ◌∷◌, Some, true, codes}
 use Rattle.clap.specs.Simple.{App, Shape, new_rule, new_shape, with_subcommand}
 use Rattle.clap.specs.Walk.{Rule}
@@ -32,9 +32,10 @@ bare_app = record {
 -- The whole program.
 abbrev pub ld_app : App
 ld_app =
-    with_subcommand (with_subcommand (with_subcommand (with_subcommand (with_subcommand bare_app
+    with_subcommand (with_subcommand (with_subcommand (with_subcommand (with_subcommand (with_subcommand bare_app
     (verb_shape (codes "replay") 64))
     (verb_shape (codes "check") 1))
     (verb_shape (codes "canon") 1))
     (verb_shape (codes "rank") 1))
-    (verb_shape (codes "keep") 64)
+    (verb_shape (codes "keep") 64))
+    (verb_shape (codes "gen") 2)

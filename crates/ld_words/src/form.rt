@@ -1,10 +1,11 @@
 //! The forms that the words of a call may have.
 #![tactic(auto, unfolding(crate::specs::Forms::form_in, crate::specs::Verbs::are_taken), using(crate::proofs::Untaken::untaken_form))]
 
-ghost use Rattle.std.specs.Prelude.{◌≡◌, true, IfOk, option_map};
+ghost use Rattle.std.specs.Prelude.{◌≡◌, ◌≤◌, true, IfOk, IfSome, option_map};
 ghost use Rattle.std.specs.List.{list_all};
+ghost use Rattle.std.specs.Str.{all_ascii_digits};
 ghost use Rattle.ld_words.specs.FormViews.{form_view};
-ghost use Rattle.ld_words.specs.Forms.{form_in, form_of_plain, only_word};
+ghost use Rattle.ld_words.specs.Forms.{form_in, form_of_plain, gen_words, number_word, only_word};
 ghost use Rattle.ld_words.specs.Verbs.{are_taken as taken};
 ghost use Rattle.ld_words.specs.Words.{words_of, is_plain_word as plain_word};
 
@@ -25,6 +26,9 @@ pub enum Form<'a> {
     Rank(&'a str),
     /// Answers the lines of the input as `replay` does, and keeps them in a journal.
     Keep(&'a [String]),
+    /// Answers the lines that the number chooses for so many persons, and prints what the replies
+    /// sum up to.
+    Gen { number: u32, persons: u8 },
 }
 
 /// The form of the words behind the program's name, or `None` where they have none. `check u1` has
@@ -67,7 +71,7 @@ fn is_plain(word: &str) -> bool
     }
 }
 
-/// The form of a verb with as many words behind it as it wants.
+/// The form of a verb with as many words behind it as it may have.
 fn form_of_taken(words: &[String]) -> Option<Form<'_>>
     requires { taken (words_of words.now) ≡ true }
     ensures { option_map form_view result ≡ form_of_plain (words_of words.now) }
@@ -81,6 +85,7 @@ fn form_of_taken(words: &[String]) -> Option<Form<'_>>
         "canon" => Some(Form::Canon(only_word(rest)?)),
         "rank" => Some(Form::Rank(only_word(rest)?)),
         "keep" => Some(Form::Keep(rest)),
+        "gen" => gen_form(rest),
         _ => None,
     }
 }
@@ -94,3 +99,50 @@ fn only_word(words: &[String]) -> Option<&str>
         _ => None,
     }
 }
+
+/// The form of the generator, where there are two words and each is a number that it takes.
+fn gen_form(words: &[String]) -> Option<Form<'_>>
+    ensures { option_map form_view result ≡ gen_words (words_of words.now) }
+{
+    let [number, persons] = words else {
+        return None;
+    };
+    let number = number_of(number.as_str(), 10, 0, u32::MAX)?;
+    let persons = number_of(persons.as_str(), 3, 1, PERSONS_MOST)?;
+    Some(Form::Gen {
+        number,
+        persons: persons as u8,
+    })
+}
+
+/// The number that the word writes in 1 to `digits` decimal digits, if it lies between the two.
+fn number_of(word: &str, digits: usize, least: u32, most: u32) -> Option<u32>
+    ensures value { result ≡ number_word digits least most word.now }
+    ensures within { IfSome result (λ number. number ≤ most) }
+{
+    if word.is_empty() || word.len() > digits || !are_digits(word.as_bytes()) {
+        return None;
+    }
+    let Ok(number) = word.parse::<u32>() else {
+        return None;
+    };
+    if number < least || number > most {
+        return None;
+    }
+    Some(number)
+}
+
+/// Whether each byte is a decimal digit.
+fn are_digits(text: &[u8]) -> bool
+    ensures { result ≡ all_ascii_digits text.now }
+{
+    for byte in text {
+        if !byte.is_ascii_digit() {
+            return false;
+        }
+    }
+    true
+}
+
+/// The most persons that the generator has.
+const PERSONS_MOST: u32 = 200;

@@ -17,7 +17,7 @@ use std::alloc::{AllocError, Global};
 /// The most folders that a call names.
 pub(crate) const FOLDERS_MOST: usize = 64;
 
-/// Whether the words have a verb and as many words behind it as the verb wants. All of them are
+/// Whether the words have a verb and as many words behind it as the verb may have. All of them are
 /// plain, so `clap` takes none for a flag.
 ///
 /// # Errors
@@ -56,7 +56,8 @@ fn whole_command<'a>(alloc: Global) -> Result<Command<'a>, AllocError>
         .subcommand(verb(alloc, "check", 1)?)?
         .subcommand(verb(alloc, "canon", 1)?)?
         .subcommand(verb(alloc, "rank", 1)?)?
-        .subcommand(verb(alloc, "keep", FOLDERS_MOST)?)?;
+        .subcommand(verb(alloc, "keep", FOLDERS_MOST)?)?
+        .subcommand(verb(alloc, "gen", 2)?)?;
     Ok(command)
 }
 

@@ -50,6 +50,18 @@ fn other_words_have_no_form(rt: HostRuntime) -> Result<(), Fail> {
         "replay",
         "check",
         "keep",
+        "gen",
+        "gen 7",
+        "gen 7 0",
+        "gen 7 201",
+        "gen 7 0003",
+        "gen 7 3 1",
+        "gen +7 3",
+        "gen 7a 3",
+        "gen 4294967296 3",
+        "gen 00000000007 3",
+        "gen u1 3",
+        "gen 7 -3",
         "Replay u1",
         "rep u1",
         "help",
@@ -84,6 +96,23 @@ fn at_most_64_folders_are_named(rt: HostRuntime) -> Result<(), Fail> {
         assert!(rt; form_of(rt.alloc(), &words)?.is_some(), "{verb}");
         words.push(String::from_str(rt.alloc(), "u1")?)?;
         assert!(rt; form_of(rt.alloc(), &words)?.is_none(), "{verb}");
+    }
+    Ok(())
+}
+
+#[test]
+fn the_generator_has_two_numbers(rt: HostRuntime) -> Result<(), Fail> {
+    for (line, numbers) in [
+        ("gen 7 3", (7, 3)),
+        ("gen 0 1", (0, 1)),
+        ("gen 4294967295 200", (4294967295, 200)),
+        ("gen 0000000007 003", (7, 3)),
+    ] {
+        let words = words_in(rt.alloc(), line)?;
+        let Some(Form::Gen { number, persons }) = form_of(rt.alloc(), &words)? else {
+            return Err("not the form of `gen`".into());
+        };
+        assert_eq!(rt; (number, persons), numbers, "{line}");
     }
     Ok(())
 }

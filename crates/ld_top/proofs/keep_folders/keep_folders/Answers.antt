@@ -81,3 +81,6 @@ returns-clause-lost g c = λ is. (c.in-Ok.world.units, c.in-Ok.ensures.published
 
 pub returns-clause-not_opened : goal.returns-clause-not_opened
 returns-clause-not_opened g c = λ is. absurd (not_unopened c.keep_units.result c.keep_units.ensures.endings is)
+
+pub returns-clause-work : goal.returns-clause-work
+returns-clause-work g c = λ is. (c.in-Ok.world.units, c.in-Ok.ensures.published, (c.in-Ok.world, c.in-Ok.ensures.first, c.keep_units.ensures.work is))

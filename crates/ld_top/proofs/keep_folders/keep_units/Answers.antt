@@ -61,3 +61,6 @@ returns-clause-write_fault g c = λ is. c.keep_lines-ending.ensures.write_cause 
 
 pub returns-clause-disk_fault : goal.returns-clause-disk_fault
 returns-clause-disk_fault g c = λ is. c.keep_lines-ending.ensures.disk_cause (came_from c.keep_lines-ending.result Unkept c.ending_of.result c.ending_of.ensures is)
+
+pub returns-clause-work : goal.returns-clause-work
+returns-clause-work g c = λ is. c.keep_lines-ending.ensures.work (came_from c.keep_lines-ending.result AllDone c.ending_of.result c.ending_of.ensures is)

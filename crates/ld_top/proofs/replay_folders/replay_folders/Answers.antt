@@ -88,3 +88,6 @@ returns-clause-at_limit g c = λ sink.
       read_cause = c.replay.ensures.read_cause;
       write_cause = c.replay.ensures.write_cause;
     }) sink
+
+pub returns-clause-work : goal.returns-clause-work
+returns-clause-work g c = λ is. (c.in-Ok.world.units, c.in-Ok.ensures.published, (c.in-Ok.world, c.in-Ok.ensures.first, c.replay.ensures.work is))

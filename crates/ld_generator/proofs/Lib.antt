@@ -1,0 +1,5 @@
+pub mod Amounts
+pub mod Computed
+pub mod Counting
+pub mod Naming
+pub mod Playing

@@ -1,0 +1,3 @@
+pub mod GeneratedLines
+pub mod GeneratedUnit
+pub mod Tallies
