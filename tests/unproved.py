@@ -77,6 +77,13 @@ def cases(door):
     yield "words", words[0] == "try" and words[-4:] == ["--", "replay", "folder1", "none"]
     yield "documents", sorted(word for word in words if "=" in word) == sorted(
         f"folder1/{name}={(door.room / 'my course' / name).resolve()}" for name in ["roles.json", "activities.json", "unit.json"])
+    (door.room / "7").mkdir()
+    shutil.copytree(ROOT / "examples/first", door.room / "check")
+    door.call(["gen", "7", "3"], given=b"a line")
+    yield "numbers that are names of folders", door.words()[-3:] == ["gen", "7", "3"]
+    yield "no input where none is read", (door.room / "input").read_bytes() == b""
+    door.call(["check", "check"])
+    yield "a verb that is the name of a folder", door.words()[-3:] == ["--", "check", "folder1"]
     ends = "ld: unit-refused\nchecked: ended status=4\nrun=ended status=4 runners=1 proved=no\n"
     status, _, said = door.call(["replay", "my course"], ends)
     yield "the program's status and word", status == 4 and is_told(said) and said[1:] == ["ld: unit-refused"]
@@ -86,7 +93,7 @@ def cases(door):
     yield "words without a form", (status, written, said[0], door.words()) == (2, "", "ld: bad-words", None)
     status, written, said = door.call(["--help"])
     yield "help", (status, said, door.words()) == (0, [], None) and all(
-        f"./ld {word} " in written for word in ["replay", "keep", "check", "canon", "rank", "--build"])
+        f"./ld {word} " in written for word in ["replay", "keep", "check", "canon", "rank", "gen", "--build"])
     status, written, said = door.call(["keep", "my course"])
     yield "a journal", (status, written, door.words()) == (1, "", None) and "--build" in said[0]
     if not shutil.which("rt", path="/usr/bin:/bin"):

@@ -52,6 +52,22 @@ def run_report(program, command):
     return None if (done.returncode, done.stderr) == (0, b"") else f"status {done.returncode}, {done.stderr!r}"
 
 
+def shown_outputs(document):
+    """What a document shows as the output of commands: the blocks that have a command as their name."""
+    return {block.name: block.text for block in blocks(document.read_text()) if block.name.startswith("./ld ")}
+
+
+def run_shown(program, command, document):
+    """What is wrong with a command whose output stands in a block that has the command as its name, or None."""
+    shown = shown_outputs(document)
+    if command not in shown:
+        return "no block has this command as its name"
+    done = subprocess.run([program, *shlex.split(command)[1:]], cwd=ROOT, stdin=subprocess.DEVNULL, capture_output=True,
+                          timeout=LONGEST, check=False)
+    same = (done.returncode, done.stdout.decode(), done.stderr) == (0, shown[command], b"")
+    return None if same else f"it gives {done}"
+
+
 def is_there(command):
     """Whether the folder or the file that a command names is there."""
     named = re.match(r"cd (\S+)|python3 (\S+)", command)
@@ -86,6 +102,8 @@ def commands_in(program, document, place):
             yield name, run_history(program, command, place), True
         elif command.startswith("./ld ") and " < " in command:
             yield name, run_history(program, command, ROOT), True
+        elif command.startswith("./ld gen ") or command in shown_outputs(document):
+            yield name, run_shown(program, command, document), True
         elif command.startswith(("./ld check ", "./ld rank ")):
             yield name, run_report(program, command), True
         elif not any(command.startswith(each) for each in ELSEWHERE):

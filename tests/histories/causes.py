@@ -135,9 +135,9 @@ def is_not_allowed(run, command):
 
 # The verbs for which each cause may hold, by what the table of refusals says.
 OF_PROPERTIES = ["set", "clear", "get"]
-OF_STARTED = ["open", "complete", *OF_PROPERTIES, "tree", "outbox", "report", "tick"]
+OF_STARTED = ["open", "complete", *OF_PROPERTIES, "tree", "outbox", "report", "tick", "next"]
 OF_PERSONS = ["assign", "drop", "open", "complete", *OF_PROPERTIES, "tree", "outbox"]
-OF_RUNS = ["enrol", "start", *OF_PERSONS, "report", "tick"]
+OF_RUNS = ["enrol", "start", *OF_PERSONS, "report", "tick", "next"]
 CAUSES = [
     (5, OF_RUNS, is_back),
     (6, OF_STARTED, is_not_started),

@@ -1,6 +1,7 @@
 """What an author of lines chooses for a run as it is: verbs by their weights, and words with which they make sense."""
 from causes import MOST_PERSONS
 from declarations import some_value
+from moments import begun_limits
 from names import happens
 from samples import no_value, sample
 from tree import open_activities
@@ -39,8 +40,14 @@ def weights_before(run, wish):
         "assign": 0.3 if not run.persons else 8 if persons_without(run) or not is_ready(run) else 3,
         "drop": 0.4 if run.held else 0.1,
         "start": 8 if is_ready(run) and not is_growing else 0.3 if is_growing or persons_without(run) else 1.5,
-        **dict.fromkeys(["open", "complete", "set", "clear", "get", "tree", "outbox", "report", "tick"], 0.06),
+        **dict.fromkeys(["open", "complete", "set", "clear", "get", "tree", "outbox", "report", "tick", "next"],
+                        0.06),
     }
+
+
+def is_waiting(run, wish):
+    """Whether a limit of time may still end, or a moment of which a test asks is still to come."""
+    return any(moment > run.now for moment in [*begun_limits(run), *wish.interest.moments])
 
 
 def weights_after(draw, run, wish):
@@ -52,6 +59,7 @@ def weights_after(draw, run, wish):
         "drop": 3 if wish.is_restless and run.held else 0.5, "start": 0.1,
         "open": 2.5 if look else 0.2, "complete": 9 if complete else 0.2, "set": 0.1, "clear": 0.1, "get": 0.1,
         "tree": 3, "outbox": 1.5 if run.outbox else 0.3, "report": 1, "tick": 1.5,
+        "next": 6 if is_waiting(run, wish) else 0.5,
     }
     if run.unit.properties:
         weights.update(set=6, clear=0.8, get=4 if wish.interest.written else 1)

@@ -22,6 +22,7 @@ WORDS = {
     "outbox": ["run", "person"],
     "report": ["run"],
     "tick": ["run"],
+    "next": ["run"],
     "global-set": ["uri", "owner", "value"],
     "global-get": ["uri", "owner"],
 }

@@ -7,8 +7,8 @@ STATES = ["open", "done", "closed", "waiting"]
 # the seeds give.
 LEAST = [
     ("units of level", 50, ["A", "B", "C"]),
-    ("done", 150, ["assign", "clear", "complete", "create", "drop", "enrol", "get", "global-get", "global-set", "open",
-                   "outbox", "report", "set", "start", "tick", "tree"]),
+    ("done", 150, ["assign", "clear", "complete", "create", "drop", "enrol", "get", "global-get", "global-set", "next",
+                   "open", "outbox", "report", "set", "start", "tick", "tree"]),
     ("refused", 30, ["1 bad-line", "2 unknown-unit", "3 run-exists", "4 unknown-run", "5 moment-back", "6 not-started",
                      "7 started-already", "8 unknown-person", "9 person-exists", "11 unknown-role", "12 holds-already",
                      "13 not-held", "14 role-full", "15 role-exclusive", "16 role-short", "17 unknown-activity",
@@ -18,6 +18,7 @@ LEAST = [
     ("sums", 500, ["fired", "rejected", "sent", "turns"]),
     ("most at once", 40, ["fired", "rejected", "sent", "turns"]),
     ("values", 300, ["none", "shown"]),
+    ("alarms", 100, ["none", "told"]),
     ("lines of outbox", 300, ["notice"]),
     ("lines of report", 25, ["started", "role", "play open", "play done", "act open", "act done", "act waiting",
                              "part open", "part done", "part waiting", "unit open", "unit done", "notices"]),
@@ -66,6 +67,8 @@ class Counts:
                 self.groups["most at once"][name] = max(self.groups["most at once"][name], int(number))
         if words[1] in ("get", "global-get"):
             self.groups["values"]["none" if words[-1].endswith("none") else "shown"] += 1
+        if words[1] == "next":
+            self.groups["alarms"]["none" if words[-1] == "at=none" else "told"] += 1
         for line in lines:
             self.groups[f"lines of {words[1]}"].update([kind_of(line)])
 

@@ -18,7 +18,7 @@ MOST_OVER_BUDGET = 20
 
 # The verbs of commands of which something may be amiss, by their weights.
 AMISS = {"create": 3, "enrol": 4, "assign": 6, "drop": 6, "start": 2, "open": 5, "complete": 6, "set": 6, "clear": 3,
-         "get": 2, "tree": 2, "outbox": 2, "report": 1, "tick": 1, "global-set": 2, "global-get": 1}
+         "get": 2, "tree": 2, "outbox": 2, "report": 1, "tick": 1, "next": 1, "global-set": 2, "global-get": 1}
 
 
 class History:

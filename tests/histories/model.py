@@ -1,12 +1,13 @@
 """What `ld replay` writes for units and the lines of an input, by the documents and nothing of the program.
 
 A plain and slow evaluation of all that docs/MEANING.md says. Its parts are values.py, unit.py, runs.py, store.py,
-terms.py, holding.py, sites.py, firing.py, tree.py, report.py, causes.py and commands.py; all other modules draw units
-and lines, or count. A unit is given as the dict of its documents by the names of their files. A world has the published
+terms.py, holding.py, sites.py, firing.py, alarms.py, tree.py, report.py, causes.py and commands.py; all other modules
+draw units and lines, or count. A unit is given as the dict of its documents by the names of their files. A world has the published
 units by their identifiers, the runs by their names, and the store of global values; it takes one line after the other.
 """
 import collections
 
+from alarms import alarm_of, check
 from causes import declaration_of, refusal, refusal_of_create, refusal_of_global, told
 from commands import command_of, is_passed_over
 from firing import Sums, settle
@@ -15,10 +16,10 @@ from runs import Run, owner_of
 from store import Store, give_back, take_in
 from tree import json_text, open_activities, tree_of
 from unit import Unit
-from values import printed, value_for
+from values import printed, text_of_moment, value_for
 
 # The verbs that make no direct change.
-READING = ["get", "tree", "outbox", "report", "tick"]
+READING = ["get", "tree", "outbox", "report", "tick", "next"]
 
 
 # A command of a run.
@@ -73,12 +74,21 @@ def value_shown(declared, value):
     return "none" if value is None else json_text(printed(declared["datatype"], value))
 
 
+def alarm_shown(run):
+    """The next alarm as a moment, or that there is none."""
+    alarm = alarm_of(run)
+    check(run, alarm)
+    return "none" if alarm is None else text_of_moment(alarm)
+
+
 def reply(run, command, sums):
     """The lines that tell of a command that is done."""
     text = (f"ok {command['verb']} turns={sums.turns} fired={sums.fired} rejected={sums.rejected} sent={sums.sent}")
     if command["verb"] == "get":
         declared = run.unit.property[command["property"]]
         return [f"{text} value={value_shown(declared, run.property(command['property'], command['person']))}"]
+    if command["verb"] == "next":
+        return [f"{text} at={alarm_shown(run)}"]
     lines = lines_shown(run, command)
     return [text] if lines is None else [f"{text} lines={len(lines)}", *lines]
 

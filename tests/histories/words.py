@@ -59,7 +59,7 @@ class Author:
 
     def right_of_run(self, verb, run, wish):
         """The words behind the run's name."""
-        if verb in ("start", "report", "tick"):
+        if verb in ("start", "report", "tick", "next"):
             return {}
         if verb in ("assign", "drop"):
             person, role = (to_assign if verb == "assign" else to_drop)(self.draw, wish, run)

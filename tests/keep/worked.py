@@ -148,7 +148,7 @@ LOOKS = [
     (b"outbox", b',"ann"'),
     (b"report", b""),
     (b"tick", b""),
-    (b"tree", b',"ann"'),
+    (b"next", b""),
 ]
 
 

@@ -33,6 +33,7 @@ VERBS = {
     "outbox": (STARTED, ["identifier"] * 2, ["r", "ann"], [f"ok outbox {WORK} lines=0"]),
     "report": (STARTED, ["identifier"], ["r"], [f"ok report {WORK} lines=7"] + REPORT),
     "tick": (STARTED, ["identifier"], ["r"], [f"ok tick {WORK}"]),
+    "next": (STARTED, ["identifier"], ["r"], [f"ok next {WORK} at=none"]),
     "global-set": ([], ["uri", "person", "text"], ["urn:g", "", "5"], ["no 20 unknown-global"]),
     "global-get": ([], ["uri", "person"], ["urn:g", ""], ["no 20 unknown-global"]),
 }
@@ -72,6 +73,6 @@ NO_VERBS = [
 # Words of one verb behind another.
 OTHER_WORDS = [
     ["start", "r", "ann"], ["enrol", "r", "ann", "learner"], ["assign", "r", "ann"], ["r", "start"], ["tick", "r", "ann"],
-    ["report", "r", "ann"], ["get", "r", "ann", "n", "4"], ["set", "r", "ann", "n"], ["global-get", "urn:g", "", "5"],
-    ["global-set", "urn:g", ""], ["global-get", "r", "ann", "n"],
+    ["next", "r", "ann"], ["report", "r", "ann"], ["get", "r", "ann", "n", "4"], ["set", "r", "ann", "n"],
+    ["global-get", "urn:g", "", "5"], ["global-set", "urn:g", ""], ["global-get", "r", "ann", "n"],
 ]
