@@ -20,6 +20,7 @@ help() {
 ./ld check FOLDER               says whether a course is right, or its first fault
 ./ld rank FOLDER                says whether its rules can set each other off for too long
 ./ld canon FOLDER               prints its documents in their canonical form
+./ld gen NUMBER PERSONS         answers lines of its own making, and prints what they come to
 ./ld --build                    proves and builds the program, in one to two hours
 END
 }
@@ -45,12 +46,13 @@ build() {
 }
 
 # Answers with the toolchain's checked build, which runs in a folder of its own: so the documents of each folder
-# among the words are copied there, and the folder is named after its place among the words.
+# among the words behind the verb are copied there, and the folder is named after its place among the words. The
+# words of `gen` name no folder. Only `replay` reads input.
 answer_unproved() {
   local room words=() data=() word document when='in one to two minutes'
   case $1 in
     replay) when='one to two minutes after its input is closed' ;;
-    check | rank | canon) ;;
+    check | rank | canon | gen) ;;
     keep)
       say "'keep' writes a journal, so it needs the proved program: './ld --build' makes it"
       return 1
@@ -66,13 +68,16 @@ answer_unproved() {
   room=$(mktemp -d) || return 1
   # shellcheck disable=SC2064
   trap "rm -rf '$room'" EXIT
-  cat >"$room/input" || return 1
+  : >"$room/input" || return 1
+  if [ "$1" = replay ]; then
+    cat >"$room/input" || return 1
+  fi
   if [ "$(wc -c <"$room/input")" -gt "$((64 << 20))" ]; then
     say 'the checked build takes at most 64 MiB of input'
     return 1
   fi
   for word in "$@"; do
-    if [ -d "$word" ]; then
+    if [ "${#words[@]}" -gt 0 ] && [ "$1" != gen ] && [ -d "$word" ]; then
       for document in "$word"/*.json; do
         [ -f "$document" ] && data+=(--data "folder${#words[@]}/${document##*/}=$(realpath "$document")")
       done
