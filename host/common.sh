@@ -3,7 +3,8 @@
 top=$(cd "$(dirname "${BASH_SOURCE[0]}")/.." && pwd) || exit 1
 python=/usr/bin/python3
 run_packages=(python3-fastapi python3-uvicorn python3-jinja2 python3-multipart python3-jwcrypto)
-test_packages=(python3-pytest python3-pytest-xdist python3-httpx python3-selenium chromium chromium-driver)
+log_packages=(python3-psycopg2)
+test_packages=(python3-psycopg2 python3-pytest python3-pytest-xdist python3-httpx python3-selenium chromium chromium-driver)
 
 say() {
   echo "host: $1" >&2

@@ -18,6 +18,7 @@ processor of each, and how many times as long `ld` takes. The loads, of which LE
     h  the unit of a: 99 persons join a started run, and are given the role
     i  the like with 50 persons, and 100 completions that are refused, since the activity is not open
     j  300 properties of which all runs share each person's value, 200 persons, and 1,000 lines that only read
+    k  100 activities with a time limit, 60 conditions on the moment, 200 persons: 200 openings, and `next` after each
 
 With --keep, the folders and the inputs are left in FOLDER, each below its letter.
 """
@@ -242,8 +243,24 @@ def load_j():
     return documents(learner_unit("B", "a0"), by_choice(1), properties=properties), words
 
 
+def load_k():
+    """What time alone brings about: limits that begin when a person opens an activity, and moments of the next day."""
+    activities = [{"identifier": f"a{number}", "complete": {"time-limit": f"PT{number + 1}H"}} for number in range(100)]
+    conditions = [{"if": {"greater-than": [{"current-datetime": True}, {"datetime": moment(90_000 + 60 * number)}]},
+                   "then": [change("score", one_more("score"))]} for number in range(60)]
+    persons = persons_of(200)
+
+    def words():
+        yield from started_run(persons)
+        for number, person in enumerate(persons):
+            yield ["open", "r", person, f"a{7 * number % 100}"]
+            yield ["next", "r"]
+
+    return documents(learner_unit("B", "all"), activities, [all_of(100)], [integer("score")], conditions), words()
+
+
 LOADS = {"a": load_a, "b": load_b, "c": load_c, "d": load_d, "e": load_e, "f": load_f, "g": load_g, "h": load_h, "i": load_i,
-         "j": load_j}
+         "j": load_j, "k": load_k}
 
 
 def write_load(place, load):

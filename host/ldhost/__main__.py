@@ -1,4 +1,4 @@
-"""python3 -m ldhost --engine PROGRAM --data FOLDER [--library FOLDER] [--publish] [--platforms FILE] [--port N]"""
+"""python3 -m ldhost --engine PROGRAM --data FOLDER [--library FOLDER] [--publish] [--platforms FILE] [--port N] [--log ADDRESS]"""
 
 import argparse
 import asyncio
@@ -13,8 +13,9 @@ import uvicorn
 from .access import ADMIN, AUTHOR, Access
 from .engine import Unfit, ask_what_it_has
 from .house import House
+from .logs import maker_of
 from .platforms import read_platforms
-from .shard import Held
+from .shut import Held
 from .uploads import Refused
 from .web.app import make_app
 
@@ -40,6 +41,7 @@ def parsed(words: list[str] | None = None) -> argparse.Namespace:
     given.add_argument("--library", type=Path, help="a folder of course folders that authors may choose from")
     given.add_argument("--publish", action="store_true", help="publish the library's courses that are not published")
     given.add_argument("--platforms", type=Path, help="a JSON file of LTI platforms")
+    given.add_argument("--log", help="keep lines in PostgreSQL: postgresql://USER@HOST/DATABASE")
     given.add_argument("--port", type=int, default=8391)
     given.add_argument("--tick", type=int, default=5, help="seconds between ticks, for an engine without 'next'")
     given.add_argument("--secure", action="store_true", help="behind HTTPS: cookies for HTTPS alone")
@@ -76,7 +78,7 @@ async def server_for(given: argparse.Namespace) -> Server:
         log.warning("the engine has no forms (pages.json): learners can't be offered properties")
     access = Access(given.data / "access.db")
     make_administrator(access, given.data)
-    house = House(given.data, engine, given.tick)
+    house = House(given.data, engine, given.tick, make_log=await asyncio.to_thread(maker_of, given.log))
     await house.open()
     if given.publish and given.library:
         await publish_all(house, given.library)

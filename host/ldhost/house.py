@@ -17,6 +17,7 @@ from . import moments
 from .course import CONTENT, DOCUMENTS, FORMAT, IMPORTED, PAGES, Course
 from .engine import UNIT_REFUSED, Engine, Unfit, answer
 from .faults import Fault, explain
+from .logs import FileLog, MakeLog
 from .replies import BAD_LINE, Reply
 from .run import Run
 from .shard import Shard, write_whole
@@ -30,8 +31,15 @@ log = logging.getLogger("ldhost")
 
 
 class House:
-    def __init__(self, data: Path, engine: Engine, tick_seconds: int, clock: Callable[[], str] = moments.present):
-        self.data, self.engine, self.clock = data, engine, clock
+    def __init__(
+        self,
+        data: Path,
+        engine: Engine,
+        tick_seconds: int,
+        clock: Callable[[], str] = moments.present,
+        make_log: MakeLog = FileLog,
+    ):
+        self.data, self.engine, self.clock, self.make_log = data, engine, clock, make_log
         self.timing = timing_of(engine, tick_seconds)
         self.units: dict[str, Course] = {}
         self.shards: dict[str, Shard] = {}
@@ -53,7 +61,7 @@ class House:
         return Course(folder, self.engine.has_pages)
 
     async def open_shard(self, folder: Path) -> Shard:
-        shard = Shard(folder, self.data / "units", self.engine, self.timing, self.clock)
+        shard = Shard(folder, self.data / "units", self.engine, self.timing, self.clock, self.make_log)
         shard.changed = self.wake
         await shard.open()
         if shard.closed:

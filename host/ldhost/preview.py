@@ -12,7 +12,8 @@ from .course import Course
 from .engine import Engine
 from .replies import Reply
 from .run import Run
-from .shard import Closed, Shard
+from .shard import Shard
+from .shut import Closed
 
 RUN = "preview"
 MOST = 20

@@ -5,6 +5,15 @@ from dataclasses import dataclass, field
 from .course import Course
 
 
+@dataclass(frozen=True)
+class Alarm:
+    """The answer to `next`."""
+
+    moment: str | None
+    kept: int
+    """How many lines the shard kept when it was asked."""
+
+
 @dataclass
 class Run:
     name: str
@@ -16,7 +25,7 @@ class Run:
     started: bool = False
     opened: dict[tuple[str, str], str] = field(default_factory=dict)
     """When a person opened an activity for the first time."""
-    alarm: str | None = None
+    alarm: Alarm | None = None
 
     def kinds_held(self, person: str) -> set[str]:
         return {self.course.roles[role]["kind"] for role in self.persons.get(person, ())}

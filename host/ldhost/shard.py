@@ -1,6 +1,6 @@
-"""A shard: some editions of units, one journal, and the two engine processes that stand behind it.
+"""A shard: some editions of units, one log of lines, and the two engine processes that stand behind it.
 
-- The *keeper* (`ld keep`) takes every command. A command is done once its line is in the journal on disk.
+- The *keeper* (logs.py) takes every command. A command is done once its line is in the log on disk.
 - The *reader* (`ld replay`) is given the same lines and answers what is only looked at, so that a look at a page is
   neither written to disk nor done again at each start.
 
@@ -16,27 +16,19 @@ import os
 from pathlib import Path
 from typing import Any, Callable, Coroutine, NoReturn, Sequence, TypeVar
 
-from .child import Child, Gone
+from .child import Gone
 from .course import Course
 from .engine import Engine
-from .journal import kept_lines, mark, mark_of
-from .replies import BAD_LINE, NO_MEMORY, Reply
+from .journal import mark, mark_of
+from .logs import FileLog, MakeLog
+from .reader import Reader
+from .replies import NO_MEMORY, Reply
 from .run import Run
+from .shut import Closed, Held
 from .timing import Timing
 
 T = TypeVar("T")
 LOCK_TRIES, LOCK_PAUSE = 100, 0.1
-TRIES, PAUSE = 10, 0.05
-JOURNAL_STATUSES = {9: "the disk failed", 10: "its journal does not suit its units", 11: "its journal is full"}
-NO_LINE = "[]"
-
-
-class Closed(Exception):
-    """The shard takes no commands; says why."""
-
-
-class Held(Exception):
-    """Another host, or a keeper that one left behind, has the shard."""
 
 
 class OtherCommand(Exception):
@@ -53,21 +45,25 @@ def write_whole(path: Path, text: str) -> None:
     os.replace(part, path)
 
 
-def ends_of_keepers(gone: Gone) -> str:
-    return JOURNAL_STATUSES.get(gone.status, f"the keeper ended with status {gone.status}")
-
-
 class Shard:
-    def __init__(self, folder: Path, units: Path, engine: Engine, timing: Timing, clock: Callable[[], str]):
+    def __init__(
+        self,
+        folder: Path,
+        units: Path,
+        engine: Engine,
+        timing: Timing,
+        clock: Callable[[], str],
+        make_log: MakeLog = FileLog,
+    ):
         self.folder, self.units, self.engine, self.timing, self.clock = folder, units.resolve(), engine, timing, clock
+        self.log = make_log(engine.program, folder)
         self.lock = asyncio.Lock()
         self.hold = -1
         self.changed: Callable[[Run], None] = lambda run: None
         self.forget()
 
     def forget(self) -> None:
-        self.keeper: Child | None = None
-        self.reader: Child | None = None
+        self.reader: Reader | None = None
         self.runs: dict[str, Run] = {}
         self.done: dict[str, tuple[list[str], Reply]] = {}
         self.kept = 0
@@ -77,10 +73,6 @@ class Shard:
     def folders(self) -> list[Path]:
         return [self.units / edition for edition in self.editions]
 
-    @property
-    def journal(self) -> Path:
-        return self.folder / "ld.journal"
-
     @staticmethod
     def line(moment: str, verb: str, *words: str) -> str:
         return json.dumps([moment, verb, *words])
@@ -88,20 +80,27 @@ class Shard:
     # -- opening and closing
 
     async def open(self) -> "Shard":
-        """Takes the shard and builds all that the host knows of its runs from the journal."""
-        await self.take()
+        """Takes the shard and builds all that the host knows of its runs from the log."""
+        try:
+            await self.take()
+            await self.open_taken()
+        except Held:
+            self.let_go()
+            raise
+        return self
+
+    async def open_taken(self) -> None:
         self.editions = (self.folder / "editions").read_text().split()
         try:
             self.courses = {course.id: course for course in (Course(f, self.engine.has_pages) for f in self.folders)}
-            lines = kept_lines(self.journal)
-            await self.start_reader(lines, self.note)
+            await self.log.take()
+            lines = await self.log.lines()
+            self.reader = Reader(self.engine.program, self.folders, self.folder, self.log.lines)
+            await self.reader.start(lines, self.note)
             self.kept = len(lines)
-            await self.start_keeper()
-            for run in self.runs.values():
-                await self.timing.after(self, run)
+            await self.log.open(self.folders, self.hold)
         except (Closed, Gone, OSError, ValueError, KeyError) as error:
             self.runs, self.closed = {}, f"{type(error).__name__}: {error}"
-        return self
 
     async def take(self) -> None:
         """Locks the shard. The keeper inherits the lock, so one that outlives its host still holds it."""
@@ -123,101 +122,26 @@ class Shard:
             if editions:
                 write_whole(self.folder / "editions", "".join(f"{edition}\n" for edition in editions))
             self.forget()
-            await self.open()
+            try:
+                await self.open()
+            except Held as held:
+                self.closed = f"another host has {held}"
 
     async def close(self) -> None:
         async with self.lock:
             await self.stop_children()
+            self.let_go()
+            self.closed = "the host ends"
+
+    def let_go(self) -> None:
+        if self.hold >= 0:
             os.close(self.hold)
-            self.hold, self.closed = -1, "the host ends"
+        self.hold = -1
 
     async def stop_children(self) -> None:
-        for child in (self.keeper, self.reader):
-            if child:
-                await child.stop()
-
-    # -- the two processes
-
-    async def start_keeper(self) -> None:
-        """Returns once a keeper has opened the journal: from then on all that is in it outlives a loss of power. One that
-        is killed meanwhile is followed by another."""
-        for number in range(TRIES):
-            await asyncio.sleep(PAUSE * number)
-            self.keeper = await Child.start(self.engine.program, "keep", self.folders, self.folder, (self.hold,))
-            try:
-                reply = await self.keeper.ask(NO_LINE)
-            except Gone as gone:
-                if not gone.is_killed:
-                    raise Closed(ends_of_keepers(gone)) from None
-                continue
-            if reply.head != BAD_LINE:
-                raise Closed(f"the keeper begins with {reply.head!r}")
-            return
-        raise Closed("the keeper ends again and again")
-
-    async def start_reader(self, lines: Sequence[str], then: Callable[[str, Reply], None] | None = None) -> None:
-        reader = self.reader = await Child.start(self.engine.program, "replay", self.folders, self.folder)
-
-        async def feed() -> None:
-            for line in lines:
-                await reader.send(line)
-
-        feeding = asyncio.ensure_future(feed())
-        try:
-            for line in lines:
-                reply = await reader.block()
-                if then:
-                    then(line, reply)
-        finally:
-            feeding.cancel()
-            await asyncio.gather(feeding, return_exceptions=True)
-
-    async def ask_keeper(self, line: str) -> Reply | None:
-        """The keeper's reply. None where the line is kept, but its reply was lost when the keeper ended."""
-        for number in range(TRIES):
-            await asyncio.sleep(PAUSE * number)
-            try:
-                assert self.keeper
-                return await self.keeper.ask(line)
-            except Gone as gone:
-                if gone.status in JOURNAL_STATUSES:
-                    raise Closed(ends_of_keepers(gone)) from None
-                lines = kept_lines(self.journal)
-                await self.start_keeper()
-                if len(lines) == self.kept + 1 and lines[-1] == line:
-                    return None
-                if len(lines) != self.kept:
-                    raise Closed(f"its journal has {len(lines)} lines, and the host knows {self.kept}") from None
-        raise Closed("the keeper ends again and again")
-
-    async def ask_reader(self, line: str) -> Reply:
-        """The reader's reply. A reader that ended, or that has no memory, is replaced by a new one."""
-        for number in range(TRIES):
-            await asyncio.sleep(PAUSE * number)
-            try:
-                assert self.reader
-                reply = await self.reader.ask(line)
-                if reply.head != NO_MEMORY:
-                    return reply
-            except Gone:
-                pass
-            await self.renew_reader()
-        raise Closed("the reader ends again and again")
-
-    async def renew_reader(self) -> None:
-        """Starts a new reader and gives it the lines that were kept."""
-        for number in range(TRIES):
-            await asyncio.sleep(PAUSE * number)
-            if self.reader:
-                await self.reader.stop()
-            try:
-                return await self.start_reader(kept_lines(self.journal)[: self.kept])
-            except Gone as gone:
-                if not gone.is_killed:
-                    raise Closed(f"no new reader: {gone}") from None
-            except OSError as error:
-                raise Closed(f"no new reader: {error}") from None
-        raise Closed("the reader ends again and again")
+        await self.log.stop()
+        if self.reader:
+            await self.reader.stop()
 
     # -- lines: the lock is held
 
@@ -225,17 +149,23 @@ class Shard:
         """Gives a line to both processes. Where the answer is `ok`, the line is on disk."""
         if self.closed:
             raise Closed(self.closed)
-        shown, kept = await asyncio.gather(self.ask_reader(line), self.ask_keeper(line), return_exceptions=True)
+        asked = self.ask_reader(line), self.log.keep(line, self.kept)
+        shown, kept = await asyncio.gather(*asked, return_exceptions=True)
         for answer in (shown, kept):
             if isinstance(answer, BaseException):
                 self.shut(f"{type(answer).__name__}: {answer}")
         assert isinstance(shown, Reply) and not isinstance(kept, BaseException)
         return await self.take_in(line, shown, kept)
 
+    async def ask_reader(self, line: str) -> Reply:
+        assert self.reader
+        return await self.reader.ask(line, self.kept)
+
     async def take_in(self, line: str, shown: Reply, kept: Reply | None) -> Reply:
         """What both processes answered, once it is alike."""
         if kept and kept.head == NO_MEMORY:
-            await self.renew_reader()
+            assert self.reader
+            await self.reader.renew(self.kept)
             return kept
         if kept and shown.text != kept.text:
             self.shut(f"keeper and reader differ at {line!r}")
@@ -284,8 +214,11 @@ class Shard:
             return reply
         run = self.run_of(verb, words)
         moment = max(self.clock(), run.last) if run and verb != "create" else self.clock()
-        if run:
-            await self.timing.before(self, run, moment)
+        while run and await self.timing.before(self, run, moment):
+            await self.follow(run)
+        alarm = await self.timing.alarm_of(self, run) if run else None
+        if alarm and alarm <= moment:
+            return Reply(NO_MEMORY)  # it could not ring, and nothing may come before it
         reply = await self.put(self.line(moment, verb, *words) + mark(key))
         if reply.ok:
             await self.follow(self.run_of(verb, words))
@@ -295,16 +228,13 @@ class Shard:
         return self.runs.get(words[0]) if words and not verb.startswith("global-") else None
 
     async def follow(self, run: Run | None) -> None:
-        """What follows a kept line: the run's next alarm, and other runs that share a value with it."""
+        """What follows a kept line: news of the run, and what it settles in other runs that share a value with it."""
         if run:
-            await self.timing.after(self, run)
             self.changed(run)
         for other in list(self.runs.values()):
             is_linked = not run or run.course.uris & other.course.uris
             if is_linked and other.course.uris and other is not run and other.started:
-                if (await self.look_at("tick", other.name)).work[0]:
-                    await self.timing.after(self, other)
-                    self.changed(other)
+                await self.look_at("tick", other.name)
 
     # -- looks
 
@@ -336,7 +266,7 @@ class Shard:
 
     async def keep_look(self, line: str) -> Reply | None:
         try:
-            kept = await self.ask_keeper(line)
+            kept = await self.log.keep(line, self.kept)
         except (Closed, Gone, OSError) as error:
             self.shut(f"{type(error).__name__}: {error}")
         return kept
@@ -353,3 +283,7 @@ class Shard:
         run = self.runs.get(name)
         if run and not self.closed and await self.timing.due(self, run, moment):
             await self.follow(run)
+
+    async def next_alarm(self, run: Run) -> str | None:
+        """When the run's next alarm is, as far as that is known."""
+        return None if self.closed else await self.whole(self.timing.alarm_of(self, run))

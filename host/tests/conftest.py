@@ -116,9 +116,10 @@ class Host(Asked):
             self.process.send_signal(sign)
             self.process.wait(PATIENCE)
 
-    def keepers(self):
-        """The numbers of the keepers' processes that this host started."""
-        return [number for number, parent, words in processes() if parent == self.process.pid and b"keep" in words]
+    def engines(self, *forms):
+        """The numbers of the engine processes that this host started, or of those of some forms."""
+        wanted = {form.encode() for form in forms or ("keep", "replay")}
+        return [number for number, parent, words in processes() if parent == self.process.pid and wanted & {*words}]
 
 
 class Inside(Host):
@@ -220,7 +221,7 @@ def process(tmp_path, library, hosts):
 
 @pytest.fixture
 def host_with_next(new_host):
-    """A host over an engine with alarms: where the real one has none, one that has them for the course `deadline`."""
+    """A host over an engine with alarms: where the real one has none, one that has them for the course `limit`."""
     return new_host(engine=WITH_NEXT.program)
 
 

@@ -62,7 +62,7 @@ def test_killed_again_and_again(fractions_process, whom):
             fractions.stop(signal.SIGKILL)
             fractions.start()
         else:
-            for number in fractions.keepers():
+            for number in fractions.engines("keep"):
                 os.kill(number, signal.SIGKILL)
         kills += 1
     clients.wait()
@@ -82,7 +82,7 @@ def test_processes_that_are_killed_while_they_start(new_host, tmp_path, form):
     for number in range(3):
         (room / str(number)).touch()
     shard, _ = host.server.house.find("r")
-    (shard.keeper if form == "keep" else shard.reader).process.kill()
+    (shard.log.keeper if form == "keep" else shard.reader.child).process.kill()
     say(api, "r", "complete", "ann", "read")
     assert not list(room.iterdir()) and host.verbs_kept()[-2:] == ["start", "complete"]
 

@@ -142,7 +142,7 @@ def test_list_of_persons(host):
 
 def test_preview_through_time(host):
     """An author takes all parts, moves the time, and leaves no journal."""
-    unit = host.publish("deadline")
+    unit = host.publish("limit")
     page = host.browser(host.give_token("ari", "author"))
     shown = page.post("/author/preview", data={"word": page.word, "unit": unit})
     at = str(shown.url).removeprefix(host.url).partition("?")[0]

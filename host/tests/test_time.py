@@ -10,7 +10,7 @@ from conftest import ENGINE, WITH_NEXT, say, wait_for
 from ldhost import moments
 from ldhost.journal import kept_lines
 from ldhost.replies import NO_MEMORY, Reply
-from ldhost.run import Run
+from ldhost.run import Alarm, Run
 from ldhost.shard import Shard
 from ldhost.timing import Alarms, Ticks
 
@@ -29,7 +29,7 @@ def alarm_of(api):
 def test_alarm(host_with_next):
     """The tick has the alarm's own moment."""
     host = host_with_next
-    alarm = alarm_of(host.run_of("deadline", "d", ANN))
+    alarm = alarm_of(host.run_of("limit", "d", ANN))
     assert wait_for(lambda: act_b(host)["state"] == "open")
     assert json.loads(host.kept()[-1]) == [alarm, "tick", "d"]
     assert act_b(host)["opened"] == alarm
@@ -37,7 +37,7 @@ def test_alarm(host_with_next):
 
 def test_alarm_while_the_host_was_away(host_with_next):
     host = host_with_next
-    alarm = alarm_of(host.run_of("deadline", "d", ANN))
+    alarm = alarm_of(host.run_of("limit", "d", ANN))
     host.stop()
     time.sleep(3)
     host.start()
@@ -48,7 +48,7 @@ def test_alarm_while_the_host_was_away(host_with_next):
 def test_ticks(host_without):
     """Without `next` a tick comes soon after the limit. It is kept once; ticks that change nothing are not kept."""
     host = host_without
-    limit = alarm_of(host.run_of("deadline", "d", ANN))
+    limit = alarm_of(host.run_of("limit", "d", ANN))
     assert wait_for(lambda: act_b(host)["state"] == "open")
     assert limit <= act_b(host)["opened"]
     time.sleep(3)
@@ -58,7 +58,7 @@ def test_ticks(host_without):
 def test_ticks_while_the_host_was_away(host_without):
     """The time away passes by one tick, at the moment of the next start."""
     host = host_without
-    limit = alarm_of(host.run_of("deadline", "d", ANN))
+    limit = alarm_of(host.run_of("limit", "d", ANN))
     host.stop()
     time.sleep(4)
     started = moments.present()
@@ -77,7 +77,7 @@ def test_a_command_after_the_limit_comes_after_it(host_without):
     host.stop()
     host.more = ("--tick", "3600")
     host.start()
-    alarm_of(host.run_of("deadline", "d", ANN))
+    alarm_of(host.run_of("limit", "d", ANN))
     time.sleep(3)
     assert host.verbs_kept()[-1] == "open"
     say(host.api(), "d", "complete", "ann", "rest")
@@ -93,23 +93,23 @@ def test_no_ticks_where_no_course_looks_at_time(host_without):
 
 
 class Clock:
-    """A shard of one run of the course `deadline`, with a clock that stands still until it is set."""
+    """A shard of the course `limit` or another one, with a clock that stands still until it is set."""
 
-    def __init__(self, folder, library, timing, engine=ENGINE):
+    def __init__(self, folder, library, timing, engine=ENGINE, course="limit"):
         (folder / "shard").mkdir()
-        (folder / "shard" / "editions").write_text("deadline\n")
+        (folder / "shard" / "editions").write_text(f"{course}\n")
         self.now = "2024-01-01T00:00:00Z"
         self.shard = Shard(folder / "shard", library, engine, timing, lambda: self.now)
 
     async def begin(self):
         await self.shard.open()
-        for words in (["create", "d", "deadline"], ["enrol", "d", "ann"], ["assign", "d", "ann", "learner"]):
+        for words in (["create", "d", "limit"], ["enrol", "d", "ann"], ["assign", "d", "ann", "learner"]):
             assert (await self.shard.say(*words)).ok
         assert (await self.shard.say("start", "d")).ok
         assert (await self.shard.say("open", "d", "ann", "sprint")).ok
 
     def lines(self):
-        return [json.loads(line) for line in kept_lines(self.shard.journal)]
+        return [json.loads(line) for line in kept_lines(self.shard.log.journal)]
 
 
 def test_alarms_ring_before_the_command_after_them(tmp_path, library):
@@ -130,22 +130,25 @@ def test_alarms_ring_before_the_command_after_them(tmp_path, library):
 class Short:
     """A shard that has no memory for the first line."""
 
-    line = staticmethod(Shard.line)
+    line, kept = staticmethod(Shard.line), 0
 
     def __init__(self):
         self.answers = [Reply(NO_MEMORY), Reply("ok tick turns=1 fired=1 rejected=0 sent=0")]
 
     async def put(self, line):
-        return self.answers.pop(0)
+        reply = self.answers.pop(0)
+        self.kept += reply.ok
+        return reply
 
     async def look_at(self, *words):
         return Reply("ok next turns=0 fired=0 rejected=0 sent=0 at=none")
 
 
 def test_an_alarm_rings_again_where_memory_ran_out():
-    run, shard, late = Run("d", None, "", started=True, alarm="2024-01-01T00:00:02Z"), Short(), "2024-01-01T00:00:03Z"
-    assert not asyncio.run(Alarms().due(shard, run, late)) and run.alarm
-    assert asyncio.run(Alarms().due(shard, run, late)) and run.alarm is None
+    alarm, late, shard = Alarm("2024-01-01T00:00:02Z", 0), "2024-01-01T00:00:03Z", Short()
+    run = Run("d", None, "", started=True, alarm=alarm)
+    assert not asyncio.run(Alarms().due(shard, run, late)) and run.alarm == alarm
+    assert asyncio.run(Alarms().due(shard, run, late)) and run.alarm == Alarm(None, 1)
 
 
 @pytest.mark.parametrize("seconds,kept", [(0, 5), (1, 5), (2, 6), (3, 6)])

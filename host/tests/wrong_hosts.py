@@ -28,22 +28,22 @@ CHANGES = [
     ("shard.py", "self.done[mark_of(line)] = ([verb, *words], reply)", "pass", "test_commands.py -k same_key"),
     # A line that was kept before its keeper died is given once more.
     (
-        "shard.py",
-        "if len(lines) == self.kept + 1 and lines[-1] == line:",
+        "logs.py",
+        "if len(lines) == kept + 1 and lines[-1] == line:",
         "if False:",
         "test_failures.py -k keep-after-4",
     ),
     (
-        "shard.py",
+        "logs.py",
         "                    return None\n",
         "                    continue\n",
         "test_failures.py -k keep-after-4",
     ),
     # A new reader gets the line twice.
     (
-        "shard.py",
-        "kept_lines(self.journal)[: self.kept]",
-        "kept_lines(self.journal)",
+        "reader.py",
+        "(await self.lines())[:kept]",
+        "await self.lines()",
         "test_failures.py -k replay-before-4",
     ),
     # A keeper without memory and a reader with the line go apart.
@@ -55,16 +55,47 @@ CHANGES = [
     # Time: an alarm rings at the present moment; a late one only after the command; a tick is kept always, or never comes.
     (
         "timing.py",
-        'shard.line(run.alarm, "tick", run.name)',
+        'shard.line(alarm, "tick", run.name)',
         'shard.line(moment, "tick", run.name)',
         "test_time.py -k alarm",
     ),
     (
         "timing.py",
-        "        await self.due(shard, run, moment)\n",
-        "        pass\n",
+        "return await self.due(shard, run, moment)",
+        "return False",
         "test_time.py -k before_the_command",
     ),
+    # An alarm that a later line moved still rings; what an alarm wrote for other runs is forgotten; a double click is two.
+    (
+        "timing.py",
+        "run.alarm.kept != shard.kept",
+        "(run.alarm.moment or run.last) <= run.last",
+        "test_stale.py -k put_off",
+    ),
+    (
+        "timing.py",
+        "run.alarm.kept != shard.kept",
+        "(run.alarm.moment or run.last) <= run.last",
+        "test_stale.py -k share_a",
+    ),
+    (
+        "shard.py",
+        "            await self.follow(run)\n        alarm",
+        "            pass\n        alarm",
+        "test_stale.py -k refused",
+    ),
+    ("web/courses.py", """key=f"{who.person} {text_of(form, 'key')} {words}\"""", "key=None", "test_race.py -k lost"),
+    # A line is acknowledged that is in no table, or beside that of another host; two hosts write one table.
+    ("logs.py", "await self.do(self.table.add, kept, line)", "pass", "test_table.py -k rows"),
+    ("table.py", "if found != [(line,)]:", "if False:", "test_table.py -k others_write"),
+    ("table.py", "while not self.do(LOCK, [self.shard])[0][0]:", "while False:", "test_table.py -k another_host"),
+    (
+        "table.py",
+        "do update set line = ld_lines.line",
+        "do update set line = excluded.line",
+        "test_table.py -k others_write",
+    ),
+    ("logs.py", "if kept_lines(self.folder / JOURNAL):", "if False:", "test_table.py -k other_kind"),
     (
         "timing.py",
         'shard.look_at("tick", run.name, moment=moment)',
@@ -73,6 +104,7 @@ CHANGES = [
     ),
     ("timing.py", "if not (run.started and run.course.looks_at_time)", "if True", "test_time.py -k ticks"),
     ("timing.py", "            if reply.head == NO_MEMORY:", "            if False:", "test_time.py -k memory"),
+    ("shard.py", "if alarm and alarm <= moment:", "if False:", "test_stale.py -k no_memory"),
     # A keeper or a reader that is killed while it starts closes the run.
     ("child.py", "self.is_killed = status < 0", "self.is_killed = False", "test_failures.py -k they_start"),
     # Strangers learn which runs there are.

@@ -2,6 +2,7 @@
 //! `ld`. It was written from docs/MEANING.md, FORMATS.md and COMMANDS.md: identifiers are looked up once and stand as
 //! numbers, what a run keeps stands in vectors by these numbers, and a settling sweeps over all sites until nothing
 //! fires. Of a folder with a fault it says nothing of use. It is compiled by `rustc -O` and stands outside the gate.
+mod alarm;
 mod json;
 mod rules;
 mod run;

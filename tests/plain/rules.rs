@@ -10,6 +10,8 @@ pub struct View<'a> {
     pub unit: &'a Unit,
     pub run: &'a Run,
     pub store: &'a Store,
+    /// The moment, which is the run's last one where nothing else is asked.
+    pub now: i64,
 }
 
 impl<'a> View<'a> {
@@ -25,11 +27,11 @@ impl<'a> View<'a> {
         self.run.value(self.unit, self.store, property, owner)
     }
 
-    fn term(self, term: &'a Term, owner: Owner) -> Option<Seen<'a>> {
+    pub fn term(self, term: &'a Term, owner: Owner) -> Option<Seen<'a>> {
         match term {
             Term::Property(property) => self.value(*property, owner),
             Term::Literal(value) => Some(value.seen()),
-            Term::Now => Some(Value::Moment(self.run.now)),
+            Term::Now => Some(Value::Moment(self.now)),
             Term::Opened(activity) => self.run.opened[*activity][owner?].map(Value::Moment),
             Term::Started => self.run.started.map(Value::Moment),
             Term::Worked(operator, terms) => {
@@ -81,7 +83,7 @@ impl<'a> View<'a> {
     }
 
     fn has_passed(self, beginning: Option<i64>, limit: i64) -> bool {
-        beginning.is_some_and(|beginning| beginning + limit <= self.run.now)
+        beginning.is_some_and(|beginning| beginning + limit <= self.now)
     }
 
     /// Whether the completion rule of an activity for a person, or of what is the run's, holds.
@@ -112,7 +114,7 @@ impl<'a> View<'a> {
     }
 
     /// What the test of a site says whose mark does not say yes, or of a condition.
-    fn says(self, rule: Rule, owner: Owner) -> bool {
+    pub fn says(self, rule: Rule, owner: Owner) -> bool {
         let (unit, run) = (self.unit, self.run);
         match (rule, owner) {
             (Rule::Activity(number), Some(person)) => {
@@ -162,7 +164,7 @@ pub struct Course<'a> {
 
 impl<'a> Course<'a> {
     pub fn view(&self) -> View<'_> {
-        View { unit: self.unit, run: self.run, store: self.store }
+        View { unit: self.unit, run: self.run, store: self.store, now: self.run.now }
     }
 
     /// Sweeps until nothing fires; whether that is within the budget.

@@ -4,7 +4,7 @@ use std::fmt::Write;
 
 const TEXT_LIMIT: usize = 4_096;
 const FIRST_MOMENT: i64 = -62_135_596_800;
-const LAST_MOMENT: i64 = 253_402_300_799;
+pub const LAST_MOMENT: i64 = 253_402_300_799;
 const LONGEST_SPAN: i64 = 999_999_999_999;
 const DAY: i64 = 86_400;
 

@@ -1,4 +1,5 @@
 //! The published units, the runs, and what a line does and gets in reply.
+use crate::alarm::next_alarm;
 use crate::json;
 use crate::rules::{Course, Work};
 use crate::run::{Run, Store};
@@ -88,11 +89,12 @@ enum Deed {
     Outbox(usize),
     Report,
     Tick,
+    Next,
 }
 
 impl Deed {
     fn is_change(&self) -> bool {
-        !matches!(self, Deed::Get(..) | Deed::Tree(_) | Deed::Outbox(_) | Deed::Report | Deed::Tick)
+        !matches!(self, Deed::Get(..) | Deed::Tree(_) | Deed::Outbox(_) | Deed::Report | Deed::Tick | Deed::Next)
     }
 
     fn is_allowed_before_start(verb: &str) -> bool {
@@ -104,7 +106,7 @@ impl Deed {
 fn are_formed(verb: &str, words: &[Cow<'_, str>]) -> bool {
     let is_person = |text: &str| text.is_empty() || is_identifier(text);
     match (verb, words) {
-        ("start" | "report" | "tick", [_])
+        ("start" | "report" | "tick" | "next", [_])
         | ("create" | "enrol" | "tree" | "outbox", [_, _])
         | ("assign" | "drop" | "open" | "complete" | "clear" | "get", [_, _, _]) => {
             words.iter().all(|word| is_identifier(word))
@@ -207,6 +209,13 @@ impl World {
             let value = course.run.value(unit, course.store, property, Some(person));
             push_seen(value, out);
         }
+        if matches!(deed, Deed::Next) {
+            out.push_str(" at=");
+            match next_alarm(course.view()) {
+                Some(moment) => push_moment(moment, out),
+                None => out.push_str("none"),
+            }
+        }
         if let Some(count) = shown(&course, &deed, &mut self.lines) {
             push(out, format_args!(" lines={count}"));
         }
@@ -294,6 +303,7 @@ fn admitted(unit: &Unit, run: &Run, now: i64, verb: &str, words: &[Cow<'_, str>]
         "tree" => Deed::Tree(person()?),
         "outbox" => Deed::Outbox(person()?),
         "report" => Deed::Report,
+        "next" => Deed::Next,
         _ => Deed::Tick,
     })
 }
@@ -358,7 +368,7 @@ fn follow(course: &mut Course<'_>, deed: &Deed, words: &[Cow<'_, str>]) -> Resul
             run.set(unit, course.store, *property, Some(*person), Some(value.clone()));
         }
         Deed::Clear(person, property) => run.set(unit, course.store, *property, Some(*person), None),
-        Deed::Get(..) | Deed::Tree(_) | Deed::Outbox(_) | Deed::Report | Deed::Tick => {}
+        Deed::Get(..) | Deed::Tree(_) | Deed::Outbox(_) | Deed::Report | Deed::Tick | Deed::Next => {}
     }
     refused_if(course.run.started.is_some() && deed.is_change() && !course.settle(), 30)
 }

@@ -25,11 +25,12 @@ def routes(site: Site) -> APIRouter:
         lists = {"units": house.units, "runs": house.runs(), "shards": house.shards, "holders": site.access.holders()}
         return site.show("admin.html", who, status, tokens=tokens, **lists)
 
-    def show_run(who: Who, name: str, tokens: list[tuple[str, str]]) -> Response:
+    async def show_run(who: Who, name: str, tokens: list[tuple[str, str]]) -> Response:
         found = site.house.find(name)
         if found is None:
             raise HTTPException(404)
-        return site.show("admin-run.html", who, run=found[1], tokens=tokens)
+        shard, run = found
+        return site.show("admin-run.html", who, run=run, alarm=await shard.next_alarm(run), tokens=tokens)
 
     async def say(who: Who, form: FormData, verb: str, name: str, commands: list[list[str]]) -> list[str]:
         """Does the commands and tells what was refused of them."""
@@ -48,7 +49,7 @@ def routes(site: Site) -> APIRouter:
 
     @router.get("/admin/runs/{name}")
     async def run_page(name: str, who: Who = administrator) -> Response:
-        return show_run(who, name, [])
+        return await show_run(who, name, [])
 
     @router.post("/admin/create")
     async def create(form: FormData = checked, who: Who = administrator) -> Response:
@@ -82,7 +83,7 @@ def routes(site: Site) -> APIRouter:
             if role and role not in persons.get(person, [role]):
                 notes += await say(who, form, "assign", name, [[person, role]])
         site.leave_note(who, " ".join(notes))
-        return show_run(who, name, tokens) if tokens else site.back(f"/admin/runs/{quote(name)}")
+        return await show_run(who, name, tokens) if tokens else site.back(f"/admin/runs/{quote(name)}")
 
     def members(name: str) -> dict[str, list[str]]:
         found = site.house.find(name)

@@ -12,7 +12,8 @@ from starlette.exceptions import HTTPException as AnyHTTPException
 from ..access import Access
 from ..house import House
 from ..platforms import Platform
-from ..shard import Closed, OtherCommand
+from ..shard import OtherCommand
+from ..shut import Closed, Held
 from . import administrators, authors, courses, events, interface, lti, previews, sign_in
 from .shell import Shell
 from .site import Site
@@ -47,7 +48,8 @@ def make_app(
         return await in_words(site, request, error)
 
     @app.exception_handler(Closed)
-    async def closed(request: Request, error: Closed) -> Response:
+    @app.exception_handler(Held)
+    async def closed(request: Request, error: Closed | Held) -> Response:
         return await in_words(site, request, HTTPException(503))
 
     @app.exception_handler(OtherCommand)

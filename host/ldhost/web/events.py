@@ -9,7 +9,7 @@ from fastapi import APIRouter, Depends, HTTPException
 from fastapi.responses import Response, StreamingResponse
 
 from ..access import Who
-from ..shard import Closed
+from ..shut import Closed
 from ..view import view_of
 from .site import Site
 

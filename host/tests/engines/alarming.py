@@ -1,5 +1,5 @@
 #!/usr/bin/python3
-"""The engine LD_REAL with the verb `next`, as far as the course `deadline` needs it: the alarm is two seconds after the
+"""The engine LD_REAL with the verb `next`, as far as the course `limit` needs it: the alarm is two seconds after the
 first `open` of a run, until a line of the run at that moment or later."""
 
 import json

@@ -1,10 +1,11 @@
 #!/usr/bin/python3
 """An engine that fails once. DIE is `FORM LINE WHEN FOLDER`: at that line of that form it ends `before` the engine gets the
 line, `after` the engine answered (nothing of the block is written) or when `half` of the block is written; or it says
-that it has no `memory`, and goes on. It does so once a file `armed` is in the folder, and then writes a file `failed`
+that it has no `memory`, and goes on. With `host-before` and `host-after` it first kills the host. It does so once a file `armed` is in the folder, and then writes a file `failed`
 there. A line `[]` counts as none."""
 
 import os
+import signal
 import subprocess
 import sys
 import time
@@ -45,9 +46,11 @@ def main():
         if WHEN == "memory":
             say(b"no 99 no-memory\n")
             continue
-        if WHEN != "before":
+        if not WHEN.endswith("before"):
             reply = ask(engine, line)
             say(reply[: len(reply) // 2] if WHEN == "half" else b"")
+        if WHEN.startswith("host"):
+            os.kill(os.getppid(), signal.SIGKILL)
         end(engine)
     engine.stdin.close()
     sys.exit(engine.wait())
